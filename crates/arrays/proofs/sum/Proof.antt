@@ -1,0 +1,56 @@
+-- `arrays::sum` meets its contract: the loop of Laws, `Summed`. The measure is the days left. Assumes nothing.
+use Prim.Native.Nat.{_-_}
+use Rattle.series.specs.Sum.{at}
+use Rattle.arrays.proofs.Laws.{Summed, summed-none, summed-more, summed-all}
+use borrow.Author.Needs.{needs}
+use Rattle.arrays.proofs.sum.Statement.{statement}
+use Rattle.arrays.proofs.sum.Tie as tie
+
+abbrev Inv-loop : tie.InvT-loop
+Inv-loop levels n total₀ count₀ total count = Summed (at levels) n count total
+
+abbrev μ-loop : tie.MeasureT-loop
+μ-loop levels n total₀ count₀ total count = n - count
+
+loop-holds : tie.Need-loop-holds Inv-loop μ-loop
+loop-holds c = summed-none
+
+mul-wide : tie.Need-mul-wide Inv-loop μ-loop
+mul-wide c = search needs
+
+element-copy-out-wide : tie.Need-element-copy-out-wide Inv-loop μ-loop
+element-copy-out-wide c = search needs
+
+wide-requires : tie.Need-wide-requires Inv-loop μ-loop
+wide-requires c κs = search needs
+
+add-total : tie.Need-add-total Inv-loop μ-loop
+add-total c = search needs
+
+add-count : tie.Need-add-count Inv-loop μ-loop
+add-count c = search needs
+
+loop-less : tie.Need-loop-less Inv-loop μ-loop
+loop-less c = search needs
+
+loop-again : tie.Need-loop-again Inv-loop μ-loop
+loop-again c = summed-more (c .before .before .before .loop .inv) (c .before .before .loop-test .taken) (c .wide .ensures)
+
+returns : tie.Need-returns Inv-loop μ-loop
+returns c = summed-all (c .before .loop .inv) (c .loop-test .left)
+
+pub sum-spec : {M : Type 1} → statement M
+sum-spec =
+    tie.close
+    (tie.spec
+    Inv-loop
+    μ-loop
+    loop-holds
+    mul-wide
+    element-copy-out-wide
+    wide-requires
+    add-total
+    add-count
+    loop-less
+    loop-again
+    returns)

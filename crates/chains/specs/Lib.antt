@@ -1,0 +1,12 @@
+pub mod Sum
+pub mod Chain
+pub mod Fit
+pub mod Ceilings
+pub mod Mirror
+pub mod Floors
+pub mod Exact
+pub mod Settle
+pub mod Rounds
+pub mod Spans
+pub mod Box
+pub mod Free

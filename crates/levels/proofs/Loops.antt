@@ -1,0 +1,90 @@
+-- The loops of `encode` and `show_points` over plain lists: their invariants, and what starts, keeps and ends each.
+use Prim.Native.Nat.{ℕ, _+_, _≤_, _<_}
+use mathlib.Core.Path.{_≡_, refl, ap, sym, _∙_}
+use mathlib.Core.Bool.{true, false}
+use mathlib.Core.List.{List}
+use native.Mathlib.Omega.{arith}
+use borrow.Author.Count.{below-none, below-more}
+use lib.IntN.{ℤ}
+use lib.ListN.{length, getD, set, length-set}
+use mir.Syntax.{w16, w32}
+use mir.Val.{Fits, SFits, toZ, ofZ}
+use mir.Facts.{toZ-ofZ, sfits-widen}
+use Rattle.series.specs.Written.{written, written-none, written-more}
+use Rattle.levels.specs.declared.Coded.{Coded}
+use Rattle.levels.specs.declared.Coded.the-variants.{Code, Outside}
+use Rattle.levels.specs.Code.{lowestPoint, within, code, decoded, on, firstOutside, coded}
+use Rattle.levels.specs.Laws.{code-most, stops-first, coded-code, coded-outside}
+use Rattle.levels.proofs.Casts.{seen, recast, point-fits}
+
+-- what `encode` ensures
+abbrev Encoded : List ℤ → List ℕ → ℕ → List ℕ → ℤ → ℤ → Type 0
+Encoded xs first r out low high = (r ≡ firstOutside low high xs) × (out ≡ written (λ k. code low (on xs k)) r first)
+
+-- its loop knows the bounds as they are read back
+module _ {low high : ℤ} (fl : SFits w32 low) (fh : SFits w32 high) where
+  pub bounds-seen : {most : ℕ} → code low high ≤ most → code (seen low) (seen high) ≤ most
+  bounds-seen h = rw (toZ-ofZ fl, toZ-ofZ fh) h
+
+  pub encoded-seen : (xs : List ℤ) (first : List ℕ) (r : ℕ) (out : List ℕ) → Encoded xs first r out (seen low) (seen high)
+      → Encoded xs first r out low high
+  encoded-seen xs first r out e = rw (toZ-ofZ fl, toZ-ofZ fh) at e
+
+pub record Upto (low high : ℤ) (xs : List ℤ) (first : List ℕ) (i : ℕ) (out : List ℕ) : Type 0 where
+  pub most : i ≤ length xs
+  pub before : (k : ℕ) → k < i → within low high (on xs k) ≡ true
+  pub made : out ≡ written (λ k. code low (on xs k)) i first
+
+pub start : (low high : ℤ) (xs : List ℤ) (first : List ℕ) → Upto low high xs first 0 first
+start low high xs first = record { most = omega arith; before = below-none _; made = sym (written-none _ first) }
+
+module _ {low high : ℤ} {xs : List ℤ} {first : List ℕ} {i : ℕ} {out : List ℕ} (u : Upto low high xs first i out) where
+  stops : (i < length xs → within low high (on xs i) ≡ false) → Encoded xs first i out low high
+  stops h = (stops-first low high xs i (record { most = u .most; before = u .before; at = h }), u .made)
+
+  pub ends : length xs ≤ i → Encoded xs first i out low high
+  ends l = stops (λ h. absurd (omega arith))
+
+  -- with the answer of a turn, on the element cast to 32 bits
+  module _ {r : Coded} (f : SFits w16 (on xs i)) (e : r ≡ coded low high (seen (toZ w16 (ofZ w16 (on xs i))))) where
+    answer : r ≡ coded low high (on xs i)
+    answer = rw (recast w16 w32 f (sfits-widen tt f)) at e
+
+    pub leaves : r ≡ Outside → Encoded xs first i out low high
+    leaves o = stops (λ _. coded-outside low high (on xs i) answer o)
+
+    module _ {c : ℕ} (o : r ≡ Code c) where
+      pub code-fits : code low high ≤ 65535 → Fits w16 c
+      code-fits h =
+          let t = coded-code low high (on xs i) c answer o in
+          record { fits = omega (arith, code-most low high (on xs i) (t .0)) }
+
+      pub turn : i < length xs → Upto low high xs first (i + 1) (set out i c)
+      turn l =
+          let t = coded-code low high (on xs i) c answer o in
+          record {
+            most = omega arith;
+            before = below-more _ i (u .before) (t .0);
+            made = ap (λ a. set a i c) (u .made) ∙ written-more _ i first c (t .1);
+          }
+
+pub record Shown (levels : List ℕ) (n : ℕ) (first : List ℤ) (k : ℕ) (out : List ℤ) : Type 0 where
+  pub most : k ≤ n
+  pub kept : length out ≡ length first
+  pub made : out ≡ written (λ j. decoded lowestPoint (getD levels j 0)) k first
+
+pub none-shown : (levels : List ℕ) (n : ℕ) (first : List ℤ) → Shown levels n first 0 first
+none-shown levels n first = record { most = omega arith; kept = refl; made = sym (written-none _ first) }
+
+module _ {levels : List ℕ} {n : ℕ} {first : List ℤ} {k : ℕ} {out : List ℤ} (s : Shown levels n first k out) where
+  pub more-shown : {z : ℤ} → z ≡ decoded lowestPoint (getD levels k 0) → getD levels k 0 ≤ 5000 → k < n
+      → Shown levels n first (k + 1) (set out k (toZ w16 (ofZ w16 z)))
+  more-shown {z} e h l =
+      record {
+        most = omega arith;
+        kept = length-set out k _ ∙ s .kept;
+        made = ap (λ a. set a k (toZ w16 (ofZ w16 z))) (s .made) ∙ written-more _ k first _ (toZ-ofZ (point-fits e h) ∙ e);
+      }
+
+  pub all-shown : n ≤ k → out ≡ written (λ j. decoded lowestPoint (getD levels j 0)) n first
+  all-shown l = let e : k ≡ n = omega arith in rw e at (s .made)

@@ -1,0 +1,51 @@
+-- Signed numbers within bounds as natural numbers: how far each is above its lowest bound (offset binary).
+use mathlib.Core.Path.{_≡_}
+use mathlib.Core.Bool.{Bool, true, false, cond, _&&_}
+use mathlib.Core.List.{List, [], _∷_}
+use Prim.Native.Nat.{ℕ, zero, suc}
+use lib.IntN.{ℤ, pos, negsuc, natAbs, _+ℤ_, _-ℤ_}
+use lib.ListN.{getD}
+use lib.Signed.{leZ}
+use Rattle.levels.specs.declared.Coded.{Coded}
+use Rattle.levels.specs.declared.Coded.the-variants.{Code, Outside}
+
+-- Document 01's bounds of an entry
+abbrev pub lowestPoint : ℤ
+lowestPoint = negsuc 999
+
+abbrev pub highestPoint : ℤ
+highestPoint = pos 4000
+
+abbrev pub lowestRise : ℤ
+lowestRise = negsuc 1999
+
+abbrev pub highestRise : ℤ
+highestRise = pos 2000
+
+abbrev pub lowestTotal : ℤ
+lowestTotal = negsuc 511999
+
+abbrev pub highestTotal : ℤ
+highestTotal = pos 2048000
+
+abbrev pub within : ℤ → ℤ → ℤ → Bool
+within low high z = leZ low z && leZ z high
+
+-- how far z is above low, and back
+abbrev pub code : ℤ → ℤ → ℕ
+code low z = natAbs (z -ℤ low)
+
+abbrev pub decoded : ℤ → ℕ → ℤ
+decoded low n = low +ℤ pos n
+
+-- what stands at an index of a list of integers
+abbrev pub on : List ℤ → ℕ → ℤ
+on l k = getD l k (pos 0)
+
+-- the first index whose number is outside, or the list's length
+abbrev pub firstOutside : ℤ → ℤ → List ℤ → ℕ
+firstOutside low high [] = zero
+firstOutside low high (z ∷ zs) = cond (within low high z) (suc (firstOutside low high zs)) zero
+
+abbrev pub coded : ℤ → ℤ → ℤ → Coded
+coded low high z = cond (within low high z) (Code (code low z)) Outside

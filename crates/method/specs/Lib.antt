@@ -1,0 +1,6 @@
+pub mod Shift
+pub mod Filter
+pub mod Stages
+pub mod Levels
+pub mod Passes
+pub mod Exact

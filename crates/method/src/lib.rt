@@ -1,0 +1,1 @@
+// Document 01's method over codes: definitions and their laws. No code.

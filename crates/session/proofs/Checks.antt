@@ -1,0 +1,228 @@
+-- The checks of opening, by what the code found, and opening once they are passed.
+use mathlib.Core.Path.{_≡_, refl, ap, sym, _∙_}
+use mathlib.Core.Bool.{Bool, true, false, cond, not, _&&_, _||_}
+use mathlib.Core.List.{List, [], _∷_}
+use Prim.Native.Nat.{ℕ, zero, suc, _+_, _-_, _≤_, _<_}
+use native.Mathlib.Omega.{arith}
+use native.Mathlib.Decide.{decLt}
+use lib.IntN.{ℤ, pos}
+use lib.Dec.{eqb, ltb}
+use lib.ListN.{length}
+use lib.Signed.{ltZ}
+use borrow.Author.Tests.{ne-eqb, lt-ltb, le-ltb, ltb-true, ltb-false}
+use Rattle.series.specs.Sum.{at}
+use Rattle.series.specs.Written.{written}
+use Rattle.levels.specs.Code.{lowestPoint, highestPoint, lowestRise, highestRise, lowestTotal, highestTotal, within, code, on, firstOutside}
+use Rattle.levels.specs.Offset.{Less}
+use Rattle.levels.specs.Laws.{point-less, total-less, code-less, within-yes, Stops, first-stops}
+use Rattle.method.specs.Filter.{InBounds, firstCrossed, zeros}
+use Rattle.method.specs.Stages.{Crossing, crossing}
+use Rattle.session.specs.Profile.{Profile}
+use Rattle.session.specs.Opening.{narrowed, openedWith, every, crossed, earlier, opened, openedCodes, refusedWith, codes, lengthRefusal, badCount, badLength, badPoint, badRise, badTotal, badRange}
+use Rattle.session.proofs.Order.{same-test, less-test}
+use Rattle.session.proofs.Entered.{Entered, Sized, sized, passed, codes-bounds, or-true}
+use Rattle.session.proofs.Bridge.{floor-less, ceiling-less, lowest-less, highest-less}
+
+-- ---- every number within its bounds
+
+pub every-test : (low high : ℤ) (zs : List ℤ) → not (every (within low high) zs) ≡ ltb (firstOutside low high zs) (length zs)
+every-test low high [] = refl
+every-test low high (z ∷ zs) = go (within low high z) (every-test low high zs)
+  where
+    go : (b : Bool) → not (every (within low high) zs) ≡ ltb (firstOutside low high zs) (length zs)
+        → not (b && every (within low high) zs) ≡ ltb (cond b (suc (firstOutside low high zs)) zero) (suc (length zs))
+    go true e = e ∙ sym (same-test (suc (firstOutside low high zs)) (suc (length zs)) (firstOutside low high zs) (length zs) (λ h. omega arith) (λ h. omega arith))
+    go false e = sym (lt-ltb 0 (suc (length zs)) (omega arith))
+
+-- ---- a floor above its ceiling
+
+crossed-yes : (fs cs : List ℤ) (k : ℕ) → k < length fs → k < length cs → ltZ (on cs k) (on fs k) ≡ true → crossed fs cs ≡ true
+crossed-yes [] cs k h l e = absurd (omega arith)
+crossed-yes (f ∷ fs) [] k h l e = absurd (omega arith)
+crossed-yes (f ∷ fs) (c ∷ cs) zero h l e = ap (λ b. b || crossed fs cs) e
+crossed-yes (f ∷ fs) (c ∷ cs) (suc k) h l e = or-true (ltZ c f) (crossed fs cs) (crossed-yes fs cs k (omega arith) (omega arith) e)
+
+crossed-no : (fs cs : List ℤ) → ((k : ℕ) → k < length fs → ltZ (on cs k) (on fs k) ≡ false) → crossed fs cs ≡ false
+crossed-no [] cs h = refl
+crossed-no (f ∷ fs) [] h = refl
+crossed-no (f ∷ fs) (c ∷ cs) h = ap (λ b. b || crossed fs cs) (h 0 (omega arith)) ∙ crossed-no fs cs (λ k l. h (suc k) (omega arith))
+
+module _ (p : Profile) (d : Entered p) where
+  abbrev fs : List ℕ
+  fs = codes lowestPoint (p .floors) (p .days)
+
+  abbrev cs : List ℕ
+  cs = codes lowestPoint (p .ceilings) (p .days)
+
+  day-test : (k : ℕ) → k < p .days → ltZ (on (p .ceilings) k) (on (p .floors) k) ≡ ltb (at cs k) (at fs k)
+  day-test k h = less-test (on (p .ceilings) k) (on (p .floors) k) (at cs k) (at fs k) 1000 (ceiling-less p d k h) (floor-less p d k h)
+
+  crossed-test : crossed (p .floors) (p .ceilings) ≡ ltb (firstCrossed (at fs) (at cs) (p .days)) (p .days)
+  crossed-test = go (decLt (firstCrossed (at fs) (at cs) (p .days)) (p .days)) (crossing (at fs) (at cs) (p .days))
+    where
+      go : {r : ℕ} → Dec (r < p .days) → Crossing (at fs) (at cs) (p .days) r → crossed (p .floors) (p .ceilings) ≡ ltb r (p .days)
+      go {r} (yes h) x =
+          crossed-yes (p .floors) (p .ceilings) r (omega (arith, d .floors)) (omega (arith, d .ceilings)) (day-test r h ∙ lt-ltb (at cs r) (at fs r) (x .here h))
+          ∙ sym (lt-ltb r (p .days) h)
+      go {r} (no h) x =
+          crossed-no (p .floors) (p .ceilings) (λ k l. day-test k (omega (arith, d .floors)) ∙ le-ltb (at cs k) (at fs k) (x .before k (omega (arith, d .floors))))
+          ∙ sym (le-ltb r (p .days) (omega arith))
+
+  range-test : badRange p ≡ (ltb (firstCrossed (at fs) (at cs) (p .days)) (p .days) || ltb (code lowestTotal (p .highest)) (code lowestTotal (p .lowest)))
+  range-test = cc (crossed-test, less-test (p .highest) (p .lowest) (code lowestTotal (p .highest)) (code lowestTotal (p .lowest)) 512000 (highest-less p d) (lowest-less p d))
+
+-- ---- opening by its checks
+
+abbrev pub lengths : Profile → ℕ
+lengths p = lengthRefusal (p .days) (length (p .floors)) (length (p .ceilings)) (length (p .rises))
+
+module _ (p : Profile) where
+  refused-by : (m : ℕ) → earlier p ≡ suc m → refusedWith (suc m) ≡ opened p
+  unfolding opened
+  refused-by m e = let z : eqb (earlier p) 0 ≡ false = ne-eqb (earlier p) 0 (λ q. absurd (omega arith)) in rw (z, e)
+
+  pub lengths-refused : (r : ℕ) → r ≡ lengths p → (r ≡ 0 → ⊥) → refusedWith r ≡ opened p
+  unfolding earlier
+  lengths-refused r e apart = go (badCount p) (badLength p) refl refl e
+    where
+      go : (a b : Bool) → badCount p ≡ a → badLength p ≡ b → r ≡ cond a 1 (cond b 2 0) → refusedWith r ≡ opened p
+      go true b ea eb h = rw h (refused-by 0 (rw ea))
+      go false true ea eb h = rw h (refused-by 1 (rw (ea, eb)))
+      go false false ea eb h = absurd (apart h)
+
+  -- 1 and 2 are passed
+  whole : lengths p ≡ 0 → (badCount p ≡ false) × (badLength p ≡ false)
+  whole e = go (badCount p) (badLength p) e
+    where
+      go : (a b : Bool) → cond {A = ℕ} a 1 (cond b 2 0) ≡ 0 → (a ≡ false) × (b ≡ false)
+      go true b h = absurd (omega arith)
+      go false true h = absurd (omega arith)
+      go false false h = (refl, refl)
+
+  module _ (e : lengths p ≡ 0) where
+    pub points-refused : badPoint p ≡ true → refusedWith 3 ≡ opened p
+    unfolding earlier
+    points-refused h = refused-by 2 (rw (whole e .0, whole e .1, h))
+
+    module _ (points : badPoint p ≡ false) where
+      pub rises-refused : badRise p ≡ true → refusedWith 4 ≡ opened p
+      unfolding earlier
+      rises-refused h = refused-by 3 (rw (whole e .0, whole e .1, points, h))
+
+      module _ (rises : badRise p ≡ false) where
+        pub totals-refused : badTotal p ≡ true → refusedWith 5 ≡ opened p
+        unfolding earlier
+        totals-refused h = refused-by 4 (rw (whole e .0, whole e .1, points, rises, h))
+
+        module _ (totals : badTotal p ≡ false) where
+          pub passes : Entered p
+          passes = passed p (whole e .0) (whole e .1) points rises totals
+
+          pub codes-opened : openedCodes (p .days) (codes lowestPoint (p .floors) (p .days)) (codes lowestPoint (p .ceilings) (p .days))
+              (codes lowestRise (p .rises) (p .days - 1)) (code lowestTotal (p .lowest)) (code lowestTotal (p .highest)) ≡ opened p
+          unfolding openedCodes opened earlier
+          codes-opened =
+              rw (whole e .0, whole e .1, points, rises, totals, sym (range-test p passes))
+              (go (badRange p))
+            where
+              go : (b : Bool) → cond b (refusedWith 6) (openedWith (p .days) (codes lowestRise (p .rises) (p .days - 1)) (narrowed p))
+                  ≡ cond (eqb (cond b 6 0) 0) (openedWith (p .days) (codes lowestRise (p .rises) (p .days - 1)) (narrowed p)) (refusedWith (cond b 6 0))
+              go true = refl
+              go false = refl
+
+-- ---- the same, by what the calls of opening give
+
+no-and-no : (a b : Bool) → not a ≡ false → not b ≡ false → not (a && b) ≡ false
+no-and-no true b p q = q
+no-and-no false b p q = p
+
+no-first : (a b : Bool) → not a ≡ true → not (a && b) ≡ true
+no-first true b p = let z : _≡_ {A = ℕ} 0 1 = cc in absurd (omega arith)
+no-first false b p = refl
+
+no-second : (a b : Bool) → not b ≡ true → not (a && b) ≡ true
+no-second true b p = p
+no-second false b p = refl
+
+not-no : {a : Bool} → a ≡ false → not a ≡ true
+not-no e = ap not e
+
+not-yes : {a : Bool} → a ≡ true → not a ≡ false
+not-yes e = ap not e
+
+-- a list whose first number outside is found, or none
+module _ (low high : ℤ) (zs : List ℤ) {r : ℕ} (first : r ≡ firstOutside low high zs) where
+  found : r < length zs → not (every (within low high) zs) ≡ true
+  found h = every-test low high zs ∙ lt-ltb (firstOutside low high zs) (length zs) (rw first at h)
+
+  clear : length zs ≤ r → not (every (within low high) zs) ≡ false
+  clear h = every-test low high zs ∙ le-ltb (firstOutside low high zs) (length zs) (rw first at h)
+
+  -- then the codes of all of them are stored
+  pub stored : {out : List ℕ} (n : ℕ) → length zs ≡ n → n ≤ r → out ≡ written (λ k. code low (on zs k)) r zeros → out ≡ codes low zs n
+  stored n e h o =
+      let same : r ≡ n = omega (arith, first-stops low high zs .most) in
+      rw same at o
+
+module _ (p : Profile) (e : lengths p ≡ 0) where
+  pub sizes : Sized p
+  sizes = sized p (whole p e .0) (whole p e .1)
+
+  pub rises-few : {r : ℕ} → r ≡ firstOutside lowestRise highestRise (p .rises) → r < 512
+  rises-few {r} er = omega (arith, first-stops lowestRise highestRise (p .rises) .most, sizes .rises, sizes .few, sizes .some)
+
+  module _ {f : ℕ} (ef : f ≡ firstOutside lowestPoint highestPoint (p .floors)) where
+    abbrev point : ℤ → Bool
+    point = within lowestPoint highestPoint
+
+    pub floor-outside : f < p .days → refusedWith 3 ≡ opened p
+    floor-outside h =
+        points-refused p e (no-first (every point (p .floors)) (every point (p .ceilings)) (found lowestPoint highestPoint (p .floors) ef (omega (arith, sizes .floors))))
+
+    module _ (hf : p .days ≤ f) {c : ℕ} (ec : c ≡ firstOutside lowestPoint highestPoint (p .ceilings)) where
+      pub ceiling-outside : c < p .days → refusedWith 3 ≡ opened p
+      ceiling-outside h =
+          points-refused p e (no-second (every point (p .floors)) (every point (p .ceilings)) (found lowestPoint highestPoint (p .ceilings) ec (omega (arith, sizes .ceilings))))
+
+      module _ (hc : p .days ≤ c) {r : ℕ} (er : r ≡ firstOutside lowestRise highestRise (p .rises)) where
+        no-point : badPoint p ≡ false
+        no-point = no-and-no (every point (p .floors)) (every point (p .ceilings)) (clear lowestPoint highestPoint (p .floors) ef (omega (arith, sizes .floors)))
+            (clear lowestPoint highestPoint (p .ceilings) ec (omega (arith, sizes .ceilings)))
+
+        pub rise-outside : r + 1 < p .days → refusedWith 4 ≡ opened p
+        rise-outside h = rises-refused p e no-point (found lowestRise highestRise (p .rises) er (omega (arith, sizes .rises)))
+
+        module _ (hr : p .days ≤ r + 1) where
+          no-rise : badRise p ≡ false
+          no-rise = clear lowestRise highestRise (p .rises) er (omega (arith, sizes .rises))
+
+          abbrev inside : ℤ → Bool
+          inside = within lowestTotal highestTotal
+
+          pub lowest-outside : inside (p .lowest) ≡ false → refusedWith 5 ≡ opened p
+          lowest-outside h = totals-refused p e no-point no-rise (no-first (inside (p .lowest)) (inside (p .highest)) (not-no h))
+
+          pub highest-outside : inside (p .highest) ≡ false → refusedWith 5 ≡ opened p
+          highest-outside h = totals-refused p e no-point no-rise (no-second (inside (p .lowest)) (inside (p .highest)) (not-no h))
+
+          module _ (hl : inside (p .lowest) ≡ true) (hu : inside (p .highest) ≡ true) where
+            no-total : badTotal p ≡ false
+            no-total = no-and-no (inside (p .lowest)) (inside (p .highest)) (not-yes hl) (not-yes hu)
+
+            module _ {fs cs rs : List ℕ} {L U : ℕ} (of : fs ≡ written (λ k. code lowestPoint (on (p .floors) k)) f zeros)
+                (oc : cs ≡ written (λ k. code lowestPoint (on (p .ceilings) k)) c zeros) (or : rs ≡ written (λ k. code lowestRise (on (p .rises) k)) r zeros)
+                (ol : L ≡ code lowestTotal (p .lowest)) (ou : U ≡ code lowestTotal (p .highest)) where
+              same-floors : fs ≡ codes lowestPoint (p .floors) (p .days)
+              same-floors = stored lowestPoint highestPoint (p .floors) ef (p .days) (sizes .floors) hf of
+
+              same-ceilings : cs ≡ codes lowestPoint (p .ceilings) (p .days)
+              same-ceilings = stored lowestPoint highestPoint (p .ceilings) ec (p .days) (sizes .ceilings) hc oc
+
+              same-rises : rs ≡ codes lowestRise (p .rises) (p .days - 1)
+              same-rises = stored lowestRise highestRise (p .rises) er (p .days - 1) (sizes .rises) (omega arith) or
+
+              pub in-bounds : InBounds fs cs rs (p .days) L U
+              in-bounds = rw (same-floors, same-ceilings, same-rises, ol, ou) (codes-bounds p (passes p e no-point no-rise no-total))
+
+              pub all-opened : openedCodes (p .days) fs cs rs L U ≡ opened p
+              all-opened = rw (same-floors, same-ceilings, same-rises, ol, ou) (codes-opened p e no-point no-rise no-total)

@@ -1,0 +1,40 @@
+-- Opening over codes by what its tests found.
+use mathlib.Core.Path.{_≡_, refl, ap, sym, _∙_}
+use mathlib.Core.Bool.{Bool, true, false, cond, _||_}
+use mathlib.Core.List.{List}
+use Prim.Native.Nat.{ℕ, _≤_, _<_}
+use lib.Dec.{ltb}
+use borrow.Author.Tests.{lt-ltb, le-ltb}
+use Rattle.series.specs.Sum.{at}
+use Rattle.method.specs.Filter.{Tight, tightened, firstCrossed}
+use Rattle.session.specs.Opening.{openedCodes, openedWith, refusedWith, fresh, rangesOf}
+use Rattle.session.specs.declared.Opened.{Opened}
+use Rattle.session.proofs.Entered.{or-true}
+
+module _ (fs cs rs : List ℕ) (n L U : ℕ) {r : ℕ} (first : r ≡ firstCrossed (at fs) (at cs) n) where
+  abbrev crossed-days : Bool
+  crossed-days = ltb (firstCrossed (at fs) (at cs) n) n
+
+  pub codes-crossed : r < n → refusedWith 6 ≡ openedCodes n fs cs rs L U
+  unfolding openedCodes
+  codes-crossed h = let e : crossed-days ≡ true = lt-ltb _ _ (rw first at h) in rw e
+
+  pub codes-order : U < L → refusedWith 6 ≡ openedCodes n fs cs rs L U
+  unfolding openedCodes
+  codes-order h = let e : (crossed-days || ltb U L) ≡ true = or-true crossed-days (ltb U L) (lt-ltb _ _ h) in rw e
+
+  module _ (clear : n ≤ r) (order : L ≤ U) {t : Tight} (tight : t ≡ tightened fs cs rs n L U) where
+    pass : openedWith n rs t ≡ openedCodes n fs cs rs L U
+    unfolding openedCodes
+    pass =
+        let e : crossed-days ≡ false = le-ltb _ _ (rw first at clear) in
+        let f : ltb U L ≡ false = le-ltb _ _ order in
+        rw (e, f, tight)
+
+    pub codes-found : t .found ≡ true → record { refusal = 0; session = fresh n rs (rangesOf t) } ≡ openedCodes n fs cs rs L U
+    unfolding openedCodes
+    codes-found h = (rw h at pass)
+
+    pub codes-none : t .found ≡ false → refusedWith 8 ≡ openedCodes n fs cs rs L U
+    unfolding openedCodes
+    codes-none h = (rw h at pass)

@@ -1,0 +1,16 @@
+use Rattle.series.specs.Written.{written}
+use mathlib.Core.Path.{refl}
+use borrow.Author.Needs.{needs}
+use native.Mathlib.Omega.{arith}
+use Rattle.session.proofs.refused.Statement.{statement}
+use Rattle.session.proofs.refused.Tie as tie
+
+array-write-floors : tie.Need-array-write-floors
+array-write-floors c = search needs
+
+returns : tie.Need-returns
+unfolding written
+returns c = refl
+
+pub refused-spec : {M : Type 1} → statement M
+refused-spec = tie.close (tie.spec array-write-floors returns)

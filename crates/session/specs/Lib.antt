@@ -1,0 +1,5 @@
+pub mod Profile
+pub mod Opening
+pub mod Showing
+pub mod Starred
+pub mod Demands

@@ -1,0 +1,115 @@
+-- Document 01: opening, its refusals in their order, and what it hands back.
+use mathlib.Core.Path.{_≡_}
+use mathlib.Core.Bool.{Bool, true, false, cond, not, _&&_, _||_}
+use mathlib.Core.List.{List, [], _∷_}
+use Prim.Native.Nat.{ℕ, zero, suc, _-_}
+use lib.IntN.{ℤ, pos}
+use lib.Dec.{eqb, ltb}
+use lib.ListN.{length}
+use lib.Signed.{ltZ}
+use Rattle.series.specs.Sum.{at}
+use Rattle.series.specs.Written.{written}
+use Rattle.levels.specs.Code.{lowestPoint, highestPoint, lowestRise, highestRise, lowestTotal, highestTotal, within, code, decoded, on}
+use Rattle.method.specs.Filter.{Tight, tightened, firstCrossed, zeros}
+use Rattle.session.specs.Profile.{Profile}
+use Rattle.session.specs.declared.Ranges.{Ranges}
+use Rattle.session.specs.declared.Session.{Session}
+use Rattle.session.specs.declared.Opened.{Opened}
+
+-- what is handed over at opening
+abbrev pub profile : ℕ → List ℤ → List ℤ → List ℤ → ℤ → ℤ → Profile
+profile n fs cs rs lo hi = record { days = n; floors = fs; ceilings = cs; rises = rs; lowest = lo; highest = hi }
+
+-- ---- the refusals
+
+abbrev pub every : (ℤ → Bool) → List ℤ → Bool
+every test [] = true
+every test (z ∷ zs) = test z && every test zs
+
+-- a floor above its ceiling
+abbrev pub crossed : List ℤ → List ℤ → Bool
+crossed (f ∷ fs) (c ∷ cs) = ltZ c f || crossed fs cs
+crossed [] cs = false
+crossed (f ∷ fs) [] = false
+
+abbrev pub badCount : Profile → Bool
+badCount p = eqb (p .days) 0 || ltb 512 (p .days)
+
+-- floors or ceilings not n long, or rises not n - 1 long
+abbrev pub badLength : Profile → Bool
+badLength p = not (eqb (length (p .floors)) (p .days) && eqb (length (p .ceilings)) (p .days) && eqb (length (p .rises)) (p .days - 1))
+
+abbrev pub badPoint : Profile → Bool
+badPoint p = not (every (within lowestPoint highestPoint) (p .floors) && every (within lowestPoint highestPoint) (p .ceilings))
+
+abbrev pub badRise : Profile → Bool
+badRise p = not (every (within lowestRise highestRise) (p .rises))
+
+abbrev pub badTotal : Profile → Bool
+badTotal p = not (within lowestTotal highestTotal (p .lowest) && within lowestTotal highestTotal (p .highest))
+
+abbrev pub badRange : Profile → Bool
+badRange p = crossed (p .floors) (p .ceilings) || ltZ (p .highest) (p .lowest)
+
+-- the first refusal of opening before 8 that applies, or 0
+unfoldable pub earlier : Profile → ℕ
+earlier p =
+    cond (badCount p) 1
+    (cond (badLength p) 2
+    (cond (badPoint p) 3
+    (cond (badRise p) 4
+    (cond (badTotal p) 5
+    (cond (badRange p) 6 0)))))
+
+-- ---- the session
+
+-- the codes of a list's first n numbers, in an array of 512
+abbrev pub codes : ℤ → List ℤ → ℕ → List ℕ
+codes low zs n = written (λ k. code low (on zs k)) n zeros
+
+-- the ranges of the days and of the total, tightened
+abbrev pub narrowed : Profile → Tight
+narrowed p =
+    tightened (codes lowestPoint (p .floors) (p .days)) (codes lowestPoint (p .ceilings) (p .days))
+    (codes lowestRise (p .rises) (p .days - 1)) (p .days) (code lowestTotal (p .lowest)) (code lowestTotal (p .highest))
+
+-- a fresh session: an opened profile with its tightened ranges, not spent
+abbrev pub fresh : ℕ → List ℕ → Ranges → Session
+fresh n rs r = record { days = n; rises = rs; opened = r; present = r; spent = false }
+
+abbrev pub rangesOf : Tight → Ranges
+rangesOf t = record { floors = t .floors; ceilings = t .ceilings; least = t .least; most = t .most }
+
+-- one day, with all values 0
+abbrev pub allZero : Ranges
+allZero = record {
+  floors = written (λ k. code lowestPoint (pos 0)) 1 zeros;
+  ceilings = written (λ k. code lowestPoint (pos 0)) 1 zeros;
+  least = code lowestTotal (pos 0);
+  most = code lowestTotal (pos 0);
+}
+
+-- what stands beside a refusal: a spent session of one day with all values 0
+abbrev pub refusedWith : ℕ → Opened
+refusedWith number = record { refusal = number; session = record { days = 1; rises = zeros; opened = allZero; present = allZero; spent = true } }
+
+-- with no earlier refusal: 8 where there is no schedule
+abbrev pub openedWith : ℕ → List ℕ → Tight → Opened
+openedWith n rs t = cond (t .found) (record { refusal = 0; session = fresh n rs (rangesOf t) }) (refusedWith 8)
+
+unfoldable pub opened : Profile → Opened
+opened p =
+    cond (eqb (earlier p) 0) (openedWith (p .days) (codes lowestRise (p .rises) (p .days - 1)) (narrowed p)) (refusedWith (earlier p))
+
+-- ---- opening by stages, as the code takes them
+
+-- 1 and 2
+abbrev pub lengthRefusal : ℕ → ℕ → ℕ → ℕ → ℕ
+lengthRefusal days floors ceilings rises =
+    cond (eqb days 0 || ltb 512 days) 1
+    (cond (not (eqb floors days && eqb ceilings days && eqb rises (days - 1))) 2 0)
+
+-- 6 and 8, over codes
+unfoldable pub openedCodes : ℕ → List ℕ → List ℕ → List ℕ → ℕ → ℕ → Opened
+openedCodes n fs cs rs L U =
+    cond (ltb (firstCrossed (at fs) (at cs) n) n || ltb U L) (refusedWith 6) (openedWith n rs (tightened fs cs rs n L U))

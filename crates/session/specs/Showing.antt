@@ -1,0 +1,44 @@
+-- Document 01: showing the ranges of a session.
+use mathlib.Core.Bool.{Bool, true, false, cond, _||_}
+use mathlib.Core.List.{List}
+use Prim.Native.Nat.{ℕ}
+use lib.IntN.{ℤ, pos}
+use lib.Dec.{ltb, eqb}
+use Rattle.series.specs.Sum.{at}
+use Rattle.series.specs.Written.{written}
+use Rattle.levels.specs.Code.{lowestPoint, lowestTotal, decoded}
+use Rattle.method.specs.Filter.{InBounds}
+use Rattle.session.specs.declared.Ranges.{Ranges}
+use Rattle.session.specs.declared.Session.{Session}
+use Rattle.session.specs.declared.Shown.{Shown}
+
+abbrev pub floorOn : Session → ℕ → ℤ
+floorOn s i = decoded lowestPoint (at (s .present .floors) i)
+
+abbrev pub ceilingOn : Session → ℕ → ℤ
+ceilingOn s i = decoded lowestPoint (at (s .present .ceilings) i)
+
+abbrev pub totalFloor : Session → ℤ
+totalFloor s = decoded lowestTotal (s .present .least)
+
+abbrev pub totalCeiling : Session → ℤ
+totalCeiling s = decoded lowestTotal (s .present .most)
+
+-- 2: a list shorter than n
+abbrev pub listTooShort : Shown
+listTooShort = record { refusal = 2; least = pos 0; most = pos 0; spent = false }
+
+-- what showing gives with lists of these lengths
+unfoldable pub shown : Session → ℕ → ℕ → Shown
+shown s floors ceilings =
+    cond (ltb floors (s .days) || ltb ceilings (s .days)) listTooShort
+    (record { refusal = 0; least = totalFloor s; most = totalCeiling s; spent = s .spent })
+
+-- a list after showing: as it was where showing is refused, else f on its first n places
+unfoldable pub shownList : ℕ → (ℕ → ℤ) → ℕ → List ℤ → List ℤ
+shownList refusal f n l = cond (eqb refusal 0) (written f n l) l
+
+-- the numbers of a session are in bounds
+pub record Sane (s : Session) : Type 0 where
+  pub opened : InBounds (s .opened .floors) (s .opened .ceilings) (s .rises) (s .days) (s .opened .least) (s .opened .most)
+  pub present : InBounds (s .present .floors) (s .present .ceilings) (s .rises) (s .days) (s .present .least) (s .present .most)

@@ -1,0 +1,217 @@
+// A session: document 01's profile, opened, with its ranges, for one batch.
+ghost use mathlib.Core.Path.{_≡_};
+ghost use lib.ListN.{length};
+ghost use Rattle.method.specs.Filter.{InBounds};
+ghost use Rattle.session.specs.Opening.{opened, refusedWith, openedCodes, lengthRefusal, profile};
+ghost use Rattle.session.specs.Showing.{Sane, shown, shownList, listTooShort, floorOn, ceilingOn};
+use levels::Coded;
+
+// The range of each day as levels, a point plus 1,000, and of the total, held plus 512,000.
+pub struct Ranges {
+    pub floors: [u16; 512],
+    pub ceilings: [u16; 512],
+    pub least: usize,
+    pub most: usize,
+}
+
+// Rises are held plus 2,000. Cells past the last day are 0.
+pub struct Session {
+    pub days: usize,
+    pub rises: [u16; 512],
+    pub opened: Ranges,
+    pub present: Ranges,
+    pub spent: bool,
+}
+
+// The refusal's number, 0 for none, and the session.
+pub struct Opened {
+    pub refusal: u8,
+    pub session: Session,
+}
+
+// What showing gives beside the lists: the refusal's number, 0 for none, the total's range, and whether the session is spent.
+pub struct Shown {
+    pub refusal: u8,
+    pub least: i32,
+    pub most: i32,
+    pub spent: bool,
+}
+
+// Beside a refusal stands a spent session of one day with all values 0.
+fn refused(number: u8) -> Opened
+    ensures { λ r. ⌜ r ≡ refusedWith number ⌝ }
+{
+    let mut floors = [0u16; 512];
+    floors[0] = 1000;
+    let zero = Ranges {
+        floors,
+        ceilings: floors,
+        least: 512000,
+        most: 512000,
+    };
+    Opened {
+        refusal: number,
+        session: Session {
+            days: 1,
+            rises: [0u16; 512],
+            opened: zero,
+            present: zero,
+            spent: true,
+        },
+    }
+}
+
+// 1 for a bad day count, 2 for a list of the wrong length, else 0.
+fn length_refusal(days: usize, floors: usize, ceilings: usize, rises: usize) -> u8
+    ensures { λ r. ⌜ r ≡ lengthRefusal days floors ceilings rises ⌝ }
+{
+    if days == 0 {
+        return 1;
+    }
+    if Session::MOST_DAYS < days {
+        return 1;
+    }
+    if floors != days {
+        return 2;
+    }
+    if ceilings != days {
+        return 2;
+    }
+    if rises != days - 1 {
+        return 2;
+    }
+    0
+}
+
+// Opens what has passed the checks on lengths and bounds: 6, then 8.
+fn open_codes(
+    days: usize,
+    floors: [u16; 512],
+    ceilings: [u16; 512],
+    rises: [u16; 512],
+    least: usize,
+    most: usize,
+) -> Opened
+    requires { ⌜ InBounds floors ceilings rises days least most ⌝ }
+    ensures { λ r. ⌜ r ≡ openedCodes days floors ceilings rises least most ⌝ }
+{
+    if arrays::first_crossed(&floors, &ceilings, days) < days {
+        return refused(6);
+    }
+    if most < least {
+        return refused(6);
+    }
+    let mut low = floors;
+    let mut high = ceilings;
+    let t = filtering::tighten(&mut low, &mut high, &rises, days, least, most);
+    if t.found {
+        let ranges = Ranges {
+            floors: low,
+            ceilings: high,
+            least: t.least,
+            most: t.most,
+        };
+        return Opened {
+            refusal: 0,
+            session: Session {
+                days,
+                rises,
+                opened: ranges,
+                present: ranges,
+                spent: false,
+            },
+        };
+    }
+    refused(8)
+}
+
+fn too_short() -> Shown
+    ensures { λ r. ⌜ r ≡ listTooShort ⌝ }
+{
+    Shown {
+        refusal: 2,
+        least: 0,
+        most: 0,
+        spent: false,
+    }
+}
+
+impl Session {
+    // Document 01's bounds of an entry.
+    pub const MOST_DAYS: usize = 512;
+
+    pub const LOWEST_POINT: i32 = levels::LOWEST_POINT;
+
+    pub const HIGHEST_POINT: i32 = levels::HIGHEST_POINT;
+
+    pub const LOWEST_RISE: i32 = levels::LOWEST_RISE;
+
+    pub const HIGHEST_RISE: i32 = levels::HIGHEST_RISE;
+
+    pub const LOWEST_TOTAL: i32 = levels::LOWEST_TOTAL;
+
+    pub const HIGHEST_TOTAL: i32 = levels::HIGHEST_TOTAL;
+
+    // Opens a profile: document 01's checks 1, 2, 3, 4, 5, 6, then 8.
+    pub fn open(
+        days: usize,
+        floors: &[i16],
+        ceilings: &[i16],
+        rises: &[i16],
+        lowest: i32,
+        highest: i32,
+    ) -> Opened
+        ensures { λ r. ⌜ r ≡ opened (profile days (now (floors .entry)) (now (ceilings .entry)) (now (rises .entry)) lowest highest) ⌝ }
+    {
+        let refusal = length_refusal(days, floors.len(), ceilings.len(), rises.len());
+        if refusal != 0 {
+            return refused(refusal);
+        }
+        let mut low = [0u16; 512];
+        let mut high = [0u16; 512];
+        let mut steps = [0u16; 512];
+        if levels::points(floors, &mut low) < days {
+            return refused(3);
+        }
+        if levels::points(ceilings, &mut high) < days {
+            return refused(3);
+        }
+        if levels::rises(rises, &mut steps) + 1 < days {
+            return refused(4);
+        }
+        let Coded::Code(least) = levels::total(lowest) else {
+            return refused(5);
+        };
+        let Coded::Code(most) = levels::total(highest) else {
+            return refused(5);
+        };
+        open_codes(days, low, high, steps, least, most)
+    }
+
+    // Fills both lists with the present range of each day, or, where either is too short, neither (2).
+    pub fn show(self, floors: &mut [i16], ceilings: &mut [i16]) -> Shown
+        requires { ⌜ Sane self ⌝ }
+        ensures { λ r. ⌜ r ≡ shown self (length (now (floors .entry))) (length (now (ceilings .entry))) ⌝ }
+        ensures { λ r. ⌜ now (floors .exit) ≡ shownList (r .refusal) (floorOn self) (self .days) (now (floors .entry)) ⌝ }
+        ensures { λ r. ⌜ now (ceilings .exit) ≡ shownList (r .refusal) (ceilingOn self) (self .days) (now (ceilings .entry)) ⌝ }
+    {
+        let n = self.days;
+        if floors.len() < n {
+            return too_short();
+        }
+        if ceilings.len() < n {
+            return too_short();
+        }
+        let ranges = self.present;
+        let low = ranges.floors;
+        let high = ranges.ceilings;
+        levels::show_points(&low, n, floors);
+        levels::show_points(&high, n, ceilings);
+        Shown {
+            refusal: 0,
+            least: levels::show_total(ranges.least),
+            most: levels::show_total(ranges.most),
+            spent: self.spent,
+        }
+    }
+}
