@@ -1,36 +1,14 @@
 // Loops over arrays of levels and rise codes, of which the first n elements are the days.
 ghost use mathlib.Core.Path.{_≡_};
-ghost use Prim.Native.Nat.{ℕ, _+_, _-_, _*_, _≤_, _<_, min, max};
+ghost use Prim.Native.Nat.{ℕ, _+_, _-_, _*_, _≤_, _<_};
 ghost use Rattle.series.specs.Sum.{at};
 ghost use Rattle.series.specs.Written.{written};
 ghost use Rattle.chains.specs.Sum.{sum, all};
 ghost use Rattle.method.specs.Filter.{carried, firstCrossed, mirrored, reversed};
 ghost use Rattle.arrays.specs.Carriable.{Carriable};
-
-pub fn wide(x: u16) -> usize
-    ensures { λ r. ⌜ (r ≡ x) × (r < 65536) ⌝ }
-{
-    x as usize
-}
-
-pub fn narrow(x: usize) -> u16
-    requires { ⌜ x ≤ 5000 ⌝ }
-    ensures { λ r. ⌜ r ≡ x ⌝ }
-{
-    x as u16
-}
-
-pub fn least(x: usize, y: usize) -> usize
-    ensures { λ r. ⌜ r ≡ min x y ⌝ }
-{
-    if x < y { x } else { y }
-}
-
-pub fn greatest(x: usize, y: usize) -> usize
-    ensures { λ r. ⌜ r ≡ max x y ⌝ }
-{
-    if x < y { y } else { x }
-}
+use numbers::greatest;
+use numbers::narrow;
+use numbers::wide;
 
 // The least level of the next day, or 0 where that is below the scale. A rise code is the rise plus 2,000.
 fn risen(level: usize, rise: usize) -> usize

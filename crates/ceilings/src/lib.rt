@@ -6,9 +6,9 @@ ghost use Rattle.method.specs.Filter.{shifted, lowered};
 ghost use Rattle.ceilings.specs.Round.{step};
 ghost use Rattle.method.specs.Stages.{Ready};
 ghost use Rattle.ceilings.specs.Pass.{Carried, DaysIn, FoundIn, RoundedIn, LowestIn, Overloaded};
-use arrays::least;
-use arrays::narrow;
-use arrays::wide;
+use numbers::least;
+use numbers::narrow;
+use numbers::wide;
 
 // Days from one day on: how many, the sum of their shifted floors, and the shift of the last.
 struct Window {

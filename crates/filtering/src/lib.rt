@@ -6,12 +6,12 @@ ghost use Rattle.series.specs.Sum.{at};
 ghost use Rattle.method.specs.Filter.{InBounds, raised, tightened, held};
 ghost use Rattle.filtering.specs.Raisable.{Raisable};
 use arrays::carry;
-use arrays::greatest;
-use arrays::least;
 use arrays::mirror;
 use arrays::reverse;
 use arrays::sum;
 use ceilings::lower_ceilings;
+use numbers::greatest;
+use numbers::least;
 
 // Whether there is a schedule, and the total's range.
 pub struct Totals {
@@ -21,7 +21,7 @@ pub struct Totals {
 }
 
 // Raises the floors as the mirror of lowering the ceilings.
-pub fn raise_floors(
+fn raise_floors(
     floors: &mut [u16; 512],
     ceilings: &[u16; 512],
     rises: &[u16; 512],
