@@ -7,9 +7,8 @@ use native.Mathlib.Decide.{decLt}
 use native.Mathlib.Nat.{mul-le-mul, mul-le-mul-left, mul-sub, div-mul-le-self, le-div-iff-mul-le}
 use native.Mathlib.Numerals.{add-one}
 use lib.ListN.{set}
-use lib.Seq.{set-comm}
 use Rattle.series.specs.Sum.{sumFor, at, above, sum-none, sum-front, sum-most, sum-last, sum-part, sum-zeros, excess-low, excess-exact}
-use Rattle.series.specs.Written.{written, lastWritten, written-none, written-more, last-none, last-more, last-before}
+use Rattle.series.specs.Written.{written, lastWritten, last-none, last-more, last-before, last-all}
 use Rattle.chains.specs.Fit.{fit, fitted, fitted-one}
 use Rattle.method.specs.Shift.{shift, shiftFrom, shift-start, shift-low, shift-high, shift-step}
 use Rattle.method.specs.Filter.{shifted, overload, loweredFrom, lowered}
@@ -250,32 +249,6 @@ module _ {a z : ℕ → ℕ} {n i margin cap v c s e : ℕ} (up : Rising a n) (t
             fits = omega (arith, stand-less, t .fits);
             past = λ w l m. fallen w (omega (arith, stand-level)) m (decLt v w);
           }
-
--- ---- down from n over all n days is the same as up, however long the list
-
-last-set : (f : ℕ → ℕ) (n m : ℕ) (l : List ℕ) (j v : ℕ) → j < n - m → set (lastWritten f n m l) j v ≡ lastWritten f n m (set l j v)
-unfolding lastWritten
-last-set f n zero l j v h = refl
-last-set f n (suc m) l j v h =
-    set-comm (lastWritten f n m l) (n - suc m) j (f (suc m)) v (λ e. omega arith)
-    ∙ ap (λ x. set x (n - suc m) (f (suc m))) (last-set f n m l j v (omega arith))
-
-last-rest : (f g : ℕ → ℕ) (n m : ℕ) (l : List ℕ) → m ≤ n → ((k : ℕ) → k < n → f (n - k) ≡ g k)
-    → lastWritten f n m (written g (n - m) l) ≡ written g n l
-unfolding lastWritten
-last-rest f g n zero l h e = let z : n - 0 ≡ n = omega arith in rw z
-last-rest f g n (suc m) l h e =
-    let q : n - suc m + 1 ≡ n - m = omega arith in
-    let r : n - (n - suc m) ≡ suc m = omega arith in
-    let v : f (suc m) ≡ g (n - suc m) = rw r at (e (n - suc m) (omega arith)) in
-    last-set f n m (written g (n - suc m) l) (n - suc m) (f (suc m)) (omega arith)
-    ∙ ap (lastWritten f n m) (rw q at (written-more g (n - suc m) l (f (suc m)) v))
-    ∙ last-rest f g n m l (omega arith) e
-
-last-all : (f g : ℕ → ℕ) (n : ℕ) (l : List ℕ) → ((k : ℕ) → k < n → f (n - k) ≡ g k) → lastWritten f n n l ≡ written g n l
-last-all f g n l e =
-    let z : n - n ≡ 0 = omega arith in
-    rw (z, written-none g l) at (last-rest f g n n l (omega arith) e)
 
 -- ---- lower_ceilings
 

@@ -24,9 +24,6 @@ pub flip-flip : (n k : ℕ) → k < n → flip n (flip n k) ≡ k
 flip-flip n k h = omega arith
 
 module _ (n top : ℕ) where
-  pub mirror-mirror : (y : ℕ → ℕ) (k : ℕ) → k < n → y k ≤ top → mirror n top (mirror n top y) k ≡ y k
-  mirror-mirror y k h l = rw flip-flip (omega arith)
-
   pub mirror-below : (y z : ℕ → ℕ) → Below n y z → Below n (mirror n top z) (mirror n top y)
   mirror-below y z yz k h = omega (arith, yz (flip n k) (omega arith))
 

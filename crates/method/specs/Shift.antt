@@ -2,7 +2,6 @@
 -- It is counted from the end, so that a pass from the last day on works it out as it goes; 1,024,000 keeps it a natural number.
 use Prim.Native.Nat.{ℕ, zero, suc, _+_, _-_, _*_, _≤_, _<_}
 use mathlib.Core.Path.{_≡_, refl, ap}
-use native.Mathlib.Numerals.{add-one}
 use native.Mathlib.Omega.{arith}
 
 -- the shift of the m-th day from the end of n days
@@ -16,10 +15,6 @@ shift w n k = shiftFrom w n (n - k)
 pub shift-start : (w : ℕ → ℕ) (n : ℕ) → shiftFrom w n 0 ≡ 1024000
 unfolding shiftFrom
 shift-start w n = refl
-
-pub shift-more : (w : ℕ → ℕ) (n m : ℕ) → shiftFrom w n (m + 1) ≡ shiftFrom w n m + w (n - (m + 1)) - 2000
-unfolding shiftFrom
-shift-more w n m = rw add-one
 
 module _ (w : ℕ → ℕ) (n : ℕ) (few : n ≤ 512) (rises : (k : ℕ) → k < n → w k ≤ 4000) where
   pub shift-low : (m : ℕ) → m ≤ n → 1024000 ≤ shiftFrom w n m + m * 2000

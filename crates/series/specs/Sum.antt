@@ -1,12 +1,11 @@
 -- Sums over a run of indices, and the excess of a level v over the levels `a k` of a run: the sum of v - a k, none below 0.
-use Prim.Native.Nat.{ℕ, zero, suc, _+_, _-_, _*_, _≤_, _<_, min}
-use mathlib.Core.Path.{_≡_, refl, ap, sym, _∙_}
+use Prim.Native.Nat.{ℕ, zero, suc, _+_, _-_, _*_, _≤_, _<_}
+use mathlib.Core.Path.{_≡_, refl, ap}
 use mathlib.Core.List.{List}
 use native.Mathlib.Numerals.{add-one}
-use native.Mathlib.Nat.{add-suc, add-zero, zero-mul, suc-mul}
+use native.Mathlib.Nat.{add-suc, add-zero, suc-mul}
 use native.Mathlib.Omega.{arith}
-use lib.ListN.{length, getD, take, drop, length-take, length-drop}
-use lib.Seq.{getD-take, getD-drop}
+use lib.ListN.{getD}
 
 -- f i + f (i + 1) + .. , m terms
 unfoldable pub sumFor : (ℕ → ℕ) → ℕ → ℕ → ℕ
@@ -41,16 +40,6 @@ front f i (suc m) =
 pub sum-front : (f : ℕ → ℕ) (i m : ℕ) → sumFor f i (m + 1) ≡ f i + sumFor f (i + 1) m
 sum-front f i m = rw (add-one m) (front f i m)
 
-pub sum-same : (f g : ℕ → ℕ) (i j m : ℕ) → ((k : ℕ) → k < m → f (i + k) ≡ g (j + k)) → sumFor f i m ≡ sumFor g j m
-unfolding sumFor
-sum-same f g i j zero h = refl
-sum-same f g i j (suc m) h = omega (arith, h m (omega arith), sum-same f g i j m (λ k l. h k (omega arith)))
-
-pub sum-mono : (f g : ℕ → ℕ) (i m : ℕ) → ((k : ℕ) → f k ≤ g k) → sumFor f i m ≤ sumFor g i m
-unfolding sumFor
-sum-mono f g i zero h = omega arith
-sum-mono f g i (suc m) h = omega (arith, h (i + m), sum-mono f g i m h)
-
 -- each at most t
 pub sum-most : (f : ℕ → ℕ) (i m t : ℕ) → ((k : ℕ) → i ≤ k → k < i + m → f k ≤ t) → sumFor f i m ≤ m * t
 unfolding sumFor
@@ -83,27 +72,6 @@ unfolding sumFor
 excess-exact a i zero v h = omega arith
 excess-exact a i (suc m) v h =
     omega (arith, excess-exact a i m v (λ k l u. h k l (omega arith)), h (i + m) (omega arith) (omega arith), suc-mul m v)
-
--- a part of a slice
-pub sum-drop : (l : List ℕ) (i m : ℕ) → sumFor (at (drop i l)) 0 m ≡ sumFor (at l) i m
-sum-drop l i m =
-    sum-same (at (drop i l)) (at l) 0 i m
-    (λ k u. let e : 0 + k ≡ k = omega arith in rw (e, getD-drop))
-
--- from the first on: one more, and the end
-pub sum-more : (f : ℕ → ℕ) (m : ℕ) → sumFor f 0 (m + 1) ≡ sumFor f 0 m + f m
-sum-more f m = let e : 0 + m ≡ m = omega arith in sum-back f 0 m ∙ ap (λ k. sumFor f 0 m + f k) e
-
-pub sum-all : (f : ℕ → ℕ) (i : ℕ) {m n t : ℕ} → t ≡ sumFor f i m → m ≤ n → n ≤ m → t ≡ sumFor f i n
-sum-all f i {m} {n} h l u = let e : m ≡ n = omega arith in rw e at h
-
--- what a call on `&l[i..e]` says of l
-pub sum-slice : (l : List ℕ) (i e : ℕ) → i ≤ e → e ≤ length l
-    → sumFor (at (take (e - i) (drop i l))) 0 (length (take (e - i) (drop i l))) ≡ sumFor (at l) i (e - i)
-sum-slice l i e h u =
-    let n : length (take (e - i) (drop i l)) ≡ e - i = simp (length-take, length-drop) (omega arith) in
-    rw n (sum-same (at (take (e - i) (drop i l))) (at l) 0 i (e - i)
-    (λ k p. let z : 0 + k ≡ k = omega arith in rw (z, getD-take, getD-drop)))
 
 -- the last of a run
 pub sum-last : (f : ℕ → ℕ) (i m : ℕ) → 0 < m → sumFor f i m ≡ sumFor f i (m - 1) + f (i + m - 1)

@@ -1,12 +1,12 @@
 -- What a loop leaves that stores `f k` at each k below n, in place. d is what `getD` gives past the end.
 use Prim.Native.Nat.{ℕ, zero, suc, _+_, _-_, _≤_, _<_}
-use mathlib.Core.Path.{_≡_, refl, ap, sym, _∙_}
-use mathlib.Core.List.{List, [], _∷_}
+use mathlib.Core.Path.{_≡_, refl, ap, _∙_}
+use mathlib.Core.List.{List}
 use native.Mathlib.Numerals.{add-one}
 use native.Mathlib.Omega.{arith}
 use native.Mathlib.Decide.{decLt}
 use lib.ListN.{length, getD, set, length-set}
-use lib.Seq.{getD-set-same, getD-set-other, set-getD, ext-getD}
+use lib.Seq.{getD-set-same, getD-set-other, set-comm}
 
 unfoldable pub written : {A : Type 0} → (ℕ → A) → ℕ → List A → List A
 written f zero l = l
@@ -58,51 +58,35 @@ module _ {A : Type 0} (f : ℕ → A) where
   unfolding lastWritten
   last-more n m l v h = rw (h, add-one)
 
-  pub length-last : (n m : ℕ) (l : List A) → length (lastWritten f n m l) ≡ length l
-  unfolding lastWritten
-  length-last n zero l = refl
-  length-last n (suc m) l = length-set (lastWritten f n m l) (n - suc m) (f (suc m)) ∙ length-last n m l
-
-  -- before n - m nothing has changed, nor from n on
+  -- before n - m nothing has changed
   pub last-before : (d : A) (n m : ℕ) (l : List A) (k : ℕ) → k < n - m → getD (lastWritten f n m l) k d ≡ getD l k d
   unfolding lastWritten
   last-before d n zero l k h = refl
   last-before d n (suc m) l k h =
       getD-set-other (lastWritten f n m l) (n - suc m) k (f (suc m)) d (omega arith) ∙ last-before d n m l k (omega arith)
 
-  pub last-past : (d : A) (n m : ℕ) (l : List A) (k : ℕ) → m ≤ n → n ≤ k → getD (lastWritten f n m l) k d ≡ getD l k d
-  unfolding lastWritten
-  last-past d n zero l k h u = refl
-  last-past d n (suc m) l k h u =
-      getD-set-other (lastWritten f n m l) (n - suc m) k (f (suc m)) d (omega arith) ∙ last-past d n m l k (omega arith) u
+-- ---- down from n over all n days is the same as up, however long the list
 
-  -- and between stands f
-  pub last-within : (d : A) (n m : ℕ) (l : List A) (j : ℕ) → 0 < j → j ≤ m → m ≤ n → n ≤ length l → getD (lastWritten f n m l) (n - j) d ≡ f j
-  unfolding lastWritten
-  last-within d n zero l j h u b e = absurd (omega arith)
-  last-within d n (suc m) l j h u b e = pick (decLt m j) (last-within d n m l j h)
-    where
-      pick : Dec (m < j) → (j ≤ m → m ≤ n → n ≤ length l → getD (lastWritten f n m l) (n - j) d ≡ f j)
-          → getD (set (lastWritten f n m l) (n - suc m) (f (suc m))) (n - j) d ≡ f j
-      pick (no p) ih = getD-set-other (lastWritten f n m l) (n - suc m) (n - j) (f (suc m)) d (omega arith) ∙ ih (omega arith) (omega arith) e
-      pick (yes p) ih =
-          let q : j ≡ suc m = omega arith in
-          rw q (getD-set-same (lastWritten f n m l) (n - suc m) (f (suc m)) d (omega (arith, length-last n m l)))
+last-set : {A : Type 0} (f : ℕ → A) (n m : ℕ) (l : List A) (j : ℕ) (v : A) → j < n - m → set (lastWritten f n m l) j v ≡ lastWritten f n m (set l j v)
+unfolding lastWritten
+last-set f n zero l j v h = refl
+last-set f n (suc m) l j v h =
+    set-comm (lastWritten f n m l) (n - suc m) j (f (suc m)) v (λ e. omega arith)
+    ∙ ap (λ x. set x (n - suc m) (f (suc m))) (last-set f n m l j v (omega arith))
 
--- two functions that agree below n
-pub written-same : {A : Type 0} (f g : ℕ → A) (n : ℕ) (l : List A) → ((k : ℕ) → k < n → f k ≡ g k) → written f n l ≡ written g n l
-unfolding written
-written-same f g zero l h = refl
-written-same f g (suc n) l h = cc (written-same f g n l (λ k u. h k (omega arith)), h n (omega arith))
+last-rest : {A : Type 0} (f g : ℕ → A) (n m : ℕ) (l : List A) → m ≤ n → ((k : ℕ) → k < n → f (n - k) ≡ g k)
+    → lastWritten f n m (written g (n - m) l) ≡ written g n l
+unfolding lastWritten
+last-rest f g n zero l h e = let z : n - 0 ≡ n = omega arith in rw z
+last-rest f g n (suc m) l h e =
+    let q : n - suc m + 1 ≡ n - m = omega arith in
+    let r : n - (n - suc m) ≡ suc m = omega arith in
+    let v : f (suc m) ≡ g (n - suc m) = rw r at (e (n - suc m) (omega arith)) in
+    last-set f n m (written g (n - suc m) l) (n - suc m) (f (suc m)) (omega arith)
+    ∙ ap (lastWritten f n m) (rw q at (written-more g (n - suc m) l (f (suc m)) v))
+    ∙ last-rest f g n m l (omega arith) e
 
--- down from n over all n days is the same as up
-pub last-written : {A : Type 0} (d : A) (f g : ℕ → A) (n : ℕ) (l : List A) → n ≤ length l → ((k : ℕ) → k < n → f (n - k) ≡ g k)
-    → lastWritten f n n l ≡ written g n l
-last-written d f g n l e h =
-    ext-getD d (lastWritten f n n l) (written g n l) (length-last f n n l ∙ sym (length-written g n l)) (λ k u. pick k (decLt k n))
-  where
-    pick : (k : ℕ) → Dec (k < n) → getD (lastWritten f n n l) k d ≡ getD (written g n l) k d
-    pick k (yes p) =
-        let q : n - (n - k) ≡ k = omega arith in
-        (rw q at (last-within f d n n l (n - k) (omega arith) (omega arith) (omega arith) e)) ∙ h k p ∙ sym (written-below g d n l k p e)
-    pick k (no p) = last-past f d n n l k (omega arith) (omega arith) ∙ sym (written-past g d n l k (omega arith))
+pub last-all : {A : Type 0} (f g : ℕ → A) (n : ℕ) (l : List A) → ((k : ℕ) → k < n → f (n - k) ≡ g k) → lastWritten f n n l ≡ written g n l
+last-all f g n l e =
+    let z : n - n ≡ 0 = omega arith in
+    rw (z, written-none g l) at (last-rest f g n n l (omega arith) e)

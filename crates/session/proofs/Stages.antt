@@ -7,7 +7,8 @@ use lib.Dec.{ltb}
 use borrow.Author.Tests.{lt-ltb, le-ltb}
 use Rattle.series.specs.Sum.{at}
 use Rattle.method.specs.Filter.{Tight, tightened, firstCrossed}
-use Rattle.session.specs.Opening.{openedCodes, openedWith, refusedWith, fresh, rangesOf}
+use Rattle.session.specs.Opening.{openedWith, refusedWith, fresh, rangesOf}
+use Rattle.session.specs.Stages.{openedCodes}
 use Rattle.session.specs.declared.Opened.{Opened}
 use Rattle.session.proofs.Entered.{or-true}
 

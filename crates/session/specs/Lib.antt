@@ -1,5 +1,6 @@
 pub mod Profile
 pub mod Opening
 pub mod Showing
-pub mod Starred
 pub mod Demands
+pub mod Starred
+pub mod Stages

@@ -7,10 +7,9 @@ use lib.IntN.{ℤ, pos}
 use lib.Dec.{eqb, ltb}
 use lib.ListN.{length}
 use lib.Signed.{ltZ}
-use Rattle.series.specs.Sum.{at}
 use Rattle.series.specs.Written.{written}
 use Rattle.levels.specs.Code.{lowestPoint, highestPoint, lowestRise, highestRise, lowestTotal, highestTotal, within, code, decoded, on}
-use Rattle.method.specs.Filter.{Tight, tightened, firstCrossed, zeros}
+use Rattle.method.specs.Filter.{Tight, tightened, zeros}
 use Rattle.session.specs.Profile.{Profile}
 use Rattle.session.specs.declared.Ranges.{Ranges}
 use Rattle.session.specs.declared.Session.{Session}
@@ -100,16 +99,3 @@ openedWith n rs t = cond (t .found) (record { refusal = 0; session = fresh n rs 
 unfoldable pub opened : Profile → Opened
 opened p =
     cond (eqb (earlier p) 0) (openedWith (p .days) (codes lowestRise (p .rises) (p .days - 1)) (narrowed p)) (refusedWith (earlier p))
-
--- ---- opening by stages, as the code takes them
-
--- 1 and 2
-abbrev pub lengthRefusal : ℕ → ℕ → ℕ → ℕ → ℕ
-lengthRefusal days floors ceilings rises =
-    cond (eqb days 0 || ltb 512 days) 1
-    (cond (not (eqb floors days && eqb ceilings days && eqb rises (days - 1))) 2 0)
-
--- 6 and 8, over codes
-unfoldable pub openedCodes : ℕ → List ℕ → List ℕ → List ℕ → ℕ → ℕ → Opened
-openedCodes n fs cs rs L U =
-    cond (ltb (firstCrossed (at fs) (at cs) n) n || ltb U L) (refusedWith 6) (openedWith n rs (tightened fs cs rs n L U))

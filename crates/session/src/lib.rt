@@ -2,7 +2,8 @@
 ghost use mathlib.Core.Path.{_≡_};
 ghost use lib.ListN.{length};
 ghost use Rattle.method.specs.Filter.{InBounds};
-ghost use Rattle.session.specs.Opening.{opened, refusedWith, openedCodes, lengthRefusal, profile};
+ghost use Rattle.session.specs.Opening.{opened, refusedWith, profile};
+ghost use Rattle.session.specs.Stages.{openedCodes, lengthRefusal};
 ghost use Rattle.session.specs.Showing.{Sane, shown, shownList, listTooShort, floorOn, ceilingOn};
 use levels::Coded;
 
