@@ -1,6 +1,6 @@
 // Document 01's pass over the ceilings, on levels as shown. A shifted level is a level plus its day's shift.
 ghost use mathlib.Core.Path.{_≡_};
-ghost use Prim.Native.Nat.{_+_, _-_, _*_, _≤_, _<_, min};
+ghost use Prim.Native.Nat.{_+_, _-_, _*_, _≤_, _<_};
 ghost use Rattle.series.specs.Written.{written};
 ghost use Rattle.method.specs.Filter.{shifted, lowered};
 ghost use Rattle.ceilings.specs.Round.{step};

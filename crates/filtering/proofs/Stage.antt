@@ -1,6 +1,6 @@
 -- What the stages of tightening leave for one another.
-use Prim.Native.Nat.{ℕ, _+_, _-_, _≤_, _<_, min, max}
-use mathlib.Core.Path.{_≡_, refl, ap, sym, _∙_}
+use Prim.Native.Nat.{ℕ, _-_, _≤_, _<_, min, max}
+use mathlib.Core.Path.{_≡_, sym, _∙_}
 use mathlib.Core.Bool.{true, false}
 use mathlib.Core.List.{List}
 use native.Mathlib.Omega.{arith}
@@ -8,8 +8,8 @@ use lib.Dec.{ltb}
 use borrow.Author.Tests.{lt-ltb, le-ltb}
 use Rattle.series.specs.Sum.{at}
 use Rattle.series.specs.Written.{written}
-use Rattle.method.specs.Filter.{InBounds, Tight, carried, firstCrossed, forwarded, lowered, loweredAll, mirrored, reversed, zeros, raised, held, none, tightFloors, tightCeilings, tightened}
-use Rattle.method.specs.Stages.{Ready, Rising, ready, crossing, lowered-ready, lowered-rising, mirrored-ready, mirroredAll, reversedAll, raised-is}
+use Rattle.method.specs.Filter.{InBounds, carried, firstCrossed, forwarded, lowered, mirrored, reversed, zeros, raised, held, none, tightFloors, tightCeilings, tightened}
+use Rattle.method.specs.Stages.{Ready, ready, crossing, lowered-ready, lowered-rising, mirrored-ready, raised-is}
 use Rattle.filtering.specs.Raisable.{Raisable}
 
 -- ---- raise_floors

@@ -5,16 +5,15 @@ use mathlib.Core.List.{List, [], _∷_}
 use Prim.Native.Nat.{ℕ, zero, suc, _+_, _-_, _≤_, _<_}
 use native.Mathlib.Omega.{arith}
 use native.Mathlib.Decide.{decLt}
-use lib.IntN.{ℤ, pos}
+use lib.IntN.{ℤ}
 use lib.Dec.{eqb, ltb}
 use lib.ListN.{length}
 use lib.Signed.{ltZ}
-use borrow.Author.Tests.{ne-eqb, lt-ltb, le-ltb, ltb-true, ltb-false}
+use borrow.Author.Tests.{ne-eqb, lt-ltb, le-ltb}
 use Rattle.series.specs.Sum.{at}
 use Rattle.series.specs.Written.{written}
 use Rattle.levels.specs.Code.{lowestPoint, highestPoint, lowestRise, highestRise, lowestTotal, highestTotal, within, code, on, firstOutside}
-use Rattle.levels.specs.Offset.{Less}
-use Rattle.levels.specs.Laws.{point-less, total-less, code-less, within-yes, Stops, first-stops}
+use Rattle.levels.specs.Laws.{first-stops}
 use Rattle.method.specs.Filter.{InBounds, firstCrossed, zeros}
 use Rattle.method.specs.Stages.{Crossing, crossing}
 use Rattle.session.specs.Profile.{Profile}

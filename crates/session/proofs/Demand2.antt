@@ -1,9 +1,9 @@
 -- Demand 2 at opening holds.
-use mathlib.Core.Path.{_≡_, refl, ap, sym, _∙_}
+use mathlib.Core.Path.{_≡_, refl}
 use mathlib.Core.Bool.{Bool, true, false, cond}
 use mathlib.Core.Logic.{_↔_}
 use mathlib.Core.List.{List}
-use Prim.Native.Nat.{ℕ, zero, suc, _+_, _-_, _*_, _≤_, _<_}
+use Prim.Native.Nat.{ℕ, _-_, _≤_, _<_}
 use native.Mathlib.Omega.{arith}
 use lib.IntN.{ℤ}
 use lib.Dec.{eqb}
@@ -14,15 +14,13 @@ use Rattle.series.specs.Sum.{at}
 use Rattle.levels.specs.Code.{lowestPoint, lowestRise, lowestTotal, code, decoded, on}
 use Rattle.levels.specs.Offset.{Less, less-le, le-less, less-same}
 use Rattle.levels.specs.Laws.{point-less, total-less, code-less, decoded-less}
-use Rattle.method.specs.Filter.{Tight, held}
+use Rattle.method.specs.Filter.{held}
 use Rattle.chains.specs.Spans as Codes
 use Rattle.method.specs.Exact.{none, exact}
 use Rattle.session.specs.Profile.{Profile, Schedule, Spans, total}
-use Rattle.session.specs.Showing.{floorOn, ceilingOn, totalFloor, totalCeiling}
-use Rattle.session.specs.Opening.{earlier, badCount, badLength, badPoint, badRise, badTotal, badRange, opened, openedWith, refusedWith, narrowed, codes, fresh, rangesOf}
+use Rattle.session.specs.Opening.{earlier, badCount, badLength, badPoint, badRise, badTotal, badRange, opened, refusedWith, narrowed, codes, fresh, rangesOf}
 use Rattle.session.specs.Demands.{Exact, Demand2}
 use Rattle.session.specs.declared.Opened.{Opened}
-use Rattle.session.specs.declared.Session.{Session}
 use Rattle.session.proofs.Order.{≤ℤ-trans}
 use Rattle.session.proofs.Entered.{Entered, entered, codes-bounds}
 use Rattle.session.proofs.Bridge.{held-less, CodesOf, to-codes, of-codes, levels-of, pointsOf, points-length, points-less}

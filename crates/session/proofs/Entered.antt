@@ -1,21 +1,20 @@
 -- What holds of a profile that no check before 8 refuses.
-use mathlib.Core.Path.{_≡_, refl, ap, sym, _∙_}
-use mathlib.Core.Bool.{Bool, true, false, cond, not, _&&_, _||_, and-eq-true-iff}
+use mathlib.Core.Path.{_≡_, refl, _∙_}
+use mathlib.Core.Bool.{Bool, true, false, cond, _||_, and-eq-true-iff}
 use mathlib.Core.List.{List, [], _∷_}
 use Prim.Native.Nat.{ℕ, zero, suc, _+_, _-_, _≤_, _<_}
 use native.Mathlib.Omega.{arith}
 use native.Mathlib.Decide.{decLt}
 use lib.IntN.{ℤ}
-use lib.Dec.{eqb, ltb}
 use lib.ListN.{length, length-replicate, getD-replicate}
 use borrow.Author.Tests.{not-false, ltb-false, eqb-true, eqb-false}
 use Rattle.series.specs.Sum.{at}
-use Rattle.series.specs.Written.{written, written-below, written-past, length-written}
+use Rattle.series.specs.Written.{written-below, written-past, length-written}
 use Rattle.levels.specs.Code.{lowestPoint, highestPoint, lowestRise, highestRise, lowestTotal, highestTotal, within, code, on}
 use Rattle.levels.specs.Laws.{point-most, rise-most, total-most}
 use Rattle.method.specs.Filter.{InBounds, zeros}
 use Rattle.session.specs.Profile.{Profile}
-use Rattle.session.specs.Opening.{earlier, every, badCount, badLength, badPoint, badRise, badTotal, badRange, codes}
+use Rattle.session.specs.Opening.{earlier, every, badCount, badLength, badPoint, badRise, badTotal, codes}
 
 cond-zero : (b : Bool) (m k : ℕ) → cond b (suc m) k ≡ 0 → (b ≡ false) × (k ≡ 0)
 cond-zero true m k e = absurd (omega arith)

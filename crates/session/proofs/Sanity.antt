@@ -1,9 +1,9 @@
 -- Every session that opening hands back has its numbers in bounds.
-use mathlib.Core.Path.{_≡_, refl, ap, sym, _∙_}
+use mathlib.Core.Path.{_≡_, refl, _∙_}
 use mathlib.Core.Bool.{Bool, true, false, cond}
 use Prim.Native.Nat.{ℕ, _-_, _≤_, _<_}
 use native.Mathlib.Omega.{arith}
-use lib.IntN.{ℤ, pos}
+use lib.IntN.{pos}
 use lib.Dec.{eqb}
 use lib.ListN.{length-replicate, getD-replicate}
 use borrow.Author.Tests.{eqb-true}
@@ -15,7 +15,7 @@ use Rattle.method.specs.Exact.{exact, exact-in-bounds}
 use Rattle.session.specs.Profile.{Profile}
 use Rattle.session.specs.Opening.{earlier, opened, openedWith, refusedWith, narrowed, allZero, codes}
 use Rattle.session.specs.Showing.{Sane}
-use Rattle.session.proofs.Entered.{Entered, entered, codes-bounds}
+use Rattle.session.proofs.Entered.{entered, codes-bounds}
 
 one-day : InBounds (allZero .floors) (allZero .ceilings) zeros 1 (allZero .least) (allZero .most)
 one-day =

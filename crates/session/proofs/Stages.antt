@@ -1,6 +1,6 @@
 -- Opening over codes by what its tests found.
-use mathlib.Core.Path.{_≡_, refl, ap, sym, _∙_}
-use mathlib.Core.Bool.{Bool, true, false, cond, _||_}
+use mathlib.Core.Path.{_≡_}
+use mathlib.Core.Bool.{Bool, true, false, _||_}
 use mathlib.Core.List.{List}
 use Prim.Native.Nat.{ℕ, _≤_, _<_}
 use lib.Dec.{ltb}
@@ -9,7 +9,6 @@ use Rattle.series.specs.Sum.{at}
 use Rattle.method.specs.Filter.{Tight, tightened, firstCrossed}
 use Rattle.session.specs.Opening.{openedWith, refusedWith, fresh, rangesOf}
 use Rattle.session.specs.Stages.{openedCodes}
-use Rattle.session.specs.declared.Opened.{Opened}
 use Rattle.session.proofs.Entered.{or-true}
 
 module _ (fs cs rs : List ℕ) (n L U : ℕ) {r : ℕ} (first : r ≡ firstCrossed (at fs) (at cs) n) where

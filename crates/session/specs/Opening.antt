@@ -1,14 +1,13 @@
 -- Document 01: opening, its refusals in their order, and what it hands back.
-use mathlib.Core.Path.{_≡_}
 use mathlib.Core.Bool.{Bool, true, false, cond, not, _&&_, _||_}
 use mathlib.Core.List.{List, [], _∷_}
-use Prim.Native.Nat.{ℕ, zero, suc, _-_}
+use Prim.Native.Nat.{ℕ, _-_}
 use lib.IntN.{ℤ, pos}
 use lib.Dec.{eqb, ltb}
 use lib.ListN.{length}
 use lib.Signed.{ltZ}
 use Rattle.series.specs.Written.{written}
-use Rattle.levels.specs.Code.{lowestPoint, highestPoint, lowestRise, highestRise, lowestTotal, highestTotal, within, code, decoded, on}
+use Rattle.levels.specs.Code.{lowestPoint, highestPoint, lowestRise, highestRise, lowestTotal, highestTotal, within, code, on}
 use Rattle.method.specs.Filter.{Tight, tightened, zeros}
 use Rattle.session.specs.Profile.{Profile}
 use Rattle.session.specs.declared.Ranges.{Ranges}
@@ -25,28 +24,33 @@ abbrev pub every : (ℤ → Bool) → List ℤ → Bool
 every test [] = true
 every test (z ∷ zs) = test z && every test zs
 
--- a floor above its ceiling
+-- some day's floor is above its ceiling
 abbrev pub crossed : List ℤ → List ℤ → Bool
 crossed (f ∷ fs) (c ∷ cs) = ltZ c f || crossed fs cs
 crossed [] cs = false
 crossed (f ∷ fs) [] = false
 
+-- 1: the day count is 0 or over 512
 abbrev pub badCount : Profile → Bool
 badCount p = eqb (p .days) 0 || ltb 512 (p .days)
 
--- floors or ceilings not n long, or rises not n - 1 long
+-- 2: floors or ceilings not n long, or rises not n - 1 long
 abbrev pub badLength : Profile → Bool
 badLength p = not (eqb (length (p .floors)) (p .days) && eqb (length (p .ceilings)) (p .days) && eqb (length (p .rises)) (p .days - 1))
 
+-- 3: a point outside its bounds
 abbrev pub badPoint : Profile → Bool
 badPoint p = not (every (within lowestPoint highestPoint) (p .floors) && every (within lowestPoint highestPoint) (p .ceilings))
 
+-- 4: a rise outside its bounds
 abbrev pub badRise : Profile → Bool
 badRise p = not (every (within lowestRise highestRise) (p .rises))
 
+-- 5: a bound of the total outside its bounds
 abbrev pub badTotal : Profile → Bool
 badTotal p = not (within lowestTotal highestTotal (p .lowest) && within lowestTotal highestTotal (p .highest))
 
+-- 6: a floor above its ceiling, of a day or the total
 abbrev pub badRange : Profile → Bool
 badRange p = crossed (p .floors) (p .ceilings) || ltZ (p .highest) (p .lowest)
 

@@ -1,5 +1,5 @@
 -- Document 01: showing the ranges of a session.
-use mathlib.Core.Bool.{Bool, true, false, cond, _||_}
+use mathlib.Core.Bool.{false, cond, _||_}
 use mathlib.Core.List.{List}
 use Prim.Native.Nat.{ℕ}
 use lib.IntN.{ℤ, pos}
@@ -8,10 +8,10 @@ use Rattle.series.specs.Sum.{at}
 use Rattle.series.specs.Written.{written}
 use Rattle.levels.specs.Code.{lowestPoint, lowestTotal, decoded}
 use Rattle.method.specs.Filter.{InBounds}
-use Rattle.session.specs.declared.Ranges.{Ranges}
 use Rattle.session.specs.declared.Session.{Session}
 use Rattle.session.specs.declared.Shown.{Shown}
 
+-- the present range of day i, and of the total, in points
 abbrev pub floorOn : Session → ℕ → ℤ
 floorOn s i = decoded lowestPoint (at (s .present .floors) i)
 

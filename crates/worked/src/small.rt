@@ -3,7 +3,7 @@ use crate::search;
 use session::Opened;
 use session::Session;
 ghost use mathlib.Core.Path.{_≡_};
-ghost use Prim.Native.Nat.{ℕ, _≤_, _<_};
+ghost use Prim.Native.Nat.{_≤_, _<_};
 ghost use Rattle.worked.specs.Small.{Low};
 
 const PROFILES: usize = 2400;

@@ -1,7 +1,6 @@
 use mathlib.Core.Path.{_∙_}
 use Rattle.filtering.proofs.Stage.{floor-small, mirror-ready, new-small, new-raised}
 use borrow.Author.Needs.{needs}
-use native.Mathlib.Omega.{arith}
 use Rattle.filtering.proofs.raise_floors.Statement.{statement}
 use Rattle.filtering.proofs.raise_floors.Tie as tie
 

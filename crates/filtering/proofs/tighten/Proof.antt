@@ -1,6 +1,5 @@
 use Rattle.filtering.proofs.Stage.{tight-crossed, carried-ready, tight-over, lowered-raisable, tight-apart, tight-found}
 use borrow.Author.Needs.{needs}
-use native.Mathlib.Omega.{arith}
 use Rattle.filtering.proofs.tighten.Statement.{statement}
 use Rattle.filtering.proofs.tighten.Tie as tie
 

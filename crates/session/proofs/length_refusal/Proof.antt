@@ -1,6 +1,5 @@
 use borrow.Author.Tests.{eq-eqb, ne-eqb, lt-ltb, le-ltb}
 use borrow.Author.Needs.{needs}
-use native.Mathlib.Omega.{arith}
 use Rattle.session.proofs.length_refusal.Statement.{statement}
 use Rattle.session.proofs.length_refusal.Tie as tie
 

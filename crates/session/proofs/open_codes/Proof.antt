@@ -1,7 +1,6 @@
 use mathlib.Core.Path.{_∙_}
 use Rattle.session.proofs.Stages.{codes-crossed, codes-order, codes-found, codes-none}
 use borrow.Author.Needs.{needs}
-use native.Mathlib.Omega.{arith}
 use Rattle.session.proofs.open_codes.Statement.{statement}
 use Rattle.session.proofs.open_codes.Tie as tie
 

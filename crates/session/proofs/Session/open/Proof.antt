@@ -2,8 +2,8 @@ use mir.Facts.{toZ-ofZ}
 use denote.Ref.{now}
 use Rattle.session.specs.Opening.{profile}
 use mathlib.Core.Path.{_∙_, sym}
-use Rattle.levels.specs.Code.{lowestTotal, highestTotal, lowestRise, highestRise}
-use Rattle.levels.specs.Laws.{coded-code, coded-outside, first-stops}
+use Rattle.levels.specs.Code.{lowestTotal, highestTotal}
+use Rattle.levels.specs.Laws.{coded-code, coded-outside}
 use Rattle.session.proofs.Checks.{lengths-refused, sizes, rises-few, floor-outside, ceiling-outside, rise-outside, lowest-outside, highest-outside, in-bounds, all-opened}
 use borrow.Author.Needs.{needs}
 use native.Mathlib.Omega.{arith}

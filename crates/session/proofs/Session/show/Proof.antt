@@ -1,7 +1,6 @@
 use mathlib.Core.Path.{_∙_}
 use Rattle.session.proofs.Shows.{first-short, second-short, both-long, left, filled, total-seen}
 use borrow.Author.Needs.{needs}
-use native.Mathlib.Omega.{arith}
 use Rattle.session.proofs.Session.show.Statement.{statement}
 use Rattle.session.proofs.Session.show.Tie as tie
 
