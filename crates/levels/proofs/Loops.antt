@@ -1,12 +1,12 @@
 -- The loops of `encode` and `show_points` over plain lists: their invariants, and what starts, keeps and ends each.
 use Prim.Native.Nat.{ℕ, _+_, _≤_, _<_}
-use mathlib.Core.Path.{_≡_, refl, ap, sym, _∙_}
+use mathlib.Core.Path.{_≡_, ap, sym, _∙_}
 use mathlib.Core.Bool.{true, false}
 use mathlib.Core.List.{List}
 use native.Mathlib.Omega.{arith}
 use borrow.Author.Count.{below-none, below-more}
 use lib.IntN.{ℤ}
-use lib.ListN.{length, getD, set, length-set}
+use lib.ListN.{length, set}
 use mir.Syntax.{w16, w32}
 use mir.Val.{Fits, SFits, toZ, ofZ}
 use mir.Facts.{toZ-ofZ, sfits-widen}
@@ -68,23 +68,6 @@ module _ {low high : ℤ} {xs : List ℤ} {first : List ℕ} {i : ℕ} {out : Li
             made = ap (λ a. set a i c) (u .made) ∙ written-more _ i first c (t .1);
           }
 
-pub record Shown (levels : List ℕ) (n : ℕ) (first : List ℤ) (k : ℕ) (out : List ℤ) : Type 0 where
-  pub most : k ≤ n
-  pub kept : length out ≡ length first
-  pub made : out ≡ written (λ j. decoded lowestPoint (getD levels j 0)) k first
-
-pub none-shown : (levels : List ℕ) (n : ℕ) (first : List ℤ) → Shown levels n first 0 first
-none-shown levels n first = record { most = omega arith; kept = refl; made = sym (written-none _ first) }
-
-module _ {levels : List ℕ} {n : ℕ} {first : List ℤ} {k : ℕ} {out : List ℤ} (s : Shown levels n first k out) where
-  pub more-shown : {z : ℤ} → z ≡ decoded lowestPoint (getD levels k 0) → getD levels k 0 ≤ 5000 → k < n
-      → Shown levels n first (k + 1) (set out k (toZ w16 (ofZ w16 z)))
-  more-shown {z} e h l =
-      record {
-        most = omega arith;
-        kept = length-set out k _ ∙ s .kept;
-        made = ap (λ a. set a k (toZ w16 (ofZ w16 z))) (s .made) ∙ written-more _ k first _ (toZ-ofZ (point-fits e h) ∙ e);
-      }
-
-  pub all-shown : n ≤ k → out ≡ written (λ j. decoded lowestPoint (getD levels j 0)) n first
-  all-shown l = let e : k ≡ n = omega arith in rw e at (s .made)
+-- a point that is shown, read back from its bits
+pub point-seen : {z : ℤ} {level : ℕ} → z ≡ decoded lowestPoint level → level ≤ 5000 → toZ w16 (ofZ w16 z) ≡ decoded lowestPoint level
+point-seen e h = toZ-ofZ (point-fits e h) ∙ e

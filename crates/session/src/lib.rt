@@ -96,7 +96,7 @@ fn open_codes(
     requires { ⌜ InBounds floors ceilings rises days least most ⌝ }
     ensures { λ r. ⌜ r ≡ openedCodes days floors ceilings rises least most ⌝ }
 {
-    if arrays::first_crossed(&floors, &ceilings, days) < days {
+    if carry::first_crossed(&floors, &ceilings, days) < days {
         return refused(6);
     }
     if most < least {

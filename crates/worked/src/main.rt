@@ -1,9 +1,6 @@
-// What opening answers at the bounds of an entry, and small profiles compared with an exhaustive search.
+// What opening answers at the bounds of an entry: document 01's examples that are run and not proved.
 mod refusals;
-mod search;
-mod small;
 
 fn main() {
     refusals::print();
-    small::print();
 }

@@ -155,7 +155,7 @@ fn order() {
     }
 }
 
-pub fn print() {
+pub(crate) fn print() {
     day_counts();
     points();
     list_lengths();

@@ -1,7 +1,7 @@
 -- `arrays::mirror` meets its contract: the loop of Laws, `Filled`, with mirrored levels. The measure is the days left. Assumes nothing.
 use Prim.Native.Nat.{_+_, _-_}
 use Rattle.method.specs.Filter.{mirrored}
-use Rattle.arrays.proofs.Laws.{Filled, filled-none, filled-more, filled-all}
+use Rattle.series.specs.Filled.{Filled, filled-none, filled-more, filled-all}
 use borrow.Author.Needs.{needs}
 use native.Mathlib.Omega.{arith}
 use Rattle.arrays.proofs.mirror.Statement.{statement}

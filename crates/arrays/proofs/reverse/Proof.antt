@@ -2,7 +2,7 @@
 use Prim.Native.Nat.{_-_}
 use mathlib.Core.Path.{refl}
 use Rattle.method.specs.Filter.{reversed}
-use Rattle.arrays.proofs.Laws.{Filled, filled-none, filled-more, filled-all}
+use Rattle.series.specs.Filled.{Filled, filled-none, filled-more, filled-all}
 use borrow.Author.Needs.{needs}
 use native.Mathlib.Omega.{arith}
 use Rattle.arrays.proofs.reverse.Statement.{statement}

@@ -1,17 +1,20 @@
 use Prim.Native.Nat.{_-_}
-use Rattle.levels.proofs.Loops.{Shown, none-shown, more-shown, all-shown}
+use lib.ListN.{getD}
+use Rattle.series.specs.Filled.{Filled, filled-none, filled-more, filled-all}
+use Rattle.levels.specs.Code.{lowestPoint, decoded}
+use Rattle.levels.proofs.Loops.{point-seen}
 use borrow.Author.Needs.{needs}
 use Rattle.levels.proofs.show_points.Statement.{statement}
 use Rattle.levels.proofs.show_points.Tie as tie
 
 abbrev Inv-loop : tie.InvT-loop
-Inv-loop levels n out₀ k₀ out k = Shown levels n out₀ k out
+Inv-loop levels n out₀ k₀ out k = Filled (λ j. decoded lowestPoint (getD levels j 0)) n k out₀ out
 
 abbrev μ-loop : tie.MeasureT-loop
 μ-loop levels n out₀ k₀ out k = n - k
 
 loop-holds : tie.Need-loop-holds Inv-loop μ-loop
-loop-holds c = none-shown _ _ _
+loop-holds c = filled-none
 
 mul-point : tie.Need-mul-point Inv-loop μ-loop
 mul-point c = search needs
@@ -37,13 +40,13 @@ loop-less c = search needs
 loop-again : tie.Need-loop-again Inv-loop μ-loop
 loop-again c =
     let l = c .before .before .loop-test .taken in
-    more-shown (c .before .before .before .loop .inv) (c .point .ensures) (c .before .before .before .before .pre .2 (c .before .before .before .loop .k) l) l
+    filled-more (c .before .before .before .loop .inv) l (point-seen (c .point .ensures) (c .before .before .before .before .pre .2 (c .before .before .before .loop .k) l))
 
 same-length : tie.Need-same-length Inv-loop μ-loop
 same-length c = search needs
 
 returns : tie.Need-returns Inv-loop μ-loop
-returns c = all-shown (c .before .loop .inv) (c .loop-test .left)
+returns c = filled-all (c .before .loop .inv) (c .loop-test .left)
 
 pub show-points-spec : {M : Type 1} → statement M
 show-points-spec =

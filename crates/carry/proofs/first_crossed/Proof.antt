@@ -1,0 +1,60 @@
+-- `arrays::first_crossed` meets its contract: the loop of Laws, `Uncrossed`. The measure is the days left. Assumes nothing.
+use Prim.Native.Nat.{_-_}
+use Rattle.series.specs.Sum.{at}
+use Rattle.carry.proofs.Laws.{Uncrossed, uncrossed-none, uncrossed-more, uncrossed-here, uncrossed-all}
+use borrow.Author.Needs.{needs}
+use Rattle.carry.proofs.first_crossed.Statement.{statement}
+use Rattle.carry.proofs.first_crossed.Tie as tie
+
+abbrev Inv-loop : tie.InvT-loop
+Inv-loop floors ceilings n i₀ i = Uncrossed (at floors) (at ceilings) n i
+
+abbrev μ-loop : tie.MeasureT-loop
+μ-loop floors ceilings n i₀ i = n - i
+
+loop-holds : tie.Need-loop-holds Inv-loop μ-loop
+loop-holds c = uncrossed-none
+
+mul-if1 : tie.Need-mul-if1 Inv-loop μ-loop
+mul-if1 c = search needs
+
+element-copy-out-if1 : tie.Need-element-copy-out-if1 Inv-loop μ-loop
+element-copy-out-if1 c = search needs
+
+mul-if1-2 : tie.Need-mul-if1-2 Inv-loop μ-loop
+mul-if1-2 c = search needs
+
+element-copy-out-if1-2 : tie.Need-element-copy-out-if1-2 Inv-loop μ-loop
+element-copy-out-if1-2 c = search needs
+
+returns : tie.Need-returns Inv-loop μ-loop
+returns c = uncrossed-here (c .before .before .before .before .loop .inv) (c .before .before .before .loop-test .taken) (c .if1 .taken)
+
+add-i : tie.Need-add-i Inv-loop μ-loop
+add-i c = search needs
+
+loop-less : tie.Need-loop-less Inv-loop μ-loop
+loop-less c = search needs
+
+loop-again : tie.Need-loop-again Inv-loop μ-loop
+loop-again c = uncrossed-more (c .before .before .before .before .loop .inv) (c .before .before .before .loop-test .taken) (c .if1 .left)
+
+returns-2 : tie.Need-returns-2 Inv-loop μ-loop
+returns-2 c = uncrossed-all (c .before .loop .inv) (c .loop-test .left)
+
+pub first-crossed-spec : {M : Type 1} → statement M
+first-crossed-spec =
+    tie.close
+    (tie.spec
+    Inv-loop
+    μ-loop
+    loop-holds
+    mul-if1
+    element-copy-out-if1
+    mul-if1-2
+    element-copy-out-if1-2
+    returns
+    add-i
+    loop-less
+    loop-again
+    returns-2)

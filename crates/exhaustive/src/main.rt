@@ -1,0 +1,7 @@
+// Small profiles opened, and compared with an exhaustive search.
+mod search;
+mod small;
+
+fn main() {
+    small::print();
+}
