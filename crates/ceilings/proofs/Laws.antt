@@ -14,7 +14,7 @@ use Rattle.method.specs.Shift.{shift, shiftFrom, shift-start, shift-low, shift-
 use Rattle.method.specs.Filter.{shifted, overload, loweredFrom, lowered}
 use Rattle.ceilings.specs.Round.{over, window, step, rounded, rounded-is, window-under, window-past, window-is}
 use Rattle.method.specs.Stages.{Ready}
-use Rattle.ceilings.specs.Pass.{Carried, Found, Rounded, Lowest, DaysIn, FoundIn, RoundedIn, LowestIn, Overloaded}
+use Rattle.ceilings.specs.Pass.{Carried, Found, Rounded, Lowest, DaysIn, FoundIn, RoundedIn, LowestIn, Overloaded, Entering}
 
 -- ---- shifted floors
 
@@ -179,13 +179,13 @@ module _ {fs rs : List ℕ} {n i margin v c s e : ℕ} (p : Overloaded fs rs n i
   round-days r =
       record { run = p .found .run; past = λ k l u. omega (arith, found-past (rises (p .carried)) (p .found) round-base k l u) }
 
-  pub round-end : (o : ℕ) {x r c′ s′ e′ : ℕ} → o + s ≡ c * v → x ≡ at fs (i + c - 1) → r ≡ step (o - margin) c (v - (x + e))
-      → FoundIn fs rs n i (v - r) c′ s′ e′ → RoundedIn fs rs n i margin v (v - r) c′ s′ e′
+  pub round-end : (o : ℕ) {x r u c′ s′ e′ : ℕ} → o + s ≡ c * v → x ≡ at fs (i + c - 1) → r ≡ step (o - margin) c (v - (x + e))
+      → (u ≡ v - r) × FoundIn fs rs n i (v - r) c′ s′ e′ → RoundedIn fs rs n i margin v u c′ s′ e′
   round-end o {x} {r} qo qx qr found =
       let po : o ≡ over (shifted fs rs n) n i v = round-over qo in
       let px : x + e ≡ shifted fs rs n (i + c - 1) = omega (arith, p .found .run .last) in
       let pr : r ≡ fall (shifted fs rs n) n i margin v c = rw (po, px) at qr in
-      record { level = omega (arith, rounded-fall (rises (p .carried)) (p .found) round-base margin); found = found }
+      record { level = omega (arith, found .0, rounded-fall (rises (p .carried)) (p .found) round-base margin); found = rw (found .0) (found .1) }
 
 -- ---- lower
 
@@ -196,8 +196,8 @@ pub record Stand (a z : ℕ → ℕ) (n i margin cap v c s e : ℕ) : Type 0 whe
   pub fits : v ≤ cap
   pub past : (u : ℕ) → v < u → u ≤ cap → margin < over a n i u
 
-pub stand-start : {a z : ℕ → ℕ} {n i margin cap c s e : ℕ} → Found a z n i cap c s e → a i ≤ cap → Stand a z n i margin cap cap c s e
-stand-start f b = record { found = f; base = b; fits = omega arith; past = λ u h l. absurd (omega arith) }
+pub stand-start : {a z : ℕ → ℕ} {n i margin cap v c s e : ℕ} → (v ≡ cap) × Found a z n i cap c s e → a i ≤ cap → Stand a z n i margin cap v c s e
+stand-start f b = record { found = rw (f .0) (f .1); base = omega (arith, f .0); fits = omega (arith, f .0); past = λ u h l. absurd (omega (arith, f .0)) }
 
 -- a level w that is at most q below one with overload x
 too-high : (c w k q x y s margin : ℕ) → x + s ≡ c * (w + k) → k ≤ q → c * q < x - margin → c * w ≤ y + s → margin < y
@@ -346,20 +346,21 @@ module _ {fs cs rs : List ℕ} {n margin : ℕ} (g : Ready fs cs rs n) where
           let r : shift (at rs) n (i - 1) + 2000 ≡ shift (at rs) n i + at rs (i - 1) = rw q at (shift-next (floors-carried g) (i - 1) (omega (arith, p .most))) in
           omega (arith, p .shift-here)
 
-      module _ {here′ y cap : ℕ} (qh : here′ ≡ here + w - 2000) (qy : y ≡ at out (i - 1)) (qc : cap ≡ min v (y + here′)) where
+      module _ {here′ y : ℕ} (qh : here′ ≡ here + w - 2000) (qy : y ≡ at out (i - 1)) where
+        abbrev cap : ℕ
+        cap = min v (y + here′)
+
         pass-old : y ≡ at cs (i - 1)
         pass-old = qy ∙ ap (λ l. at l (i - 1)) (p .made) ∙ last-before _ 0 n (n - i) cs (i - 1) (omega (arith, p .most))
 
         pass-cap : cap ≡ min v (shifted cs rs n (i - 1))
         pass-cap = omega (arith, pass-old, pass-here)
 
-        pub pass-room : (cap ≤ 16777216) × (shifted fs rs n (i - 1) ≤ cap)
-        pass-room =
-            (omega (arith, p .low), omega (arith, pass-cap, g .fits (i - 1) (omega (arith, p .most)), p .base (i - 1) (omega arith)))
+        pass-room : shifted fs rs n (i - 1) ≤ cap
+        pass-room = omega (arith, pass-cap, g .fits (i - 1) (omega (arith, p .most)), p .base (i - 1) (omega arith))
 
-        pub pass-days : {x : ℕ} → x ≡ at fs (i - 1)
-            → DaysIn fs rs n (i - 1) cap (c + 1) (s + (x + here′)) e
-        pass-days {x} qx =
+        pass-days : DaysIn fs rs n (i - 1) cap (c + 1) (s + (at fs (i - 1) + here′)) e
+        pass-days =
             let q : i - 1 + 1 ≡ i = omega arith in
             let r : i - 1 + (c + 1) - 1 ≡ i + c - 1 = omega arith in
             let f : sumFor (shifted fs rs n) (i - 1) (c + 1) ≡ shifted fs rs n (i - 1) + sumFor (shifted fs rs n) i c =
@@ -374,7 +375,19 @@ module _ {fs cs rs : List ℕ} {n margin : ℕ} (g : Ready fs cs rs n) where
               past = λ k l u. omega (arith, p .past k (omega arith) u);
             }
 
-        module _ {v′ c′ s′ e′ : ℕ} (d : LowestIn fs rs n (i - 1) margin cap v′ c′ s′ e′) where
+        pub pass-enters : y < 65536 → Entering fs rs n (i - 1) y here′ v c s e
+        pass-enters level =
+            record {
+              inside = omega (arith, p .most);
+              days = pass-days;
+              low = omega (arith, p .low);
+              base = pass-room;
+              shift-most = omega (arith, pass-here, shift-most (floors-carried g) (i - 1) (omega (arith, p .most)));
+              level = level;
+              small = pass-small;
+            }
+
+        module _ {v′ c′ s′ e′ : ℕ} (d : LowestIn fs rs n (i - 1) margin (min v (y + here′)) v′ c′ s′ e′) where
           -- the level found is the definition's
           pass-level : v′ ≡ loweredFrom fs cs rs n margin (n - (i - 1))
           pass-level =
@@ -383,10 +396,11 @@ module _ {fs cs rs : List ℕ} {n margin : ℕ} (g : Ready fs cs rs n) where
               let m : loweredFrom fs cs rs n margin (n - (i - 1))
               ≡ fit (overload fs rs n (i - 1)) margin (shifted fs rs n (i - 1)) (min (loweredFrom fs cs rs n margin (n - i)) (shifted cs rs n (i - 1))) =
               rw (q, r) at (lowered-more fs cs rs n margin (n - i)) in
-              let b : cap ≡ min (loweredFrom fs cs rs n margin (n - i)) (shifted cs rs n (i - 1)) = rw (p .level) at pass-cap in
+              let b : cap ≡ min (loweredFrom fs cs rs n margin (n - i)) (shifted cs rs n (i - 1)) =
+              pass-cap ∙ ap (λ x. min x (shifted cs rs n (i - 1))) (p .level) in
               let start : overload fs rs n (i - 1) (shifted fs rs n (i - 1)) ≤ margin =
               omega (arith, over-none (shifted fs rs n) n (i - 1) (shifted fs rs n (i - 1)) (rises (floors-carried g)) (omega arith)) in
-              fitted-one (d .level) (fitted (overload fs rs n (i - 1)) margin (shifted fs rs n (i - 1)) start cap (pass-room .1))
+              fitted-one (d .level) (fitted (overload fs rs n (i - 1)) margin (shifted fs rs n (i - 1)) start cap pass-room)
               ∙ ap (fit (overload fs rs n (i - 1)) margin (shifted fs rs n (i - 1))) b
               ∙ sym m
 
@@ -409,7 +423,7 @@ module _ {fs cs rs : List ℕ} {n margin : ℕ} (g : Ready fs cs rs n) where
                     ∙ (rw (q, r) at (last-more (shown fs cs rs n margin) n (n - i) cs (v′ - here′) z));
                 level = pass-level;
                 shift-here = now;
-                low = omega (arith, d .level .most, pass-room .0);
+                low = omega (arith, d .level .most, p .low);
                 inside = d .found .run .inside;
                 total = d .found .run .total;
                 last = d .found .run .last;

@@ -1,5 +1,5 @@
 -- What the ceilings' pass takes, and what its functions hand on. a are the shifted floors of n days, z their shifts.
-use Prim.Native.Nat.{ℕ, _+_, _-_, _≤_, _<_}
+use Prim.Native.Nat.{ℕ, _+_, _-_, _≤_, _<_, min}
 use mathlib.Core.Path.{_≡_}
 use mathlib.Core.List.{List}
 use Rattle.series.specs.Sum.{sumFor, at}
@@ -61,3 +61,13 @@ pub record Overloaded (fs rs : List ℕ) (n i margin v c s e : ℕ) : Type 0 whe
   pub found : FoundIn fs rs n i v c s e
   pub low : v ≤ 16777216
   pub more : margin < over (shifted fs rs n) n i v
+
+-- what is handed on to day i, whose shift is `here`, with the next day at v: the window of the next day and day i itself
+pub record Entering (fs rs : List ℕ) (n i ceiling here v c s e : ℕ) : Type 0 where
+  pub inside : i < n
+  pub days : DaysIn fs rs n i (min v (ceiling + here)) (c + 1) (s + (at fs i + here)) e
+  pub low : min v (ceiling + here) ≤ 16777216
+  pub base : shifted fs rs n i ≤ min v (ceiling + here)
+  pub shift-most : here ≤ 2048000
+  pub level : ceiling < 65536
+  pub small : s ≤ 8589934592

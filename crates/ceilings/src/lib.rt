@@ -1,23 +1,17 @@
 // Document 01's pass over the ceilings, on levels as shown. A shifted level is a level plus its day's shift.
 ghost use mathlib.Core.Path.{_≡_};
-ghost use Prim.Native.Nat.{_+_, _-_, _*_, _≤_, _<_};
+ghost use Prim.Native.Nat.{_+_, _-_, _*_, _≤_, _<_, min};
 ghost use Rattle.series.specs.Written.{written};
 ghost use Rattle.method.specs.Filter.{shifted, lowered};
 ghost use Rattle.ceilings.specs.Round.{step};
 ghost use Rattle.method.specs.Stages.{Ready};
-ghost use Rattle.ceilings.specs.Pass.{Carried, DaysIn, FoundIn, RoundedIn, LowestIn, Overloaded};
+ghost use Rattle.ceilings.specs.Pass.{Carried, DaysIn, FoundIn, RoundedIn, LowestIn, Overloaded, Entering};
 use numbers::least;
 use numbers::narrow;
 use numbers::wide;
 
-// Days from one day on: how many, the sum of their shifted floors, and the shift of the last.
-struct Window {
-    count: usize,
-    sum: usize,
-    end: usize,
-}
-
-// A shifted level of a day, and the days from that day to the last whose shifted floor is below it.
+// A shifted level v of a day, and its window: the days from that day on to the last whose shifted floor is below v. They are
+// count days, sum is that of their shifted floors, and end is the shift of the last.
 struct Level {
     v: usize,
     count: usize,
@@ -33,12 +27,12 @@ fn shift_before(next: usize, rise: usize) -> usize
     next + rise - 2000
 }
 
-// By how much v is above the floors of count days: v counts once for each.
-fn overload_of(count: usize, v: usize, sum: usize) -> usize
-    requires { ⌜ (count ≤ 512) × (v ≤ 16777216) × (sum ≤ count * v) ⌝ }
-    ensures { λ r. ⌜ r + sum ≡ count * v ⌝ }
+// By how much v is above the floors of its window: v counts once for each day.
+fn overload_of(day: Level) -> usize
+    requires { ⌜ (day .count ≤ 512) × (day .v ≤ 16777216) × (day .sum ≤ day .count * day .v) ⌝ }
+    ensures { λ r. ⌜ r + day .sum ≡ day .count * day .v ⌝ }
 {
-    count * v - sum
+    day.count * day.v - day.sum
 }
 
 // How far a round lowers a level.
@@ -49,20 +43,21 @@ fn step_of(excess: usize, count: usize, room: usize) -> usize
     least((excess + count - 1) / count, room)
 }
 
-// Drops days from the end whose shifted floor is not below v, but for day i.
+// The level v with its window, from a window that may be too long: days whose shifted floor is not below v are dropped from the
+// end, but for day i.
 fn settle(
     floors: &[u16; 512],
     rises: &[u16; 512],
     n: usize,
     i: usize,
+    v: usize,
     count: usize,
     sum: usize,
     end: usize,
-    v: usize,
-) -> Window
+) -> Level
     requires { ⌜ Carried (now floors) (now rises) n ⌝ }
     requires { ⌜ DaysIn (now floors) (now rises) n i v count sum end ⌝ }
-    ensures { λ r. ⌜ FoundIn (now (floors .entry)) (now (rises .entry)) n i v (r .count) (r .sum) (r .end) ⌝ }
+    ensures { λ r. ⌜ (r .v ≡ v) × FoundIn (now (floors .entry)) (now (rises .entry)) n i v (r .count) (r .sum) (r .end) ⌝ }
 {
     let mut c = count;
     let mut s = sum;
@@ -70,7 +65,8 @@ fn settle(
     while 1 < c {
         let top = wide(floors[i + c - 1]) + e;
         if top < v {
-            return Window {
+            return Level {
+                v,
                 count: c,
                 sum: s,
                 end: e,
@@ -80,38 +76,31 @@ fn settle(
         c -= 1;
         e = shift_before(e, wide(rises[i + c - 1]));
     }
-    Window {
+    Level {
+        v,
         count: c,
         sum: s,
         end: e,
     }
 }
 
-// One round for day i at the shifted level v: the level falls by the step, and its days are found again.
+// One round for day i: the level falls by the step, and its window is found again.
 fn round(
     floors: &[u16; 512],
     rises: &[u16; 512],
     n: usize,
     i: usize,
     margin: usize,
-    v: usize,
-    count: usize,
-    sum: usize,
-    end: usize,
+    day: Level,
 ) -> Level
-    requires { ⌜ Overloaded (now floors) (now rises) n i margin v count sum end ⌝ }
-    ensures { λ r. ⌜ RoundedIn (now (floors .entry)) (now (rises .entry)) n i margin v (r .v) (r .count) (r .sum) (r .end) ⌝ }
+    requires { ⌜ Overloaded (now floors) (now rises) n i margin (day .v) (day .count) (day .sum) (day .end) ⌝ }
+    ensures { λ r. ⌜ RoundedIn (now (floors .entry)) (now (rises .entry)) n i margin (day .v) (r .v) (r .count) (r .sum) (r .end) ⌝ }
 {
-    let excess = overload_of(count, v, sum) - margin;
-    let room = v - (wide(floors[i + count - 1]) + end);
-    let low = v - step_of(excess, count, room);
-    let next = settle(floors, rises, n, i, count, sum, end, low);
-    Level {
-        v: low,
-        count: next.count,
-        sum: next.sum,
-        end: next.end,
-    }
+    let excess = overload_of(day) - margin;
+    let count = day.count;
+    let room = day.v - (wide(floors[i + count - 1]) + day.end);
+    let low = day.v - step_of(excess, count, room);
+    settle(floors, rises, n, i, low, count, day.sum, day.end)
 }
 
 // Lowers day i's shifted ceiling by rounds, from cap, until its overload is within the margin.
@@ -131,27 +120,52 @@ fn lower(
     requires { ⌜ (cap ≤ 16777216) × (shifted (now floors) (now rises) n i ≤ cap) ⌝ }
     ensures { λ r. ⌜ LowestIn (now (floors .entry)) (now (rises .entry)) n i margin cap (r .v) (r .count) (r .sum) (r .end) ⌝ }
 {
-    let first = settle(floors, rises, n, i, count, sum, end, cap);
-    let mut v = cap;
-    let mut c = first.count;
-    let mut s = first.sum;
-    let mut e = first.end;
-    while margin < overload_of(c, v, s) {
-        let next = round(floors, rises, n, i, margin, v, c, s, e);
-        v = next.v;
-        c = next.count;
-        s = next.sum;
-        e = next.end;
+    let mut day = settle(floors, rises, n, i, cap, count, sum, end);
+    while margin < overload_of(day) {
+        day = round(floors, rises, n, i, margin, day);
     }
-    Level {
-        v,
-        count: c,
-        sum: s,
-        end: e,
-    }
+    day
 }
 
-// Lowers the ceilings of n days, from the last to the first. `here` is the shift of day i, `end` that of the last day of the window.
+// Lowers the ceiling of day i, whose shift is here, after that of the next day.
+fn lower_day(
+    floors: &[u16; 512],
+    rises: &[u16; 512],
+    n: usize,
+    i: usize,
+    margin: usize,
+    ceiling: usize,
+    here: usize,
+    next: Level,
+) -> Level
+    requires { ⌜ Carried (now floors) (now rises) n ⌝ }
+    requires { ⌜ Entering (now floors) (now rises) n i ceiling here (next .v) (next .count) (next .sum) (next .end) ⌝ }
+    ensures { λ r. ⌜ LowestIn (now (floors .entry)) (now (rises .entry)) n i margin (min (next .v) (ceiling + here)) (r .v) (r .count) (r .sum) (r .end) ⌝ }
+{
+    let cap = least(next.v, ceiling + here);
+    let floor = wide(floors[i]) + here;
+    lower(
+        floors,
+        rises,
+        n,
+        i,
+        margin,
+        cap,
+        next.count + 1,
+        next.sum + floor,
+        next.end,
+    )
+}
+
+// The level as shown.
+fn shown(day: Level, here: usize) -> u16
+    requires { ⌜ (here ≤ day .v) × (day .v - here ≤ 5000) ⌝ }
+    ensures { λ r. ⌜ r ≡ day .v - here ⌝ }
+{
+    narrow(day.v - here)
+}
+
+// Lowers the ceilings of n days, from the last to the first. `here` is the shift of day i.
 pub fn lower_ceilings(
     floors: &[u16; 512],
     ceilings: &mut [u16; 512],
@@ -163,31 +177,19 @@ pub fn lower_ceilings(
     ensures { λ _. ⌜ now (ceilings .exit) ≡ written (lowered (now (floors .entry)) (now (ceilings .entry)) (now (rises .entry)) n margin) n (now (ceilings .entry)) ⌝ }
 {
     let mut here = 1024000;
-    let mut end = shift_before(here, wide(rises[n - 1]));
-    let mut v = wide(ceilings[n - 1]) + end;
-    let mut count = 0;
-    let mut sum = 0;
+    let end = shift_before(here, wide(rises[n - 1]));
+    let v = wide(ceilings[n - 1]) + end;
+    let mut day = Level {
+        v,
+        count: 0,
+        sum: 0,
+        end,
+    };
     let mut i = n;
     while 0 < i {
         i -= 1;
         here = shift_before(here, wide(rises[i]));
-        let cap = least(v, wide(ceilings[i]) + here);
-        let floor = wide(floors[i]) + here;
-        let day = lower(
-            floors,
-            rises,
-            n,
-            i,
-            margin,
-            cap,
-            count + 1,
-            sum + floor,
-            end,
-        );
-        v = day.v;
-        count = day.count;
-        sum = day.sum;
-        end = day.end;
-        ceilings[i] = narrow(v - here);
+        day = lower_day(floors, rises, n, i, margin, wide(ceilings[i]), here, day);
+        ceilings[i] = shown(day, here);
     }
 }

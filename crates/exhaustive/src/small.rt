@@ -3,7 +3,7 @@ use crate::search;
 use session::Opened;
 use session::Session;
 ghost use mathlib.Core.Path.{_≡_};
-ghost use Prim.Native.Nat.{_≤_, _<_};
+ghost use Prim.Native.Nat.{_+_, _≤_, _<_};
 ghost use Rattle.exhaustive.specs.Small.{Low};
 
 const PROFILES: usize = 2400;
@@ -197,23 +197,31 @@ fn turn(seed: usize) -> Tally
     judged(&floors, &ceilings, &rises, n, lowest, highest, last)
 }
 
+// The tally with one more profile.
+fn onward(t: Tally) -> Tally
+    requires { ⌜ (t .none ≤ 2400) × (t .differences ≤ 2400) × (t .seed < 2147483647) ⌝ }
+    ensures { λ r. ⌜ (r .none ≤ t .none + 1) × (r .differences ≤ t .differences + 1) × (r .seed < 2147483647) ⌝ }
+{
+    let one = turn(t.seed);
+    Tally {
+        none: t.none + one.none,
+        differences: t.differences + one.differences,
+        seed: one.seed,
+    }
+}
+
 fn compared() -> Tally {
-    let mut none = 0;
-    let mut differences = 0;
-    let mut seed = 1;
+    let mut t = Tally {
+        none: 0,
+        differences: 0,
+        seed: 1,
+    };
     let mut k = 0;
     while k < PROFILES {
-        let t = turn(seed);
-        none += t.none;
-        differences += t.differences;
-        seed = t.seed;
+        t = onward(t);
         k += 1;
     }
-    Tally {
-        none: none,
-        differences: differences,
-        seed: seed,
-    }
+    t
 }
 
 pub(crate) fn print() {

@@ -6,7 +6,7 @@ use Rattle.ceilings.proofs.overload_of.Statement.{statement}
 use Rattle.ceilings.proofs.overload_of.Tie as tie
 
 mul-result : tie.Need-mul-result
-mul-result c = omega (arith, mul-le-mul (c .pre .0) (c .pre .1))
+mul-result c = omega (arith, mul-le-mul (c .before .pre .0) (c .before .pre .1))
 
 sub-result : tie.Need-sub-result
 sub-result c = search needs

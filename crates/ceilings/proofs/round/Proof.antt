@@ -27,22 +27,22 @@ wide-requires : tie.Need-wide-requires
 wide-requires c κs = search needs
 
 add-room : tie.Need-add-room
-add-room c = omega (arith, round-room (c .before .before .before .pre) (c .wide .ensures .0))
+add-room c = omega (arith, round-room (c .before .before .before .before .pre) (c .before .wide .ensures .0))
 
 sub-room : tie.Need-sub-room
-sub-room c = omega (arith, round-room (c .before .before .before .pre) (c .wide .ensures .0))
+sub-room c = omega (arith, round-room (c .before .before .before .before .before .pre) (c .before .before .wide .ensures .0))
 
 step-of-requires : tie.Need-step-of-requires
-step-of-requires c κs = omega (arith, round-overload (c .before .before .before .pre) .0, round-excess (c .before .before .before .pre) (c .before .before .overload-of .ensures))
+step-of-requires c κs = omega (arith, round-overload (c .before .before .before .before .before .pre) .0, round-excess (c .before .before .before .before .before .pre) (c .before .before .before .before .overload-of .ensures), c .before .before .before .before .before .pre .found .run .some)
 
 sub-low : tie.Need-sub-low
 sub-low c = search needs
 
 settle-requires : tie.Need-settle-requires
-settle-requires c κs = (c .before .before .before .before .pre .carried, round-days (c .before .before .before .before .pre) (c .step-of .result))
+settle-requires c κs = (c .before .before .before .before .before .before .before .pre .carried, round-days (c .before .before .before .before .before .before .before .pre) (c .before .step-of .result))
 
 returns : tie.Need-returns
-returns c = round-end (c .before .before .before .before .before .pre) (c .before .before .before .before .overload-of .result) (c .before .before .before .before .overload-of .ensures) (c .before .before .wide .ensures .0) (c .before .step-of .ensures) (c .settle .ensures)
+returns c = round-end (c .before .before .before .before .before .before .before .before .pre) (c .before .before .before .before .before .before .before .overload-of .result) (c .before .before .before .before .before .before .before .overload-of .ensures) (c .before .before .before .before .before .wide .ensures .0) (c .before .before .step-of .ensures) (c .settle .ensures)
 
 pub round-spec : {M : Type 1} → statement M
 round-spec =

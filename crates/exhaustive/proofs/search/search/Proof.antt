@@ -1,4 +1,4 @@
--- `worked::search::search` meets its contract. The invariant: no more schedules than lists. The measure is the lists left. Assumes nothing.
+-- `exhaustive::search::search` meets its contract. The invariant: no more schedules than lists. The measure is the lists left. Assumes nothing.
 use Prim.Native.Nat.{_-_, _≤_}
 use borrow.Author.Needs.{needs}
 use Rattle.exhaustive.proofs.search.search.Statement.{statement}

@@ -1,4 +1,4 @@
--- `worked::search::stretch_days` meets its contract. The measure is the days left. Assumes nothing.
+-- `exhaustive::search::stretch_days` meets its contract. The measure is the days left. Assumes nothing.
 use Prim.Native.Nat.{_-_, _≤_}
 use borrow.Author.Needs.{needs}
 use Rattle.exhaustive.proofs.search.stretch_days.Statement.{statement}

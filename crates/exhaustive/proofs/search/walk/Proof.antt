@@ -1,4 +1,4 @@
--- `worked::search::walk` meets its contract. The invariant: each day passed added at most 65,535 to the sum. The measure is the days left. Assumes nothing.
+-- `exhaustive::search::walk` meets its contract. The invariant: each day passed added at most 65,535 to the sum. The measure is the days left. Assumes nothing.
 use Prim.Native.Nat.{_*_, _-_, _≤_}
 use borrow.Author.Needs.{needs}
 use Rattle.exhaustive.proofs.search.walk.Statement.{statement}

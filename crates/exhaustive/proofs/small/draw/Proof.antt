@@ -1,4 +1,4 @@
--- `worked::small::draw` meets its contract: the loop of Laws, `Drawn`. The measure is the days left. Assumes nothing.
+-- `exhaustive::small::draw` meets its contract: the loop of Laws, `Drawn`. The measure is the days left. Assumes nothing.
 use Prim.Native.Nat.{_-_}
 use Rattle.exhaustive.proofs.Laws.{Drawn, drawn-none, drawn-more, drawn-all}
 use borrow.Author.Needs.{needs}

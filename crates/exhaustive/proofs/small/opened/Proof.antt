@@ -1,4 +1,4 @@
--- `worked::small::opened` meets its contract. Each list is as long as asked. Assumes nothing.
+-- `exhaustive::small::opened` meets its contract. Each list is as long as asked. Assumes nothing.
 use lib.Seq.{length-take-le}
 use mathlib.Core.Path.{sym}
 use borrow.Author.Needs.{needs}

@@ -1,4 +1,4 @@
--- `worked::small::remainder` meets its contract. Assumes nothing.
+-- `exhaustive::small::remainder` meets its contract. Assumes nothing.
 use native.Mathlib.Nat.{mod-lt}
 use borrow.Author.Needs.{needs}
 use Rattle.exhaustive.proofs.small.remainder.Statement.{statement}

@@ -1,4 +1,4 @@
--- `worked::small::sum` meets its contract. The invariant: each day passed added at most 65,535. The measure is the days left. Assumes nothing.
+-- `exhaustive::small::sum` meets its contract. The invariant: each day passed added at most 65,535. The measure is the days left. Assumes nothing.
 use Prim.Native.Nat.{_+_, _*_, _-_, _≤_}
 use borrow.Author.Needs.{needs}
 use Rattle.exhaustive.proofs.small.sum.Statement.{statement}

@@ -1,4 +1,4 @@
--- `worked::small::turn` meets its contract: what `draw` ensures is what `judged` requires. Assumes nothing.
+-- `exhaustive::small::turn` meets its contract: what `draw` ensures is what `judged` requires. Assumes nothing.
 use borrow.Author.Needs.{needs}
 use Rattle.exhaustive.proofs.small.turn.Statement.{statement}
 use Rattle.exhaustive.proofs.small.turn.Tie as tie
