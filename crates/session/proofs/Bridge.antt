@@ -57,7 +57,7 @@ module _ (p : Profile) (d : Entered p) where
   -- a list of points and the levels that stand for them are schedules together
   module _ (x : List ℤ) (whole : length x ≡ p .days) (c : ℕ → ℕ) (same : (i : ℕ) → i < p .days → Less (on x i) (c i) 1000) where
     sum-less : Less (total x) (held (p .days) c) 512000
-    sum-less = held-less x (p .days) c whole (d .few) same
+    sum-less = held-less x (p .days) c whole (d .sized .few) same
 
     stepped : (i : ℕ) → i + 1 < p .days → Less (on x i +ℤ on (p .rises) i) (c i + at (codes lowestRise (p .rises) (p .days - 1)) i) 3000
     stepped i h =

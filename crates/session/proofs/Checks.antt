@@ -62,10 +62,10 @@ module _ (p : Profile) (d : Entered p) where
     where
       go : {r : ℕ} → Dec (r < p .days) → Crossing (at fs) (at cs) (p .days) r → crossed (p .floors) (p .ceilings) ≡ ltb r (p .days)
       go {r} (yes h) x =
-          crossed-yes (p .floors) (p .ceilings) r (omega (arith, d .floors)) (omega (arith, d .ceilings)) (day-test r h ∙ lt-ltb (at cs r) (at fs r) (x .here h))
+          crossed-yes (p .floors) (p .ceilings) r (omega (arith, d .sized .floors)) (omega (arith, d .sized .ceilings)) (day-test r h ∙ lt-ltb (at cs r) (at fs r) (x .here h))
           ∙ sym (lt-ltb r (p .days) h)
       go {r} (no h) x =
-          crossed-no (p .floors) (p .ceilings) (λ k l. day-test k (omega (arith, d .floors)) ∙ le-ltb (at cs k) (at fs k) (x .before k (omega (arith, d .floors))))
+          crossed-no (p .floors) (p .ceilings) (λ k l. day-test k (omega (arith, d .sized .floors)) ∙ le-ltb (at cs k) (at fs k) (x .before k (omega (arith, d .sized .floors))))
           ∙ sym (le-ltb r (p .days) (omega arith))
 
   range-test : badRange p ≡ (ltb (firstCrossed (at fs) (at cs) (p .days)) (p .days) || ltb (code lowestTotal (p .highest)) (code lowestTotal (p .lowest)))
@@ -164,7 +164,10 @@ module _ (low high : ℤ) (zs : List ℤ) {r : ℕ} (first : r ≡ firstOutside 
       let same : r ≡ n = omega (arith, first-stops low high zs .most) in
       rw same at o
 
-module _ (p : Profile) (e : lengths p ≡ 0) where
+module _ (p : Profile) {z : ℕ} (ez : z ≡ lengths p) (none : z ≡ 0) where
+  e : lengths p ≡ 0
+  e = sym ez ∙ none
+
   pub sizes : Sized p
   sizes = sized p (whole p e .0) (whole p e .1)
 

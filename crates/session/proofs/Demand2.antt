@@ -75,7 +75,7 @@ module _ (p : Profile) (d : Entered p) where
         each = λ i h.
             spans lowestPoint 1000 point-less (λ x. on x i) (λ c. c i) (λ x c w same. same i h) (at (narrowed p .floors) i) (at (narrowed p .ceilings) i) (t .day i h);
         sum =
-            spans lowestTotal 512000 total-less total (held (p .days)) (λ x c w same. held-less x (p .days) c w (d .few) same) (narrowed p .least) (narrowed p .most)
+            spans lowestTotal 512000 total-less total (held (p .days)) (λ x c w same. held-less x (p .days) c w (d .sized .few) same) (narrowed p .least) (narrowed p .most)
             (t .total);
       }
 

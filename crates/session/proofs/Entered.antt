@@ -1,11 +1,12 @@
 -- What holds of a profile that no check before 8 refuses.
 use mathlib.Core.Path.{_≡_, refl, _∙_}
-use mathlib.Core.Bool.{Bool, true, false, cond, _||_, and-eq-true-iff}
+use mathlib.Core.Bool.{Bool, true, false, cond, _&&_, _||_, and-eq-true-iff}
 use mathlib.Core.List.{List, [], _∷_}
 use Prim.Native.Nat.{ℕ, zero, suc, _+_, _-_, _≤_, _<_}
 use native.Mathlib.Omega.{arith}
 use native.Mathlib.Decide.{decLt}
 use lib.IntN.{ℤ}
+use lib.Dec.{eqb}
 use lib.ListN.{length, length-replicate, getD-replicate}
 use borrow.Author.Tests.{not-false, ltb-false, eqb-true, eqb-false}
 use Rattle.series.specs.Sum.{at}
@@ -33,18 +34,6 @@ every-on test [] e k h = absurd (omega arith)
 every-on test (z ∷ zs) e zero h = and-eq-true-iff (test z) (every test zs) .0 e .0
 every-on test (z ∷ zs) e (suc k) h = every-on test zs (and-eq-true-iff (test z) (every test zs) .0 e .1) k (omega arith)
 
-pub record Entered (p : Profile) : Type 0 where
-  pub some : 0 < p .days
-  pub few : p .days ≤ 512
-  pub floors : length (p .floors) ≡ p .days
-  pub ceilings : length (p .ceilings) ≡ p .days
-  pub rises : length (p .rises) ≡ p .days - 1
-  pub floor : (k : ℕ) → k < p .days → within lowestPoint highestPoint (on (p .floors) k) ≡ true
-  pub ceiling : (k : ℕ) → k < p .days → within lowestPoint highestPoint (on (p .ceilings) k) ≡ true
-  pub rise : (k : ℕ) → k < p .days - 1 → within lowestRise highestRise (on (p .rises) k) ≡ true
-  pub lowest : within lowestTotal highestTotal (p .lowest) ≡ true
-  pub highest : within lowestTotal highestTotal (p .highest) ≡ true
-
 -- what 1 and 2 let pass
 pub record Sized (p : Profile) : Type 0 where
   pub some : 0 < p .days
@@ -56,8 +45,11 @@ pub record Sized (p : Profile) : Type 0 where
 pub sized : (p : Profile) → badCount p ≡ false → badLength p ≡ false → Sized p
 sized p c1 c2 =
     let count = or-false _ _ c1 in
-    let lengths = and-eq-true-iff _ _ .0 (not-false _ c2) in
-    let two = and-eq-true-iff _ _ .0 (lengths .0) in
+    let floors : Bool = eqb (length (p .floors)) (p .days) in
+    let ceilings : Bool = eqb (length (p .ceilings)) (p .days) in
+    let rises : Bool = eqb (length (p .rises)) (p .days - 1) in
+    let lengths = and-eq-true-iff (floors && ceilings) rises .0 (not-false _ c2) in
+    let two = and-eq-true-iff floors ceilings .0 (lengths .0) in
     let apart : (p .days ≡ 0 → ⊥) = eqb-false _ _ (count .0) in
     record {
       some = omega (arith, apart);
@@ -67,7 +59,15 @@ sized p c1 c2 =
       rises = eqb-true _ _ (lengths .1);
     }
 
--- the checks 1 to 5 are passed
+-- what 1 to 5 let pass
+pub record Entered (p : Profile) : Type 0 where
+  pub sized : Sized p
+  pub floor : (k : ℕ) → k < p .days → within lowestPoint highestPoint (on (p .floors) k) ≡ true
+  pub ceiling : (k : ℕ) → k < p .days → within lowestPoint highestPoint (on (p .ceilings) k) ≡ true
+  pub rise : (k : ℕ) → k < p .days - 1 → within lowestRise highestRise (on (p .rises) k) ≡ true
+  pub lowest : within lowestTotal highestTotal (p .lowest) ≡ true
+  pub highest : within lowestTotal highestTotal (p .highest) ≡ true
+
 pub passed : (p : Profile) → badCount p ≡ false → badLength p ≡ false → badPoint p ≡ false → badRise p ≡ false → badTotal p ≡ false → Entered p
 passed p c1 c2 c3 c4 c5 =
     let point : ℤ → Bool = within lowestPoint highestPoint in
@@ -75,11 +75,7 @@ passed p c1 c2 c3 c4 c5 =
     let points = and-eq-true-iff (every point (p .floors)) (every point (p .ceilings)) .0 (not-false _ c3) in
     let totals = and-eq-true-iff (within lowestTotal highestTotal (p .lowest)) (within lowestTotal highestTotal (p .highest)) .0 (not-false _ c5) in
     record {
-      some = z .some;
-      few = z .few;
-      floors = z .floors;
-      ceilings = z .ceilings;
-      rises = z .rises;
+      sized = z;
       floor = λ k h. every-on point (p .floors) (points .0) k (omega (arith, z .floors));
       ceiling = λ k h. every-on point (p .ceilings) (points .1) k (omega (arith, z .ceilings));
       rise = λ k h. every-on (within lowestRise highestRise) (p .rises) (not-false _ c4) k (omega (arith, z .rises));
@@ -110,24 +106,24 @@ length-codes low zs n = length-written (λ k. code low (on zs k)) n zeros ∙ le
 
 module _ (p : Profile) (d : Entered p) where
   pub floor-code : (k : ℕ) → k < p .days → at (codes lowestPoint (p .floors) (p .days)) k ≡ code lowestPoint (on (p .floors) k)
-  floor-code k h = codes-at lowestPoint (p .floors) (p .days) k h (d .few)
+  floor-code k h = codes-at lowestPoint (p .floors) (p .days) k h (d .sized .few)
 
   pub ceiling-code : (k : ℕ) → k < p .days → at (codes lowestPoint (p .ceilings) (p .days)) k ≡ code lowestPoint (on (p .ceilings) k)
-  ceiling-code k h = codes-at lowestPoint (p .ceilings) (p .days) k h (d .few)
+  ceiling-code k h = codes-at lowestPoint (p .ceilings) (p .days) k h (d .sized .few)
 
   pub rise-code : (k : ℕ) → k + 1 < p .days → at (codes lowestRise (p .rises) (p .days - 1)) k ≡ code lowestRise (on (p .rises) k)
-  rise-code k h = codes-at lowestRise (p .rises) (p .days - 1) k (omega arith) (omega (arith, d .few))
+  rise-code k h = codes-at lowestRise (p .rises) (p .days - 1) k (omega arith) (omega (arith, d .sized .few))
 
   rise-small : (k : ℕ) → k < p .days → Dec (k < p .days - 1) → at (codes lowestRise (p .rises) (p .days - 1)) k ≤ 4000
   rise-small k h (yes l) = omega (arith, rise-code k (omega arith), rise-most (on (p .rises) k) (d .rise k l))
   rise-small k h (no l) =
-      omega (arith, written-past (λ j. code lowestRise (on (p .rises) j)) 0 (p .days - 1) zeros k (omega arith), getD-replicate {A = ℕ} 512 k 0 0 (omega (arith, d .few)))
+      omega (arith, written-past (λ j. code lowestRise (on (p .rises) j)) 0 (p .days - 1) zeros k (omega arith), getD-replicate {A = ℕ} 512 k 0 0 (omega (arith, d .sized .few)))
 
   pub codes-bounds : InBounds (codes lowestPoint (p .floors) (p .days)) (codes lowestPoint (p .ceilings) (p .days))
       (codes lowestRise (p .rises) (p .days - 1)) (p .days) (code lowestTotal (p .lowest)) (code lowestTotal (p .highest))
   codes-bounds = record {
-    some = d .some;
-    most = d .few;
+    some = d .sized .some;
+    most = d .sized .few;
     floors = length-codes lowestPoint (p .floors) (p .days);
     ceilings = length-codes lowestPoint (p .ceilings) (p .days);
     rises = length-codes lowestRise (p .rises) (p .days - 1);
