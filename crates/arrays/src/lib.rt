@@ -8,6 +8,7 @@ ghost use Rattle.method.specs.Filter.{mirrored, reversed};
 use numbers::narrow;
 use numbers::wide;
 
+// The sum of the first n levels.
 pub fn sum(levels: &[u16; 512], n: usize) -> usize
     requires { ⌜ n ≤ 512 ⌝ }
     ensures { λ r. ⌜ (r ≡ sum all n (at (now (levels .entry)))) × (r ≤ n * 65535) ⌝ }

@@ -49,6 +49,7 @@ fn held_total(levels: &[u16; 512], n: usize) -> usize
     sum(levels, n) + 1000 * (512 - n)
 }
 
+// There is no schedule.
 fn none() -> Totals
     ensures { λ r. ⌜ r ≡ record { found = false; least = 0; most = 0 } ⌝ }
 {
@@ -59,6 +60,8 @@ fn none() -> Totals
     }
 }
 
+// Tightens the ranges of n days and of the total, whose bounds are lowest and highest as held. Where there is no schedule the
+// arrays are left carried or lowered, as far as `tightened` says.
 pub fn tighten(
     floors: &mut [u16; 512],
     ceilings: &mut [u16; 512],

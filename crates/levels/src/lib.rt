@@ -7,11 +7,13 @@ ghost use lib.Signed.{_≤ℤ_};
 ghost use Rattle.series.specs.Written.{written};
 ghost use Rattle.levels.specs.Code.{lowestPoint, highestPoint, lowestRise, highestRise, lowestTotal, highestTotal, code, decoded, on, firstOutside, coded};
 
+// A number's code, by how much it is above its lowest bound, or that it is outside its bounds.
 pub enum Coded {
     Code(usize),
     Outside,
 }
 
+// Document 01's bounds of an entry.
 pub const LOWEST_POINT: i32 = -1000;
 
 pub const HIGHEST_POINT: i32 = 4000;
