@@ -1,3 +1,4 @@
 pub mod Offset
 pub mod Code
 pub mod Laws
+pub mod Order

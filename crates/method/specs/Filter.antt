@@ -38,7 +38,7 @@ firstCrossed a b (suc m) = let r : ℕ = firstCrossed a b m in cond (ltb r m) r 
 
 -- ---- ceilings
 
--- the floor of day k, shifted
+-- the level of day k in a list, shifted
 abbrev pub shifted : List ℕ → List ℕ → ℕ → ℕ → ℕ
 shifted l rs n k = at l k + shift (at rs) n k
 

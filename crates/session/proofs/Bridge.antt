@@ -18,7 +18,7 @@ use Rattle.session.specs.Profile.{Profile, Schedule, total}
 use Rattle.session.specs.Opening.{codes}
 use Rattle.session.proofs.Lists as Lists
 use Rattle.session.proofs.Lists.{listOf, length-listOf, on-listOf}
-use Rattle.session.proofs.Order.{≤ℤ-trans}
+use Rattle.levels.specs.Order.{≤ℤ-trans}
 use Rattle.session.proofs.Entered.{Entered, floor-code, ceiling-code, rise-code}
 
 -- a number within bounds is its code less the offset

@@ -19,7 +19,7 @@ use Rattle.method.specs.Stages.{Crossing, crossing}
 use Rattle.session.specs.Profile.{Profile}
 use Rattle.session.specs.Opening.{narrowed, openedWith, every, crossed, earlier, opened, refusedWith, codes, badCount, badLength, badPoint, badRise, badTotal, badRange}
 use Rattle.session.specs.Stages.{openedCodes, lengthRefusal}
-use Rattle.session.proofs.Order.{same-test, less-test}
+use Rattle.levels.specs.Order.{same-test, less-test}
 use Rattle.session.proofs.Entered.{Entered, Sized, sized, passed, codes-bounds, or-true}
 use Rattle.session.proofs.Bridge.{floor-less, ceiling-less, lowest-less, highest-less}
 

@@ -21,7 +21,7 @@ use Rattle.session.specs.Profile.{Profile, Schedule, Spans, total}
 use Rattle.session.specs.Opening.{earlier, badCount, badLength, badPoint, badRise, badTotal, badRange, opened, refusedWith, narrowed, codes, fresh, rangesOf}
 use Rattle.session.specs.Demands.{Exact, Demand2}
 use Rattle.session.specs.declared.Opened.{Opened}
-use Rattle.session.proofs.Order.{≤ℤ-trans}
+use Rattle.levels.specs.Order.{≤ℤ-trans}
 use Rattle.session.proofs.Entered.{Entered, entered, codes-bounds}
 use Rattle.session.proofs.Bridge.{held-less, CodesOf, to-codes, of-codes, levels-of, pointsOf, points-length, points-less}
 

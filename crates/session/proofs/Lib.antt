@@ -1,4 +1,3 @@
-pub mod Order
 pub mod Lists
 pub mod Entered
 pub mod Bridge
