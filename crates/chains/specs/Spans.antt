@@ -1,6 +1,7 @@
 -- The range of values that a number takes on a set of sequences.
 use mathlib.Core.Path.{_≡_}
 use Prim.Native.Nat.{ℕ, _+_, _-_, _≤_}
+use native.Mathlib.Nat.{le-refl}
 use native.Mathlib.Omega.{arith}
 
 -- the values of f on the sequences of S run exactly from lo to hi: none lies outside, and each number from lo to hi is one of them
@@ -17,6 +18,20 @@ spans-same there back s =
       inside = λ x t. s .inside x (there x t);
       taken = λ v l h. let z = s .taken v l h in (z .0, back (z .0) (z .1), z .2);
     }
+
+-- it is the only range
+module _ {S : (ℕ → ℕ) → Type 0} {f : (ℕ → ℕ) → ℕ} {lo hi lo′ hi′ : ℕ} (a : Spans S f lo hi) (b : Spans S f lo′ hi′) where
+  least-below : lo ≤ lo′
+  least-below = let z = b .taken lo′ (le-refl lo′) (b .some) in omega (arith, a .inside (z .0) (z .1) .0, z .2)
+
+  most-above : hi′ ≤ hi
+  most-above = let z = b .taken hi′ (b .some) (le-refl hi′) in omega (arith, a .inside (z .0) (z .1) .1, z .2)
+
+pub spans-least : {S : (ℕ → ℕ) → Type 0} {f : (ℕ → ℕ) → ℕ} {lo hi lo′ hi′ : ℕ} → Spans S f lo hi → Spans S f lo′ hi′ → lo ≡ lo′
+spans-least a b = omega (arith, least-below a b, least-below b a)
+
+pub spans-most : {S : (ℕ → ℕ) → Type 0} {f : (ℕ → ℕ) → ℕ} {lo hi lo′ hi′ : ℕ} → Spans S f lo hi → Spans S f lo′ hi′ → hi ≡ hi′
+spans-most a b = omega (arith, most-above a b, most-above b a)
 
 -- a sequence of T for which e and c make up v
 abbrev pub Like : ((ℕ → ℕ) → Type 0) → ((ℕ → ℕ) → ℕ) → ℕ → ℕ → Type 0

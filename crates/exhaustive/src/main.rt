@@ -1,7 +1,9 @@
-// Small profiles opened, and compared with an exhaustive search.
+// Small profiles opened, and lists of cuts on them, compared with an exhaustive search.
+mod lists;
 mod search;
 mod small;
 
 fn main() {
     small::print();
+    lists::print();
 }

@@ -1,12 +1,25 @@
 // Small profiles from a fixed pseudo-random sequence, each opened, searched and compared.
 use crate::search;
+use crate::search::Row;
 use session::Opened;
+use session::Ranges;
 use session::Session;
-ghost use mathlib.Core.Path.{_≡_};
-ghost use Prim.Native.Nat.{_+_, _≤_, _<_};
-ghost use Rattle.exhaustive.specs.Small.{Low};
+ghost use Prim.Native.Nat.{_≤_, _<_};
+ghost use Rattle.exhaustive.specs.Small.{Low, Small};
+ghost use Rattle.session.specs.Showing.{Sane};
 
 const PROFILES: usize = 2400;
+
+// A profile over levels, with rises held plus 1,000 too and the total's bounds plus 512,000, and where the sequence stands.
+pub(crate) struct Profile {
+    pub n: usize,
+    pub floors: [u16; 512],
+    pub ceilings: [u16; 512],
+    pub rises: [u16; 512],
+    pub lowest: usize,
+    pub highest: usize,
+    pub seed: usize,
+}
 
 // How many profiles have no schedule, at how many opening and the search differ, and where the sequence stands.
 struct Tally {
@@ -16,14 +29,14 @@ struct Tally {
 }
 
 // The next number of the sequence.
-fn next(seed: usize) -> usize
+pub(crate) fn next(seed: usize) -> usize
     requires { ⌜ seed < 2147483647 ⌝ }
     ensures { λ r. ⌜ r < 2147483647 ⌝ }
 {
     seed * 48271 % 2147483647
 }
 
-fn remainder(x: usize, m: usize) -> usize
+pub(crate) fn remainder(x: usize, m: usize) -> usize
     requires { ⌜ 0 < m ⌝ }
     ensures { λ r. ⌜ r < m ⌝ }
 {
@@ -67,31 +80,77 @@ fn sum(floors: &[u16; 512], n: usize) -> usize
     t
 }
 
-// Rises are held plus 1,000 here, as levels are.
-fn opened(
-    floors: &[u16; 512],
-    ceilings: &[u16; 512],
-    rises: &[u16; 512],
-    n: usize,
-    lowest: usize,
-    highest: usize,
-) -> Opened
-    requires { ⌜ (0 < n) × (n ≤ 4) × Low (now floors) n × Low (now ceilings) n × Low (now rises) n ⌝ }
-    requires { ⌜ (lowest ≤ 2560000) × (highest ≤ 2560000) ⌝ }
+// Draws a profile, with a range of up to 6 totals that begins near the sum of the floors.
+pub(crate) fn drawn(seed: usize) -> Profile
+    requires { ⌜ seed < 2147483647 ⌝ }
+    ensures { λ r. ⌜ (r .seed < 2147483647) × Small (r .n) (r .floors) (r .ceilings) (r .rises) (r .lowest) (r .highest) ⌝ }
 {
+    let first = next(seed);
+    let n = first % 4 + 1;
+    let mut floors = [0u16; 512];
+    let mut ceilings = [0u16; 512];
+    let mut rises = [0u16; 512];
+    let last = next(draw(first, n, &mut floors, &mut ceilings, &mut rises));
+    let lowest = sum(&floors, n) - 1 + remainder(last, 4 + 2 * n);
+    Profile {
+        n,
+        floors,
+        ceilings,
+        rises,
+        lowest,
+        highest: lowest + last / 64 % 6,
+        seed: last,
+    }
+}
+
+pub(crate) fn opened(p: Profile) -> Opened
+    requires { ⌜ Small (p .n) (p .floors) (p .ceilings) (p .rises) (p .lowest) (p .highest) ⌝ }
+    ensures { λ r. ⌜ Sane (r .session) ⌝ }
+{
+    let n = p.n;
+    let floors = p.floors;
+    let ceilings = p.ceilings;
+    let rises = p.rises;
     let mut low = [0i16; 4];
-    levels::show_points(floors, n, &mut low);
+    levels::show_points(&floors, n, &mut low);
     let mut high = [0i16; 4];
-    levels::show_points(ceilings, n, &mut high);
+    levels::show_points(&ceilings, n, &mut high);
     let mut rise = [0i16; 4];
-    levels::show_points(rises, n, &mut rise);
+    levels::show_points(&rises, n, &mut rise);
     Session::open(
         n,
         &low[..n],
         &high[..n],
         &rise[..n - 1],
-        levels::show_total(lowest),
-        levels::show_total(highest),
+        levels::show_total(p.lowest),
+        levels::show_total(p.highest),
+    )
+}
+
+// Searches the profile's schedules that keep the valid ones of the first `count` cuts.
+pub(crate) fn searched(
+    p: Profile,
+    cuts: [Row; 8],
+    count: usize,
+    lows: &mut [usize; 5],
+    highs: &mut [usize; 5],
+) -> usize
+    requires { ⌜ (p .n ≤ 4) × (count ≤ 8) ⌝ }
+{
+    let floors = p.floors;
+    let ceilings = p.ceilings;
+    let rises = p.rises;
+    search::search(
+        &floors,
+        &ceilings,
+        &rises,
+        p.n,
+        p.lowest,
+        p.highest,
+        cuts,
+        count,
+        lows,
+        highs,
     )
 }
 
@@ -117,6 +176,21 @@ fn same_days(
     true
 }
 
+// Whether the ranges are what the search found.
+pub(crate) fn found_ranges(r: Ranges, n: usize, lows: &[usize; 5], highs: &[usize; 5]) -> bool
+    requires { ⌜ n ≤ 4 ⌝ }
+{
+    if r.least != lows[search::TOTAL] {
+        return false;
+    }
+    if r.most != highs[search::TOTAL] {
+        return false;
+    }
+    let floors = r.floors;
+    let ceilings = r.ceilings;
+    same_days(&floors, &ceilings, n, lows, highs)
+}
+
 // Whether opening says what the search found: 8 if there is no schedule, else the ranges.
 fn agree(o: Opened, n: usize, found: usize, lows: &[usize; 5], highs: &[usize; 5]) -> bool
     requires { ⌜ n ≤ 4 ⌝ }
@@ -129,84 +203,33 @@ fn agree(o: Opened, n: usize, found: usize, lows: &[usize; 5], highs: &[usize; 5
     }
     let s = o.session;
     let r = s.present;
-    if r.least != lows[search::TOTAL] {
-        return false;
-    }
-    if r.most != highs[search::TOTAL] {
-        return false;
-    }
-    let floors = r.floors;
-    let ceilings = r.ceilings;
-    same_days(&floors, &ceilings, n, lows, highs)
+    found_ranges(r, n, lows, highs)
 }
 
-fn counted(x: bool) -> usize
+pub(crate) fn counted(x: bool) -> usize
     ensures { λ r. ⌜ r ≤ 1 ⌝ }
 {
     if x { 1 } else { 0 }
 }
 
-// Opens and searches a profile.
-fn judged(
-    floors: &[u16; 512],
-    ceilings: &[u16; 512],
-    rises: &[u16; 512],
-    n: usize,
-    lowest: usize,
-    highest: usize,
-    seed: usize,
-) -> Tally
-    requires { ⌜ (0 < n) × (n ≤ 4) × Low (now floors) n × Low (now ceilings) n × Low (now rises) n ⌝ }
-    requires { ⌜ (lowest ≤ 2560000) × (highest ≤ 2560000) ⌝ }
-    ensures { λ r. ⌜ (r .none ≤ 1) × (r .differences ≤ 1) × (r .seed ≡ seed) ⌝ }
+pub(crate) fn tallied(x: usize, happened: bool) -> usize {
+    std::num::wrapping_add_usize(x, counted(happened))
+}
+
+// Draws a profile, opens and searches it: the tally with one more profile.
+fn turn(t: Tally) -> Tally
+    requires { ⌜ t .seed < 2147483647 ⌝ }
+    ensures { λ r. ⌜ r .seed < 2147483647 ⌝ }
 {
+    let p = drawn(t.seed);
     let mut lows = [search::ABOVE; 5];
     let mut highs = [0; 5];
-    let found = search::search(
-        floors,
-        ceilings,
-        rises,
-        n,
-        lowest,
-        highest,
-        &mut lows,
-        &mut highs,
-    );
-    let o = opened(floors, ceilings, rises, n, lowest, highest);
-    let same = agree(o, n, found, &lows, &highs);
+    let found = searched(p, [search::unknown(); 8], 0, &mut lows, &mut highs);
+    let same = agree(opened(p), p.n, found, &lows, &highs);
     Tally {
-        none: counted(found == 0),
-        differences: counted(!same),
-        seed: seed,
-    }
-}
-
-// Draws a profile, with a range of up to 6 totals that begins near the sum of the floors.
-fn turn(seed: usize) -> Tally
-    requires { ⌜ seed < 2147483647 ⌝ }
-    ensures { λ r. ⌜ (r .none ≤ 1) × (r .differences ≤ 1) × (r .seed < 2147483647) ⌝ }
-{
-    let first = next(seed);
-    let n = first % 4 + 1;
-    let mut floors = [0u16; 512];
-    let mut ceilings = [0u16; 512];
-    let mut rises = [0u16; 512];
-    let last = next(draw(first, n, &mut floors, &mut ceilings, &mut rises));
-    let lowest = sum(&floors, n) - 1 + remainder(last, 4 + 2 * n);
-    let highest = lowest + last / 64 % 6;
-    judged(&floors, &ceilings, &rises, n, lowest, highest, last)
-}
-
-// The tally with one more profile.
-fn onward(t: Tally) -> Tally
-    requires { ⌜ (t .none ≤ 2400) × (t .differences ≤ 2400) × (t .seed < 2147483647) ⌝ }
-    ensures { λ r. ⌜ (r .none ≤ t .none + 1) × (r .differences ≤ t .differences + 1) × (r .seed < 2147483647) ⌝ }
-{
-    let one = turn(t.seed);
-    Tally {
-        none: t.none + one.none,
-        differences: t.differences + one.differences,
-        seed: one.seed,
+        none: tallied(t.none, found == 0),
+        differences: tallied(t.differences, !same),
+        seed: p.seed,
     }
 }
 
@@ -218,7 +241,7 @@ fn compared() -> Tally {
     };
     let mut k = 0;
     while k < PROFILES {
-        t = onward(t);
+        t = turn(t);
         k += 1;
     }
     t

@@ -1,4 +1,4 @@
--- The tests, sums and casts of signed numbers, as the needs of `coded_from`, `signed` and `point` have them.
+-- The tests, sums and casts of signed numbers, as the needs of `coded_from`, `signed` and `point_of` have them.
 use Prim.Native.Nat.{ℕ, _≤_, _<_, _^_}
 use mathlib.Core.Path.{_≡_, refl, _∙_, subst}
 use mathlib.Core.Bool.{Bool, true, false, cond}
@@ -75,7 +75,7 @@ module _ {low high z : ℤ} (fl : SFits w32 low) (fh : SFits w32 high) (fz : SFi
     pub taken : Code (natAbs (seen (seen z -ℤ seen low))) ≡ coded low high z
     taken = rw (same, inside)
 
--- `signed` and `point`
+-- `signed` and `point_of`
 low-less : (low : ℤ) → low ≤ℤ pos 0 → Less low 0 (natAbs low)
 low-less (pos a) h = omega (arith, leb→le a 0 (h .le))
 low-less (negsuc a) h = omega arith

@@ -80,6 +80,9 @@ within-yes low high z =
       λ w. both .1 (is-true (leZ low z) (w .0 .le), is-true (leZ z high) (w .1 .le)),
     )
 
+pub within-less : (low high z : ℤ) (k : ℕ) → Less low 0 k → within low high z ≡ true → Less z (code low z) k
+within-less low high z k p e = code-less low z k p (within-yes low high z .0 e .0)
+
 pub code-most : (low high z : ℤ) → within low high z ≡ true → code low z ≤ code low high
 code-most low high z h =
     let w = within-yes low high z .0 h in

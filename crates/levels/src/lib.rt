@@ -39,6 +39,12 @@ fn coded_from(z: i32, low: i32, high: i32) -> Coded
     Coded::Code((z - low) as usize)
 }
 
+pub fn point(z: i32) -> Coded
+    ensures { λ r. ⌜ r ≡ coded lowestPoint highestPoint z ⌝ }
+{
+    coded_from(z, LOWEST_POINT, HIGHEST_POINT)
+}
+
 pub fn total(z: i32) -> Coded
     ensures { λ r. ⌜ r ≡ coded lowestTotal highestTotal z ⌝ }
 {
@@ -89,7 +95,7 @@ fn signed(n: usize, low: i32) -> i32
     low + n as i32
 }
 
-fn point(level: u16) -> i16
+fn point_of(level: u16) -> i16
     requires { ⌜ level ≤ 5000 ⌝ }
     ensures { λ r. ⌜ r ≡ decoded lowestPoint level ⌝ }
 {
@@ -103,7 +109,7 @@ pub fn show_points(levels: &[u16; 512], n: usize, out: &mut [i16])
 {
     let mut k = 0;
     while k < n {
-        out[k] = point(levels[k]);
+        out[k] = point_of(levels[k]);
         k += 1;
     }
 }

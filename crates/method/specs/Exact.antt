@@ -19,7 +19,7 @@ use Rattle.chains.specs.Spans.{Spans, spans-same}
 use Rattle.method.specs.Shift.{shift}
 use Rattle.method.specs.Filter.{InBounds, Tight, held, shifted, lowered, carried, firstCrossed, forwarded, loweredAll, raised, tightFloors, tightCeilings, tightened}
 use Rattle.method.specs.Stages.{Ready, by-order, ready, crossing, carried-above, forwarded-at, lowered-ready, lowered-rising, floors-chain, raised-is}
-use Rattle.method.specs.Levels.{Levels, rebound, shiftedTotal, shifts-low, shifted-sum, shifted-sched, day-spans, total-spans}
+use Rattle.method.specs.Levels.{Levels, refit, rebound, shiftedTotal, shifts-low, shifted-sum, shifted-sched, day-spans, total-spans}
 use Rattle.method.specs.Passes.{scale, within-scale, ceilings-are, floors-are}
 
 -- the ranges of t are the values that levels within the bounds take, and no others; past the last day nothing has changed
@@ -47,39 +47,17 @@ module _ {fs cs rs : List ℕ} {n L U : ℕ} {t : Tight} (e : Exact fs cs rs n L
 
   -- the levels within them are the same
   pub tighter : (x : ℕ → ℕ) → Levels fs cs rs n L U x → Levels (t .floors) (t .ceilings) rs n (t .least) (t .most) x
-  tighter x l =
-      record {
-        floor = λ k h. e .day k h .inside x l .0;
-        ceiling = λ k h. e .day k h .inside x l .1;
-        rise = l .rise;
-        least = e .total .inside x l .0;
-        most = e .total .inside x l .1;
-      }
+  tighter x l = rebound l (λ k h. e .day k h .inside x l .0) (λ k h. e .day k h .inside x l .1) (e .total .inside x l .0) (e .total .inside x l .1)
 
   pub looser : (x : ℕ → ℕ) → Levels (t .floors) (t .ceilings) rs n (t .least) (t .most) x → Levels fs cs rs n L U x
   looser x l =
-      record {
-        floor = λ k h. omega (arith, floor-kept k h, l .floor k h);
-        ceiling = λ k h. omega (arith, ceiling-kept k h, l .ceiling k h);
-        rise = l .rise;
-        least = omega (arith, least-kept, l .least);
-        most = omega (arith, most-kept, l .most);
-      }
+      rebound l (λ k h. omega (arith, floor-kept k h, l .floor k h)) (λ k h. omega (arith, ceiling-kept k h, l .ceiling k h)) (omega (arith, least-kept, l .least))
+      (omega (arith, most-kept, l .most))
 
   pub exact-in-bounds : InBounds fs cs rs n L U → InBounds (t .floors) (t .ceilings) rs n (t .least) (t .most)
   exact-in-bounds b =
-      record {
-        some = b .some;
-        most = b .most;
-        floors = e .floors;
-        ceilings = e .ceilings;
-        rises = b .rises;
-        floor = λ k h. omega (arith, e .day k h .some, ceiling-kept k h, b .ceiling k h);
-        ceiling = λ k h. omega (arith, ceiling-kept k h, b .ceiling k h);
-        rise = b .rise;
-        lowest = omega (arith, e .total .some, most-kept, b .highest);
-        highest = omega (arith, most-kept, b .highest);
-      }
+      refit b (e .floors) (e .ceilings) (λ k h. omega (arith, e .day k h .some, ceiling-kept k h, b .ceiling k h)) (λ k h. omega (arith, ceiling-kept k h, b .ceiling k h))
+      (omega (arith, e .total .some, most-kept, b .highest)) (omega (arith, most-kept, b .highest))
 
 -- none found where there are no levels within the bounds, and exact ranges otherwise
 pub record Right (fs cs rs : List ℕ) (n L U : ℕ) (t : Tight) : Type 0 where
@@ -103,10 +81,10 @@ module _ {fs cs rs : List ℕ} {n : ℕ} (r : Ready fs cs rs n) (L U : ℕ) (wit
 
   -- a least total below that of the floors says nothing
   with-lowest : (x : ℕ → ℕ) → Levels fs cs rs n L U x → Levels fs cs rs n lowest U x
-  with-lowest x l = rebound l (l .floor) (omega (arith, l .least, sum-le all n (at fs) x (l .floor)))
+  with-lowest x l = rebound l (l .floor) (l .ceiling) (omega (arith, l .least, sum-le all n (at fs) x (l .floor))) (l .most)
 
   without-lowest : (x : ℕ → ℕ) → Levels fs cs rs n lowest U x → Levels fs cs rs n L U x
-  without-lowest x l = rebound l (l .floor) (omega (arith, l .least))
+  without-lowest x l = rebound l (l .floor) (l .ceiling) (omega (arith, l .least)) (l .most)
 
   abbrev a₀ : ℕ → ℕ
   a₀ = shifted fs rs n
@@ -245,10 +223,10 @@ module _ {fs cs rs : List ℕ} {n L U : ℕ} where
       }
     where
       up : (x : ℕ → ℕ) → Levels fs cs rs n L U x → Levels (forwarded fs rs n) cs rs n L U x
-      up x l = rebound l (λ k u. omega (arith, forwarded-at b h k u, carried-least x l k u)) (l .least)
+      up x l = rebound l (λ k u. omega (arith, forwarded-at b h k u, carried-least x l k u)) (l .ceiling) (l .least) (l .most)
 
       down : (x : ℕ → ℕ) → Levels (forwarded fs rs n) cs rs n L U x → Levels fs cs rs n L U x
-      down x l = rebound l (λ k u. omega (arith, forwarded-at b h k u, carried-above fs rs k, l .floor k u)) (l .least)
+      down x l = rebound l (λ k u. omega (arith, forwarded-at b h k u, carried-above fs rs k, l .floor k u)) (l .ceiling) (l .least) (l .most)
 
 pub right : {fs cs rs : List ℕ} {n L U : ℕ} → InBounds fs cs rs n L U → Right fs cs rs n L U (tightened fs cs rs n L U)
 unfolding tightened

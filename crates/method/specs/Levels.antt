@@ -4,6 +4,7 @@ use mathlib.Core.Path.{_≡_}
 use mathlib.Core.List.{List}
 use native.Mathlib.Numerals.{add-one}
 use native.Mathlib.Omega.{arith}
+use lib.ListN.{length}
 use Rattle.series.specs.Sum.{at}
 use Rattle.chains.specs.Sum.{sum, all, sum-eq}
 use Rattle.chains.specs.Chain.{Below}
@@ -12,7 +13,7 @@ use Rattle.chains.specs.Exact.{Sched}
 use Rattle.chains.specs.Rounds.{free}
 use Rattle.chains.specs.Spans.{Spans, spans-moved}
 use Rattle.method.specs.Shift.{shift, shift-low}
-use Rattle.method.specs.Filter.{shifted, held}
+use Rattle.method.specs.Filter.{InBounds, shifted, held}
 use Rattle.method.specs.Stages.{Ready, shifted-rise, shift-most}
 
 -- n days' levels x within the bounds: what `tightened` is about
@@ -23,9 +24,26 @@ pub record Levels (fs cs rs : List ℕ) (n L U : ℕ) (x : ℕ → ℕ) : Type 0
   pub least : L ≤ held n x
   pub most : held n x ≤ U
 
--- other floors and another least total
-pub rebound : {fs gs cs rs : List ℕ} {n L M U : ℕ} {x : ℕ → ℕ} → Levels fs cs rs n L U x → ((k : ℕ) → k < n → at gs k ≤ x k) → M ≤ held n x → Levels gs cs rs n M U x
-rebound l floor least = record { floor = floor; ceiling = l .ceiling; rise = l .rise; least = least; most = l .most }
+-- other ranges in bounds, the same rises
+pub refit : {fs gs cs ds rs : List ℕ} {n L L′ U U′ : ℕ} → InBounds fs cs rs n L U → length gs ≡ 512 → length ds ≡ 512 → ((k : ℕ) → k < n → at gs k ≤ 5000)
+    → ((k : ℕ) → k < n → at ds k ≤ 5000) → L′ ≤ 2560000 → U′ ≤ 2560000 → InBounds gs ds rs n L′ U′
+refit b floors ceilings floor ceiling lowest highest = record {
+  some = b .some;
+  most = b .most;
+  floors = floors;
+  ceilings = ceilings;
+  rises = b .rises;
+  floor = floor;
+  ceiling = ceiling;
+  rise = b .rise;
+  lowest = lowest;
+  highest = highest;
+}
+
+-- levels within other bounds, the same rises
+pub rebound : {fs gs cs ds rs : List ℕ} {n L L′ U U′ : ℕ} {x : ℕ → ℕ} → Levels fs cs rs n L U x → ((k : ℕ) → k < n → at gs k ≤ x k) → ((k : ℕ) → k < n → x k ≤ at ds k)
+    → L′ ≤ held n x → held n x ≤ U′ → Levels gs ds rs n L′ U′ x
+rebound l floor ceiling least most = record { floor = floor; ceiling = ceiling; rise = l .rise; least = least; most = most }
 
 -- a held total as the total of the shifted levels
 abbrev pub shiftedTotal : List ℕ → ℕ → ℕ → ℕ

@@ -20,8 +20,7 @@ use Rattle.session.specs.Profile.{Profile}
 use Rattle.session.specs.Opening.{narrowed, openedWith, every, crossed, earlier, opened, refusedWith, codes, badCount, badLength, badPoint, badRise, badTotal, badRange}
 use Rattle.session.specs.Stages.{openedCodes, lengthRefusal}
 use Rattle.levels.specs.Order.{same-test, less-test}
-use Rattle.session.proofs.Entered.{Entered, Sized, sized, passed, codes-bounds, or-true}
-use Rattle.session.proofs.Bridge.{floor-less, ceiling-less, lowest-less, highest-less}
+use Rattle.session.specs.Entered.{Entered, Sized, sized, passed, codes-bounds, or-true, floor-less, ceiling-less, lowest-less, highest-less}
 
 -- ---- every number within its bounds
 

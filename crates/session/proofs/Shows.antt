@@ -17,7 +17,7 @@ use Rattle.series.specs.Written.{written}
 use Rattle.session.specs.Showing.{shown, shownList, listTooShort, totalFloor, totalCeiling}
 use Rattle.session.specs.declared.Session.{Session}
 use Rattle.session.specs.declared.Shown.{Shown}
-use Rattle.session.proofs.Entered.{or-true}
+use Rattle.session.specs.Entered.{or-true}
 
 module _ (s : Session) (a b : ℕ) where
   pub first-short : a < s .days → listTooShort ≡ shown s a b

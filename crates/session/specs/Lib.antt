@@ -1,6 +1,6 @@
 pub mod Profile
 pub mod Opening
 pub mod Showing
-pub mod Demands
-pub mod Starred
 pub mod Stages
+pub mod Entered
+pub mod Sanity

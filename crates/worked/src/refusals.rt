@@ -1,13 +1,8 @@
-// One line for each bound of an entry and each refusal of opening. A line ends with the refusal, 0 for none.
+// One line for each bound of an entry and each refusal of opening.
+use crate::line;
 use session::Session;
 ghost use Prim.Native.Nat.{_≤_, max};
 ghost use lib.ListN.{length};
-
-fn line(text: &[u8], refusal: u8) {
-    io::write_all(1, text);
-    io::print_decimal(1, refusal as u64);
-    io::write_all(1, b"\n");
-}
 
 fn refusal(
     days: usize,

@@ -1,19 +1,15 @@
+use mathlib.Core.Path.{ap, _∙_}
 use borrow.Author.Needs.{needs}
-use mathlib.Core.Path.{_∙_}
-use mir.Facts.{sfits-widen}
-use mir.Syntax.{w16, w32}
-use Rattle.levels.proofs.Casts.{point-fits, recast, recast-fits}
+use mir.Facts.{toZ-ofZ}
+use Rattle.levels.specs.Code.{lowestPoint, highestPoint, coded}
 use Rattle.levels.proofs.point.Statement.{statement}
 use Rattle.levels.proofs.point.Tie as tie
 
-signed-requires : tie.Need-signed-requires
-signed-requires c κs = search needs
-
-cast-result : tie.Need-cast-result
-cast-result c = let f = point-fits (c .signed .ensures) (c .before .pre) in recast-fits w32 w16 (sfits-widen tt f) f
+coded-from-requires : tie.Need-coded-from-requires
+coded-from-requires c κs = search needs
 
 returns : tie.Need-returns
-returns c = let f = point-fits (c .signed .ensures) (c .before .pre) in recast w32 w16 (sfits-widen tt f) f ∙ c .signed .ensures
+returns c = c .coded-from .ensures ∙ ap (coded lowestPoint highestPoint) (toZ-ofZ (c .before .fits .z))
 
 pub point-spec : {M : Type 1} → statement M
-point-spec = tie.close (tie.spec signed-requires cast-result returns)
+point-spec = tie.close (tie.spec coded-from-requires returns)

@@ -16,14 +16,14 @@ abbrev μ-loop : tie.MeasureT-loop
 loop-holds : tie.Need-loop-holds Inv-loop μ-loop
 loop-holds c = filled-none
 
-mul-point : tie.Need-mul-point Inv-loop μ-loop
-mul-point c = search needs
+mul-point-of : tie.Need-mul-point-of Inv-loop μ-loop
+mul-point-of c = search needs
 
-element-copy-out-point : tie.Need-element-copy-out-point Inv-loop μ-loop
-element-copy-out-point c = search needs
+element-copy-out-point-of : tie.Need-element-copy-out-point-of Inv-loop μ-loop
+element-copy-out-point-of c = search needs
 
-point-requires : tie.Need-point-requires Inv-loop μ-loop
-point-requires c κs = c .before .before .before .pre .2 (c .before .before .loop .k) (c .before .loop-test .taken)
+point-of-requires : tie.Need-point-of-requires Inv-loop μ-loop
+point-of-requires c κs = c .before .before .before .pre .2 (c .before .before .loop .k) (c .before .loop-test .taken)
 
 mul-t11 : tie.Need-mul-t11 Inv-loop μ-loop
 mul-t11 c = search needs
@@ -40,7 +40,7 @@ loop-less c = search needs
 loop-again : tie.Need-loop-again Inv-loop μ-loop
 loop-again c =
     let l = c .before .before .loop-test .taken in
-    filled-more (c .before .before .before .loop .inv) l (point-seen (c .point .ensures) (c .before .before .before .before .pre .2 (c .before .before .before .loop .k) l))
+    filled-more (c .before .before .before .loop .inv) l (point-seen (c .point-of .ensures) (c .before .before .before .before .pre .2 (c .before .before .before .loop .k) l))
 
 same-length : tie.Need-same-length Inv-loop μ-loop
 same-length c = search needs
@@ -55,9 +55,9 @@ show-points-spec =
     Inv-loop
     μ-loop
     loop-holds
-    mul-point
-    element-copy-out-point
-    point-requires
+    mul-point-of
+    element-copy-out-point-of
+    point-of-requires
     mul-t11
     slice-set-from-out
     add-k

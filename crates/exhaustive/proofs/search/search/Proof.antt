@@ -1,17 +1,17 @@
 -- `exhaustive::search::search` meets its contract. The invariant: no more schedules than lists. The measure is the lists left. Assumes nothing.
-use Prim.Native.Nat.{_-_, _≤_}
 use borrow.Author.Needs.{needs}
+use Prim.Native.Nat.{_-_, _≤_}
 use Rattle.exhaustive.proofs.search.search.Statement.{statement}
 use Rattle.exhaustive.proofs.search.search.Tie as tie
 
 abbrev Inv-loop : tie.InvT-loop
-Inv-loop floors ceilings rises n lowest highest lows₀ highs₀ end found₀ list₀ lows highs found list = (found ≤ list) × (list ≤ end)
+Inv-loop floors ceilings rises n lowest highest cuts count lows₀ highs₀ end found₀ list₀ lows highs found list = (found ≤ list) × (list ≤ end)
 
 abbrev μ-loop : tie.MeasureT-loop
-μ-loop floors ceilings rises n lowest highest lows₀ highs₀ end found₀ list₀ lows highs found list = end - list
+μ-loop floors ceilings rises n lowest highest cuts count lows₀ highs₀ end found₀ list₀ lows highs found list = end - list
 
-lists-requires : tie.Need-lists-requires Inv-loop μ-loop
-lists-requires c κs = search needs
+power-requires : tie.Need-power-requires Inv-loop μ-loop
+power-requires c κs = search needs
 
 loop-holds : tie.Need-loop-holds Inv-loop μ-loop
 loop-holds c = search needs
@@ -40,7 +40,7 @@ search-spec =
     (tie.spec
     Inv-loop
     μ-loop
-    lists-requires
+    power-requires
     loop-holds
     taken-requires
     add-found

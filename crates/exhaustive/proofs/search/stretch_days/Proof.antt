@@ -1,29 +1,20 @@
 -- `exhaustive::search::stretch_days` meets its contract. The measure is the days left. Assumes nothing.
-use Prim.Native.Nat.{_-_, _≤_}
 use borrow.Author.Needs.{needs}
+use Prim.Native.Nat.{_-_, _≤_}
 use Rattle.exhaustive.proofs.search.stretch_days.Statement.{statement}
 use Rattle.exhaustive.proofs.search.stretch_days.Tie as tie
 
 abbrev Inv-loop : tie.InvT-loop
-Inv-loop list floors n lows₀ highs₀ rest₀ d₀ lows highs rest d = d ≤ n
+Inv-loop list floors n lows₀ highs₀ d₀ lows highs d = d ≤ n
 
 abbrev μ-loop : tie.MeasureT-loop
-μ-loop list floors n lows₀ highs₀ rest₀ d₀ lows highs rest d = n - d
+μ-loop list floors n lows₀ highs₀ d₀ lows highs d = n - d
 
 loop-holds : tie.Need-loop-holds Inv-loop μ-loop
 loop-holds c = search needs
 
-mul-wide : tie.Need-mul-wide Inv-loop μ-loop
-mul-wide c = search needs
-
-element-copy-out-wide : tie.Need-element-copy-out-wide Inv-loop μ-loop
-element-copy-out-wide c = search needs
-
-wide-requires : tie.Need-wide-requires Inv-loop μ-loop
-wide-requires c κs = search needs
-
-add-stretch : tie.Need-add-stretch Inv-loop μ-loop
-add-stretch c = search needs
+setpoint-requires : tie.Need-setpoint-requires Inv-loop μ-loop
+setpoint-requires c κs = search needs
 
 stretch-requires : tie.Need-stretch-requires Inv-loop μ-loop
 stretch-requires c κs = search needs
@@ -47,10 +38,7 @@ stretch-days-spec =
     Inv-loop
     μ-loop
     loop-holds
-    mul-wide
-    element-copy-out-wide
-    wide-requires
-    add-stretch
+    setpoint-requires
     stretch-requires
     add-d
     loop-less

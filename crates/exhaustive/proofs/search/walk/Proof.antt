@@ -1,17 +1,20 @@
--- `exhaustive::search::walk` meets its contract. The invariant: each day passed added at most 65,535 to the sum. The measure is the days left. Assumes nothing.
-use Prim.Native.Nat.{_*_, _-_, _≤_}
+-- `exhaustive::search::walk` meets its contract. The invariant: each day passed added at most 65,540 to the sum. The measure is the days left. Assumes nothing.
 use borrow.Author.Needs.{needs}
+use Prim.Native.Nat.{_*_, _-_, _≤_}
 use Rattle.exhaustive.proofs.search.walk.Statement.{statement}
 use Rattle.exhaustive.proofs.search.walk.Tie as tie
 
 abbrev Inv-loop : tie.InvT-loop
-Inv-loop list floors ceilings rises n rest₀ least₀ sum₀ d₀ rest least sum d = (d ≤ n) × (sum ≤ 65535 * d)
+Inv-loop list floors ceilings rises n least₀ sum₀ d₀ least sum d = (d ≤ n) × (sum ≤ 65540 * d)
 
 abbrev μ-loop : tie.MeasureT-loop
-μ-loop list floors ceilings rises n rest₀ least₀ sum₀ d₀ rest least sum d = n - d
+μ-loop list floors ceilings rises n least₀ sum₀ d₀ least sum d = n - d
 
 loop-holds : tie.Need-loop-holds Inv-loop μ-loop
 loop-holds c = search needs
+
+setpoint-requires : tie.Need-setpoint-requires Inv-loop μ-loop
+setpoint-requires c κs = search needs
 
 mul-wide : tie.Need-mul-wide Inv-loop μ-loop
 mul-wide c = search needs
@@ -21,18 +24,6 @@ element-copy-out-wide c = search needs
 
 wide-requires : tie.Need-wide-requires Inv-loop μ-loop
 wide-requires c κs = search needs
-
-add-x : tie.Need-add-x Inv-loop μ-loop
-add-x c = search needs
-
-mul-wide-2 : tie.Need-mul-wide-2 Inv-loop μ-loop
-mul-wide-2 c = search needs
-
-element-copy-out-wide-2 : tie.Need-element-copy-out-wide-2 Inv-loop μ-loop
-element-copy-out-wide-2 c = search needs
-
-wide-requires-2 : tie.Need-wide-requires-2 Inv-loop μ-loop
-wide-requires-2 c κs = search needs
 
 broken-requires : tie.Need-broken-requires Inv-loop μ-loop
 broken-requires c κs = search needs
@@ -49,14 +40,14 @@ broken-requires-2 c κs = search needs
 returns-2 : tie.Need-returns-2 Inv-loop μ-loop
 returns-2 c = search needs
 
-mul-wide-3 : tie.Need-mul-wide-3 Inv-loop μ-loop
-mul-wide-3 c = search needs
+mul-wide-2 : tie.Need-mul-wide-2 Inv-loop μ-loop
+mul-wide-2 c = search needs
 
-element-copy-out-wide-3 : tie.Need-element-copy-out-wide-3 Inv-loop μ-loop
-element-copy-out-wide-3 c = search needs
+element-copy-out-wide-2 : tie.Need-element-copy-out-wide-2 Inv-loop μ-loop
+element-copy-out-wide-2 c = search needs
 
-wide-requires-3 : tie.Need-wide-requires-3 Inv-loop μ-loop
-wide-requires-3 c κs = search needs
+wide-requires-2 : tie.Need-wide-requires-2 Inv-loop μ-loop
+wide-requires-2 c κs = search needs
 
 add-least : tie.Need-add-least Inv-loop μ-loop
 add-least c = search needs
@@ -83,21 +74,18 @@ walk-spec =
     Inv-loop
     μ-loop
     loop-holds
+    setpoint-requires
     mul-wide
     element-copy-out-wide
     wide-requires
-    add-x
-    mul-wide-2
-    element-copy-out-wide-2
-    wide-requires-2
     broken-requires
     returns
     add-if2
     broken-requires-2
     returns-2
-    mul-wide-3
-    element-copy-out-wide-3
-    wide-requires-3
+    mul-wide-2
+    element-copy-out-wide-2
+    wide-requires-2
     add-least
     add-sum
     add-d

@@ -1,11 +1,11 @@
--- `exhaustive::small::compared` meets its contract. The invariant: no more is counted than there were profiles. The measure is the profiles left.
+-- `exhaustive::small::compared` meets its contract. The measure is the profiles left. Assumes nothing.
 use Prim.Native.Nat.{_-_, _≤_, _<_}
 use borrow.Author.Needs.{needs}
 use Rattle.exhaustive.proofs.small.compared.Statement.{statement}
 use Rattle.exhaustive.proofs.small.compared.Tie as tie
 
 abbrev Inv-loop : tie.InvT-loop
-Inv-loop t₀ k₀ t k = (k ≤ 2400) × (t .none ≤ k) × (t .differences ≤ k) × (t .seed < 2147483647)
+Inv-loop t₀ k₀ t k = (k ≤ 2400) × (t .seed < 2147483647)
 
 abbrev μ-loop : tie.MeasureT-loop
 μ-loop t₀ k₀ t k = 2400 - k
@@ -13,8 +13,8 @@ abbrev μ-loop : tie.MeasureT-loop
 loop-holds : tie.Need-loop-holds Inv-loop μ-loop
 loop-holds c = search needs
 
-onward-requires : tie.Need-onward-requires Inv-loop μ-loop
-onward-requires c κs = search needs
+turn-requires : tie.Need-turn-requires Inv-loop μ-loop
+turn-requires c κs = search needs
 
 add-k : tie.Need-add-k Inv-loop μ-loop
 add-k c = search needs
@@ -31,4 +31,4 @@ returns c = search needs
 pub compared-spec : {M : Type 1} → statement M
 compared-spec =
     tie.close
-    (tie.spec Inv-loop μ-loop loop-holds onward-requires add-k loop-less loop-again returns)
+    (tie.spec Inv-loop μ-loop loop-holds turn-requires add-k loop-less loop-again returns)

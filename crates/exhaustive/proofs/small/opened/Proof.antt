@@ -1,6 +1,7 @@
 -- `exhaustive::small::opened` meets its contract. Each list is as long as asked. Assumes nothing.
 use lib.Seq.{length-take-le}
 use mathlib.Core.Path.{sym}
+use Rattle.session.specs.Sanity.{opened-sane}
 use borrow.Author.Needs.{needs}
 use Rattle.exhaustive.proofs.small.opened.Statement.{statement}
 use Rattle.exhaustive.proofs.small.opened.Tie as tie
@@ -54,7 +55,7 @@ open-requires : tie.Need-open-requires
 open-requires c κs = search needs
 
 returns : tie.Need-returns
-returns c = search needs
+returns c = rw (c .open .ensures) (opened-sane _)
 
 pub opened-spec : {M : Type 1} → statement M
 opened-spec =

@@ -1,0 +1,140 @@
+-- A profile's schedules, and schedules in codes.
+use mathlib.Core.Path.{_≡_}
+use mathlib.Core.List.{List}
+use Prim.Native.Nat.{ℕ, _+_, _-_, _*_, _≤_, _<_}
+use native.Mathlib.Omega.{arith}
+use lib.IntN.{ℤ, _+ℤ_}
+use lib.ListN.{length}
+use lib.Signed.{_≤ℤ_}
+use Rattle.series.specs.Sum.{at}
+use Rattle.chains.specs.Sum.{sum, all}
+use Rattle.levels.specs.Code.{lowestPoint, highestPoint, lowestRise, lowestTotal, code, decoded, on}
+use Rattle.levels.specs.Offset.{Less, less-le, le-less, less-shift, less-same, less-add}
+use Rattle.levels.specs.Laws.{point-less, total-less, code-less, decoded-less, within-yes}
+use Rattle.chains.specs.Spans as Codes
+use Rattle.method.specs.Filter.{held}
+use Rattle.method.specs.Levels.{Levels}
+use Rattle.session.specs.Profile.{Profile, Schedule, Spans, total}
+use Rattle.session.specs.Opening.{codes}
+use Rattle.session.specs.declared.Session.{Session}
+use Rattle.demands.specs.Demands.{Exact}
+use Rattle.demands.specs.Lists as Lists
+use Rattle.demands.specs.Lists.{listOf, length-listOf, on-listOf}
+use Rattle.levels.specs.Order.{≤ℤ-trans}
+use Rattle.session.specs.Entered.{Entered, floor-less, ceiling-less, rise-less-at, lowest-less, highest-less}
+
+-- a total of n days, as it is held
+pub held-less : (x : List ℤ) (n : ℕ) (c : ℕ → ℕ) → length x ≡ n → n ≤ 512 → ((i : ℕ) → i < n → Less (on x i) (c i) 1000) → Less (total x) (held n c) 512000
+held-less x n c e few h =
+    let whole : Less (total x) (sum all (length x) c) (length x * 1000) = Lists.total-less x c 1000 (λ i l. h i (omega arith)) in
+    let wide : Less (total x) (sum all n c + 1000 * (512 - n)) (n * 1000 + 1000 * (512 - n)) =
+    less-shift (total x) (sum all n c) (n * 1000) (1000 * (512 - n)) (rw e at whole) in
+    let all-days : n * 1000 + 1000 * (512 - n) ≡ 512000 = omega arith in
+    rw all-days at wide
+
+module _ (p : Profile) (d : Entered p) where
+  abbrev pub CodesOf : (ℕ → ℕ) → Type 0
+  CodesOf = Levels (codes lowestPoint (p .floors) (p .days)) (codes lowestPoint (p .ceilings) (p .days))
+      (codes lowestRise (p .rises) (p .days - 1)) (p .days) (code lowestTotal (p .lowest)) (code lowestTotal (p .highest))
+
+  -- a list of points and the levels that stand for them are schedules together
+  module _ (x : List ℤ) (whole : length x ≡ p .days) (c : ℕ → ℕ) (same : (i : ℕ) → i < p .days → Less (on x i) (c i) 1000) where
+    sum-less : Less (total x) (held (p .days) c) 512000
+    sum-less = held-less x (p .days) c whole (d .sized .few) same
+
+    stepped : (i : ℕ) → i + 1 < p .days → Less (on x i +ℤ on (p .rises) i) (c i + at (codes lowestRise (p .rises) (p .days - 1)) i) 3000
+    stepped i h =
+        less-add (on x i) (on (p .rises) i) (c i) (at (codes lowestRise (p .rises) (p .days - 1)) i) 1000 2000 (same i (omega arith)) (rise-less-at p d i h)
+
+    next : (i : ℕ) → i + 1 < p .days → Less (on x (i + 1)) (c (i + 1) + 2000) 3000
+    next i h = less-shift (on x (i + 1)) (c (i + 1)) 1000 2000 (same (i + 1) h)
+
+    pub to-codes : Schedule p x → CodesOf c
+    to-codes s = record {
+      floor = λ k h. le-less (on (p .floors) k) (on x k) _ (c k) 1000 (floor-less p d k h) (same k h) (s .floor k h);
+      ceiling = λ k h. le-less (on x k) (on (p .ceilings) k) (c k) _ 1000 (same k h) (ceiling-less p d k h) (s .ceiling k h);
+      rise = λ k h. le-less (on x k +ℤ on (p .rises) k) (on x (k + 1)) _ (c (k + 1) + 2000) 3000 (stepped k h) (next k h) (s .rise k h);
+      least = le-less (p .lowest) (total x) _ (held (p .days) c) 512000 (lowest-less p d) sum-less (s .least);
+      most = le-less (total x) (p .highest) (held (p .days) c) _ 512000 sum-less (highest-less p d) (s .most);
+    }
+
+    pub of-codes : CodesOf c → Schedule p x
+    of-codes s = record {
+      whole = whole;
+      floor = λ k h. less-le (on (p .floors) k) (on x k) _ (c k) 1000 (floor-less p d k h) (same k h) (s .floor k h);
+      ceiling = λ k h. less-le (on x k) (on (p .ceilings) k) (c k) _ 1000 (same k h) (ceiling-less p d k h) (s .ceiling k h);
+      rise = λ k h. less-le (on x k +ℤ on (p .rises) k) (on x (k + 1)) _ (c (k + 1) + 2000) 3000 (stepped k h) (next k h) (s .rise k h);
+      least = less-le (p .lowest) (total x) _ (held (p .days) c) 512000 (lowest-less p d) sum-less (s .least);
+      most = less-le (total x) (p .highest) (held (p .days) c) _ 512000 sum-less (highest-less p d) (s .most);
+    }
+
+  -- the levels of a schedule
+  pub levels-of : (x : List ℤ) → Schedule p x → (i : ℕ) → i < p .days → Less (on x i) (code lowestPoint (on x i)) 1000
+  levels-of x s i h =
+      code-less lowestPoint (on x i) 1000 point-less
+      (≤ℤ-trans lowestPoint (on (p .floors) i) (on x i) (within-yes lowestPoint highestPoint (on (p .floors) i) .0 (d .floor i h) .0) (s .floor i h))
+
+  -- the points of levels
+  abbrev pub pointsOf : (ℕ → ℕ) → List ℤ
+  pointsOf c = listOf (λ k. decoded lowestPoint (c k)) (p .days)
+
+  pub points-length : (c : ℕ → ℕ) → length (pointsOf c) ≡ p .days
+  points-length c = length-listOf (λ k. decoded lowestPoint (c k)) (p .days)
+
+  pub points-less : (c : ℕ → ℕ) (i : ℕ) → i < p .days → Less (on (pointsOf c) i) (c i) 1000
+  points-less c i h =
+      rw (on-listOf (λ k. decoded lowestPoint (c k)) (p .days) i h) (decoded-less lowestPoint (c i) 1000 point-less)
+
+  -- the levels of a schedule, in codes, and the points of one in codes
+  pub codes-of : (x : List ℤ) → Schedule p x → CodesOf (λ k. code lowestPoint (on x k))
+  codes-of x h = to-codes x (h .whole) (λ k. code lowestPoint (on x k)) (levels-of x h) h
+
+  pub schedule-of : (c : ℕ → ℕ) → CodesOf c → Schedule p (pointsOf c)
+  schedule-of c h = of-codes (pointsOf c) (points-length c) c (points-less c) h
+
+-- ---- exact ranges in codes, as points
+
+-- a value from one decoded number to another is decoded from a number between
+between : (low v : ℤ) (k m n : ℕ) → Less low 0 k → decoded low m ≤ℤ v → v ≤ℤ decoded low n → (c : ℕ) × Less v c k × (m ≤ c) × (c ≤ n)
+between low v k m n p lo hi =
+    let bottom : low ≤ℤ decoded low m = less-le low (decoded low m) 0 m k p (decoded-less low m k p) (omega arith) in
+    let c : Less v (code low v) k = code-less low v k p (≤ℤ-trans low (decoded low m) v bottom lo) in
+    (code low v, c, le-less (decoded low m) v m (code low v) k (decoded-less low m k p) c lo, le-less v (decoded low n) (code low v) n k c (decoded-less low n k p) hi)
+
+-- a set of schedules, and the same set in codes
+module _ (p : Profile) (d : Entered p) (S : List ℤ → Type 0) (T : (ℕ → ℕ) → Type 0) (schedule : (x : List ℤ) → S x → Schedule p x)
+    (to : (x : List ℤ) → S x → T (λ k. code lowestPoint (on x k))) (of : (c : ℕ → ℕ) → T c → S (pointsOf p d c)) where
+  -- a range of codes that spans the set in codes, decoded, spans the set: for a day's setpoint and for the total alike
+  module _ (low : ℤ) (k : ℕ) (offset : Less low 0 k) (f : List ℤ → ℤ) (g : (ℕ → ℕ) → ℕ)
+      (same : (x : List ℤ) (c : ℕ → ℕ) → length x ≡ p .days → ((i : ℕ) → i < p .days → Less (on x i) (c i) 1000) → Less (f x) (g c) k)
+      (lo hi : ℕ) (s : Codes.Spans T g lo hi) where
+    bottom : Less (decoded low lo) lo k
+    bottom = decoded-less low lo k offset
+
+    top : Less (decoded low hi) hi k
+    top = decoded-less low hi k offset
+
+    at-value : (v : ℤ) → decoded low lo ≤ℤ v → v ≤ℤ decoded low hi → (x : List ℤ) × S x × (f x ≡ v)
+    at-value v l u =
+        let b = between low v k lo hi offset l u in
+        let t = s .taken (b .0) (b .2) (b .3) in
+        let here : Less (f (pointsOf p d (t .0))) (b .0) k = rw (t .2) at (same (pointsOf p d (t .0)) (t .0) (points-length p d (t .0)) (points-less p d (t .0))) in
+        (pointsOf p d (t .0), of (t .0) (t .1), less-same (f (pointsOf p d (t .0))) v (b .0) k here (b .1))
+
+    spans : Spans S f (decoded low lo) (decoded low hi)
+    spans = record {
+      some = less-le (decoded low lo) (decoded low hi) lo hi k bottom top (s .some);
+      inside = λ x h.
+          let c : ℕ → ℕ = λ i. code lowestPoint (on x i) in
+          let here : Less (f x) (g c) k = same x c (schedule x h .whole) (levels-of p d x (schedule x h)) in
+          let w = s .inside c (to x h) in
+          (less-le (decoded low lo) (f x) lo (g c) k bottom here (w .0), less-le (f x) (decoded low hi) (g c) hi k here top (w .1));
+      taken = at-value;
+    }
+
+  pub exact-points : (s : Session) → ((i : ℕ) → i < p .days → Codes.Spans T (λ c. c i) (at (s .present .floors) i) (at (s .present .ceilings) i))
+      → Codes.Spans T (held (p .days)) (s .present .least) (s .present .most) → Exact p S s
+  exact-points s day sum = record {
+    each = λ i h. spans lowestPoint 1000 point-less (λ x. on x i) (λ c. c i) (λ x c w same. same i h) _ _ (day i h);
+    sum = spans lowestTotal 512000 total-less total (held (p .days)) (λ x c w same. held-less x (p .days) c w (d .sized .few) same) _ _ sum;
+  }

@@ -1,0 +1,82 @@
+-- Demand 2 at opening holds.
+use mathlib.Core.Path.{_≡_, refl}
+use mathlib.Core.Bool.{Bool, true, false, cond}
+use mathlib.Core.Logic.{_↔_}
+use mathlib.Core.List.{List}
+use Prim.Native.Nat.{_-_, _≤_}
+use native.Mathlib.Omega.{arith}
+use lib.IntN.{ℤ}
+use lib.Dec.{eqb}
+use lib.Signed.{≤ℤ-refl}
+use borrow.Author.Tests.{eqb-true, eqb-false}
+use Rattle.series.specs.Sum.{at}
+use Rattle.levels.specs.Code.{lowestRise}
+use Rattle.method.specs.Exact.{none, exact}
+use Rattle.session.specs.Profile.{Profile, Schedule, total}
+use Rattle.session.specs.Opening.{earlier, badCount, badLength, badPoint, badRise, badTotal, badRange, opened, refusedWith, narrowed, codes, fresh, rangesOf}
+use Rattle.demands.specs.Demands.{Exact, Demand2}
+use Rattle.session.specs.declared.Opened.{Opened}
+use Rattle.session.specs.Entered.{Entered, entered, codes-bounds}
+use Rattle.demands.specs.Bridge.{CodesOf, codes-of, schedule-of, exact-points}
+
+module _ (p : Profile) (d : Entered p) where
+  opens : narrowed p .found ≡ true → Exact p (Schedule p) (fresh (p .days) (codes lowestRise (p .rises) (p .days - 1)) (rangesOf (narrowed p)))
+  opens e =
+      let t = exact (codes-bounds p d) e in
+      exact-points p d (Schedule p) (CodesOf p d) (λ x h. h) (codes-of p d) (schedule-of p d) _ (t .day) (t .total)
+
+  no-schedule : narrowed p .found ≡ false → (x : List ℤ) → Schedule p x → ⊥
+  no-schedule e x h = none (codes-bounds p d) e _ (codes-of p d x h)
+
+-- opening by its two tests
+abbrev outcome : Profile → Bool → Bool → Opened
+outcome p early found =
+    cond early (cond found (record { refusal = 0; session = fresh (p .days) (codes lowestRise (p .rises) (p .days - 1)) (rangesOf (narrowed p)) }) (refusedWith 8))
+    (refusedWith (earlier p))
+
+-- what an opening that is not refused says of the profile
+pub record Unrefused (p : Profile) : Type 0 where
+  pub early : earlier p ≡ 0
+  pub found : narrowed p .found ≡ true
+  pub session : opened p .session ≡ fresh (p .days) (codes lowestRise (p .rises) (p .days - 1)) (rangesOf (narrowed p))
+
+pub unrefused : (p : Profile) → opened p .refusal ≡ 0 → Unrefused p
+unfolding opened
+unrefused p = go (eqb (earlier p) 0) (narrowed p .found) refl refl
+  where
+    go : (early found : Bool) → eqb (earlier p) 0 ≡ early → narrowed p .found ≡ found → opened p .refusal ≡ 0 → Unrefused p
+    go true true e f z = record { early = eqb-true (earlier p) 0 e; found = f; session = rw (e, f) refl }
+    go true false e f z = absurd (omega (arith, rw (e, f) at z))
+    go false found e f z = absurd (eqb-false (earlier p) 0 e (rw e at z))
+
+few : (p : Profile) → earlier p ≤ 6
+unfolding earlier
+few p = go (badCount p) (badLength p) (badPoint p) (badRise p) (badTotal p) (badRange p)
+  where
+    go : (a b c d e f : Bool) → cond a 1 (cond b 2 (cond c 3 (cond d 4 (cond e 5 (cond f 6 0))))) ≤ 6
+    go true b c d e f = omega arith
+    go false true c d e f = omega arith
+    go false false true d e f = omega arith
+    go false false false true e f = omega arith
+    go false false false false true f = omega arith
+    go false false false false false true = omega arith
+    go false false false false false false = omega arith
+
+refused : (p : Profile) (early found : Bool) → eqb (earlier p) 0 ≡ early → narrowed p .found ≡ found
+    → (outcome p early found .refusal ≡ 8) ↔ (earlier p ≡ 0) × ((x : List ℤ) → Schedule p x → ⊥)
+refused p true true e f =
+    let z : earlier p ≡ 0 = eqb-true (earlier p) 0 e in
+    let day = opens p (entered p z) f .sum in
+    let some = day .taken _ (≤ℤ-refl _) (day .some) in
+    (λ h. absurd (omega arith), λ w. absurd (w .1 (some .0) (some .1)))
+refused p true false e f =
+    let z : earlier p ≡ 0 = eqb-true (earlier p) 0 e in
+    (λ h. (z, no-schedule p (entered p z) f), λ w. refl)
+refused p false found e f = (λ h. absurd (omega (arith, few p)), λ w. absurd (eqb-false (earlier p) 0 e (w .0)))
+
+pub demand-2 : Demand2
+unfolding opened
+demand-2 = record {
+  opening = λ p z. let u = unrefused p z in rw (u .session) (opens p (entered p (u .early)) (u .found));
+  none = λ p. refused p (eqb (earlier p) 0) (narrowed p .found) refl refl;
+}

@@ -1,0 +1,50 @@
+-- The demands of document 01 on ranges, as statements.
+use mathlib.Core.Path.{_≡_}
+use mathlib.Core.Bool.{true, false}
+use mathlib.Core.Logic.{_↔_}
+use mathlib.Core.List.{List}
+use Prim.Native.Nat.{ℕ, _≤_, _<_}
+use lib.IntN.{ℤ}
+use Rattle.series.specs.Sum.{at}
+use Rattle.levels.specs.Code.{on}
+use Rattle.session.specs.Profile.{Profile, Schedule, Spans, total}
+use Rattle.session.specs.Showing.{floorOn, ceilingOn, totalFloor, totalCeiling}
+use Rattle.session.specs.Opening.{earlier, opened}
+use Rattle.session.specs.declared.Session.{Session}
+use Rattle.cuts.specs.declared.Cut.{Cut}
+use Rattle.cutting.specs.Cutting.{listAfter}
+use Rattle.cutting.specs.declared.AfterCut.{AfterCut}
+use Rattle.demands.specs.Cuts.{Handed, ValidIn, Kept, after}
+
+-- Demand 1 at a cut, of whatever session, with a list l lent for changed days: a refusal leaves the list, and the session too; but 8, which is
+-- said exactly where an unspent session becomes spent
+pub record Demand1 (s : Session) (l : List ℕ) (r : AfterCut) : Type 0 where
+  pub list : (r .answer .refusal ≡ 0 → ⊥) → listAfter s r l ≡ l
+  pub session : (r .answer .refusal ≡ 0 → ⊥) → (r .answer .refusal ≡ 8 → ⊥) → r .session ≡ s
+  pub eight : (r .answer .refusal ≡ 8) ↔ (s .spent ≡ false) × (r .session .spent ≡ true)
+
+-- what an accepted cut answers: the first places of the list, as many as days changed, hold exactly the days whose shown range is another than
+-- before, each one time; the rest of the list is as before
+pub record Changes (s : Session) (l : List ℕ) (r : AfterCut) : Type 0 where
+  pub listed : (k : ℕ) → ((i : ℕ) × (i < r .answer .changed) × (at (listAfter s r l) i ≡ k)) ↔ (k < s .days) × ((floorOn s k ≡ floorOn (r .session) k) × (ceilingOn s k ≡ ceilingOn (r .session) k) → ⊥)
+  pub once : (i j : ℕ) → i < j → j < r .answer .changed → at (listAfter s r l) i ≡ at (listAfter s r l) j → ⊥
+  pub rest : (i : ℕ) → r .answer .changed ≤ i → at (listAfter s r l) i ≡ at l i
+
+-- the ranges that a session shows are exact for the schedules of S: each day's and the total's
+pub record Exact (p : Profile) (S : List ℤ → Type 0) (s : Session) : Type 0 where
+  pub each : (i : ℕ) → i < p .days → Spans S (λ x. on x i) (floorOn s i) (ceilingOn s i)
+  pub sum : Spans S total (totalFloor s) (totalCeiling s)
+
+-- Demand 2 at opening: where it does not refuse, every range is exact; and 8 is said exactly where no check before it refuses and there is
+-- no schedule
+pub record Demand2 : Type 0 where
+  pub opening : (p : Profile) → opened p .refusal ≡ 0 → Exact p (Schedule p) (opened p .session)
+  pub none : (p : Profile) → (opened p .refusal ≡ 8) ↔ (earlier p ≡ 0) × ((x : List ℤ) → Schedule p x → ⊥)
+
+-- Demand 3, for a profile that opens unrefused and any whole list of cuts, refused ones included: the session is spent exactly where no
+-- schedule keeps every valid cut of the list; otherwise its ranges are exact for the schedules that keep them all; and another list with
+-- the same valid cuts ends in an equal session
+pub record Demand3 (p : Profile) (hs : List Handed) : Type 0 where
+  pub spent : (after (opened p .session) hs .spent ≡ true) ↔ ((x : List ℤ) → Kept p hs x → ⊥)
+  pub exact : after (opened p .session) hs .spent ≡ false → Exact p (Kept p hs) (after (opened p .session) hs)
+  pub order-free : (gs : List Handed) → ((c : Cut) → ValidIn p hs c ↔ ValidIn p gs c) → after (opened p .session) hs ≡ after (opened p .session) gs

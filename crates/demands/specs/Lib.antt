@@ -1,0 +1,12 @@
+pub mod Cuts
+pub mod Demands
+pub mod Starred
+pub mod Lists
+pub mod Bridge
+pub mod Clip
+pub mod Right
+pub mod Fold
+pub mod Demand1
+pub mod Changed
+pub mod Demand2
+pub mod Demand3
