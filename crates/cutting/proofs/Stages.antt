@@ -11,9 +11,9 @@ use borrow.Author.Tests.{eq-eqb, ne-eqb, lt-ltb, le-ltb}
 use Rattle.levels.specs.Code.{lowestPoint, highestPoint, lowestTotal, highestTotal, within, code, coded}
 use Rattle.levels.specs.Laws.{point-most}
 use Rattle.levels.specs.declared.Coded.the-variants.{Code, Outside}
-use Rattle.method.specs.Filter.{InBounds, Tight, tightened}
+use Rattle.method.specs.Filter.{Tight, tightened}
 use Rattle.session.specs.Opening.{rangesOf}
-use Rattle.session.specs.Showing.{Sane}
+use Rattle.session.specs.Showing.{Fits, Sane}
 use Rattle.session.specs.declared.Ranges.{Ranges}
 use Rattle.session.specs.declared.Session.{Session}
 use Rattle.cuts.specs.declared.Cut.{Cut}
@@ -25,7 +25,7 @@ use Rattle.cutting.specs.Cutting.{dayRefusal, totalRefusal, malformed, e
 use Rattle.cutting.specs.declared.AfterCut.{AfterCut}
 use Rattle.cutting.specs.declared.Checked.{Checked}
 use Rattle.cutting.specs.Stages.{checkedValue, checked, DayClips, Clips}
-use Rattle.cutting.specs.Laws.{day-formed, total-formed, clipped-in-bounds}
+use Rattle.cutting.specs.Laws.{day-formed, total-formed, earlier-none, refused-same, accepted, refused-list, accepted-list, clipped-in-bounds}
 
 -- ---- check
 
@@ -68,7 +68,7 @@ module _ (n : ℕ) (c : Cut) {r : Checked} (e : r ≡ checked n c) where
 -- ---- tighten_again
 
 module _ (s : Session) (c : Cut) {r : Ranges} (clip : r ≡ clipped (s .present) c) where
-  pub again-bounds : Sane s → malformed (s .days) c ≡ 0 → InBounds (r .floors) (r .ceilings) (s .rises) (s .days) (r .least) (r .most)
+  pub again-bounds : Sane s → malformed (s .days) c ≡ 0 → Fits (s .rises) (s .days) r
   again-bounds sane e = rw clip (clipped-in-bounds (s .rises) (s .days) (s .present) c (sane .present) e)
 
   module _ {t : Tight} (tight : t ≡ tightened (r .floors) (r .ceilings) (s .rises) (s .days) (r .least) (r .most)) where
@@ -86,8 +86,7 @@ module _ (s : Session) (c : Cut) {r : Ranges} (clip : r ≡ clipped (s .present)
 
 module _ (s : Session) (c : Cut) (room : ℕ) where
   refused-by : (number : ℕ) → earlier s c room ≡ number → (number ≡ 0 → ⊥) → refusing number s ≡ afterCut s c room
-  unfolding afterCut
-  refused-by number e apart = rw (e, ne-eqb number 0 apart)
+  refused-by number e apart = rw (← e) (sym (refused-same s c room (ne-eqb (earlier s c room) 0 (λ z. apart (sym e ∙ z)))))
 
   pub cut-malformed : {m : ℕ} → m ≡ malformed (s .days) c → (m ≡ 0 → ⊥) → refusing m s ≡ afterCut s c room
   unfolding earlier
@@ -107,8 +106,7 @@ module _ (s : Session) (c : Cut) (room : ℕ) where
       cut-spent p = refused-by 9 (rw (well, le-ltb room (s .days) h, p)) (λ z. absurd (omega arith))
 
       pub cut-taken : s .spent ≡ false → tightenedTo s (retightened s (clipped (s .present) c)) ≡ afterCut s c room
-      unfolding earlier afterCut
-      cut-taken p = rw (well, le-ltb room (s .days) h, p)
+      cut-taken p = sym (accepted s c room (earlier-none s c room well (le-ltb room (s .days) h) p))
 
 -- ---- cut_told
 
@@ -124,10 +122,8 @@ module _ (s : Session) (room : ℕ) {t u : Told} (e : t ≡ u) where
 -- ---- the lent list
 
 pub list-left : (s s′ : Session) (l : List ℕ) {number : ℕ} {r : AfterCut} → r ≡ refusing number s′ → (number ≡ 0 → ⊥) → l ≡ listAfter s r l
-unfolding listAfter
-list-left s s′ l {number} e apart = rw (e, ne-eqb number 0 apart)
+list-left s s′ l {number} e apart = rw e (sym (refused-list s (refusing number s′) l apart))
 
 pub list-written : (s s′ : Session) (l : List ℕ) {count : ℕ} {r : AfterCut} → r ≡ record { answer = record { refusal = 0; changed = count }; session = s′ }
     → inFront (changedDays (s .days) (s .present) (s′ .present)) l ≡ listAfter s r l
-unfolding listAfter
-list-written s s′ l e = rw e
+list-written s s′ l e = rw e (sym (accepted-list s _ l refl))

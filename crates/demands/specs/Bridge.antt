@@ -1,5 +1,6 @@
 -- A profile's schedules, and schedules in codes.
 use mathlib.Core.Path.{_≡_}
+use mathlib.Core.Logic.{_↔_}
 use mathlib.Core.List.{List}
 use Prim.Native.Nat.{ℕ, _+_, _-_, _*_, _≤_, _<_}
 use native.Mathlib.Omega.{arith}
@@ -9,7 +10,7 @@ use lib.Signed.{_≤ℤ_}
 use Rattle.series.specs.Sum.{at}
 use Rattle.chains.specs.Sum.{sum, all}
 use Rattle.levels.specs.Code.{lowestPoint, highestPoint, lowestRise, lowestTotal, code, decoded, on}
-use Rattle.levels.specs.Offset.{Less, less-le, le-less, less-shift, less-same, less-add}
+use Rattle.levels.specs.Offset.{Less, less-le, le-less, less-order, less-shift, less-same, less-add}
 use Rattle.levels.specs.Laws.{point-less, total-less, code-less, decoded-less, within-yes}
 use Rattle.chains.specs.Spans as Codes
 use Rattle.method.specs.Filter.{held}
@@ -49,23 +50,39 @@ module _ (p : Profile) (d : Entered p) where
     next : (i : ℕ) → i + 1 < p .days → Less (on x (i + 1)) (c (i + 1) + 2000) 3000
     next i h = less-shift (on x (i + 1)) (c (i + 1)) 1000 2000 (same (i + 1) h)
 
-    pub to-codes : Schedule p x → CodesOf c
+    floor-same : (k : ℕ) → k < p .days → (on (p .floors) k ≤ℤ on x k) ↔ (at (codes lowestPoint (p .floors) (p .days)) k ≤ c k)
+    floor-same k h = less-order (on (p .floors) k) (on x k) _ (c k) 1000 (floor-less p d k h) (same k h)
+
+    ceiling-same : (k : ℕ) → k < p .days → (on x k ≤ℤ on (p .ceilings) k) ↔ (c k ≤ at (codes lowestPoint (p .ceilings) (p .days)) k)
+    ceiling-same k h = less-order (on x k) (on (p .ceilings) k) (c k) _ 1000 (same k h) (ceiling-less p d k h)
+
+    rise-same : (k : ℕ) → k + 1 < p .days
+        → ((on x k +ℤ on (p .rises) k) ≤ℤ on x (k + 1)) ↔ (c k + at (codes lowestRise (p .rises) (p .days - 1)) k ≤ c (k + 1) + 2000)
+    rise-same k h = less-order (on x k +ℤ on (p .rises) k) (on x (k + 1)) _ (c (k + 1) + 2000) 3000 (stepped k h) (next k h)
+
+    least-same : (p .lowest ≤ℤ total x) ↔ (code lowestTotal (p .lowest) ≤ held (p .days) c)
+    least-same = less-order (p .lowest) (total x) _ (held (p .days) c) 512000 (lowest-less p d) sum-less
+
+    most-same : (total x ≤ℤ p .highest) ↔ (held (p .days) c ≤ code lowestTotal (p .highest))
+    most-same = less-order (total x) (p .highest) (held (p .days) c) _ 512000 sum-less (highest-less p d)
+
+    to-codes : Schedule p x → CodesOf c
     to-codes s = record {
-      floor = λ k h. le-less (on (p .floors) k) (on x k) _ (c k) 1000 (floor-less p d k h) (same k h) (s .floor k h);
-      ceiling = λ k h. le-less (on x k) (on (p .ceilings) k) (c k) _ 1000 (same k h) (ceiling-less p d k h) (s .ceiling k h);
-      rise = λ k h. le-less (on x k +ℤ on (p .rises) k) (on x (k + 1)) _ (c (k + 1) + 2000) 3000 (stepped k h) (next k h) (s .rise k h);
-      least = le-less (p .lowest) (total x) _ (held (p .days) c) 512000 (lowest-less p d) sum-less (s .least);
-      most = le-less (total x) (p .highest) (held (p .days) c) _ 512000 sum-less (highest-less p d) (s .most);
+      floor = λ k h. floor-same k h .0 (s .floor k h);
+      ceiling = λ k h. ceiling-same k h .0 (s .ceiling k h);
+      rise = λ k h. rise-same k h .0 (s .rise k h);
+      least = least-same .0 (s .least);
+      most = most-same .0 (s .most);
     }
 
-    pub of-codes : CodesOf c → Schedule p x
+    of-codes : CodesOf c → Schedule p x
     of-codes s = record {
       whole = whole;
-      floor = λ k h. less-le (on (p .floors) k) (on x k) _ (c k) 1000 (floor-less p d k h) (same k h) (s .floor k h);
-      ceiling = λ k h. less-le (on x k) (on (p .ceilings) k) (c k) _ 1000 (same k h) (ceiling-less p d k h) (s .ceiling k h);
-      rise = λ k h. less-le (on x k +ℤ on (p .rises) k) (on x (k + 1)) _ (c (k + 1) + 2000) 3000 (stepped k h) (next k h) (s .rise k h);
-      least = less-le (p .lowest) (total x) _ (held (p .days) c) 512000 (lowest-less p d) sum-less (s .least);
-      most = less-le (total x) (p .highest) (held (p .days) c) _ 512000 sum-less (highest-less p d) (s .most);
+      floor = λ k h. floor-same k h .1 (s .floor k h);
+      ceiling = λ k h. ceiling-same k h .1 (s .ceiling k h);
+      rise = λ k h. rise-same k h .1 (s .rise k h);
+      least = least-same .1 (s .least);
+      most = most-same .1 (s .most);
     }
 
   -- the levels of a schedule

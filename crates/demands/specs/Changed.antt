@@ -16,10 +16,10 @@ use Rattle.session.specs.Showing.{floorOn, ceilingOn}
 use Rattle.session.specs.declared.Session.{Session}
 use Rattle.cuts.specs.declared.Told.{Told}
 use Rattle.cuts.specs.declared.Told.the-variants.{Known, Unknown}
-use Rattle.changes.specs.Changes.{differs, daysWhere, inFront}
+use Rattle.changes.specs.Changes.{differs, daysWhere}
 use Rattle.changes.specs.Laws.{at-mem, mem-at, front-at, front-past, days-where, days-ascend}
 use Rattle.cutting.specs.Cutting.{earlier, clipped, retightened, tightenedTo, changedDays, afterCut, afterTold, listAfter}
-use Rattle.cutting.specs.Laws.{refused-same, accepted}
+use Rattle.cutting.specs.Laws.{refused-same, accepted, accepted-list}
 use Rattle.cutting.specs.declared.AfterCut.{AfterCut}
 use Rattle.demands.specs.Demands.{Changes}
 
@@ -40,10 +40,6 @@ differs-shown a b a′ b′ = (to, go (eqb a a′) (eqb b b′) refl refl)
     go true true e f h = absurd (h (ap (decoded lowestPoint) (eqb-true a a′ e), ap (decoded lowestPoint) (eqb-true b b′ f)))
     go true false e f h = refl
     go false y e f h = refl
-
-accepted-list : (s : Session) (l : List ℕ) (r : AfterCut) → r .answer .refusal ≡ 0 → listAfter s r l ≡ inFront (changedDays (s .days) (s .present) (r .session .present)) l
-unfolding listAfter
-accepted-list s l r z = rw (eq-eqb (r .answer .refusal) 0 z) refl
 
 module _ (s : Session) where
   -- the count is right
@@ -77,7 +73,7 @@ module _ (s : Session) (l : List ℕ) (t : Told) (z : afterTold s t (length l) .
   days = daysWhere test (s .days)
 
   front : (i : ℕ) → i < r .answer .changed → at (listAfter s r l) i ≡ at days i
-  front i h = rw (accepted-list s l r z) (front-at days l i (omega (arith, counted s t (length l) z)))
+  front i h = rw (accepted-list s r l z) (front-at days l i (omega (arith, counted s t (length l) z)))
 
   shown : (k : ℕ) → (test k ≡ true) ↔ ((floorOn s k ≡ floorOn (r .session) k) × (ceilingOn s k ≡ ceilingOn (r .session) k) → ⊥)
   shown k = differs-shown (at (s .present .floors) k) (at (s .present .ceilings) k) (at (r .session .present .floors) k) (at (r .session .present .ceilings) k)
@@ -91,5 +87,5 @@ module _ (s : Session) (l : List ℕ) (t : Told) (z : afterTold s t (length l) .
           (d .0, h, front (d .0) h ∙ d .2),
     );
     once = λ i j h m e. omega (arith, days-ascend test (s .days) i j h (omega (arith, counted s t (length l) z)), front i (omega arith), front j m);
-    rest = λ i h. rw (accepted-list s l r z) (front-past days l i (omega (arith, counted s t (length l) z)));
+    rest = λ i h. rw (accepted-list s r l z) (front-past days l i (omega (arith, counted s t (length l) z)));
   }

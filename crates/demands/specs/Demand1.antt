@@ -1,12 +1,12 @@
--- Demand 1 holds at a cut, and what an accepted cut answers.
+-- Demand 1 at a cut holds.
 use mathlib.Core.Path.{_≡_, refl, sym, _∙_}
 use mathlib.Core.Bool.{Bool, true, false, cond, true≢false}
 use mathlib.Core.List.{List}
 use Prim.Native.Nat.{ℕ}
 use native.Mathlib.Omega.{arith}
+use lib.IntN.{ℤ}
 use lib.Dec.{eqb, ltb}
 use lib.ListN.{length}
-use borrow.Author.Tests.{ne-eqb}
 use Rattle.levels.specs.Code.{lowestPoint, highestPoint, lowestTotal, highestTotal, within}
 use Rattle.method.specs.Filter.{Tight}
 use Rattle.session.specs.declared.Session.{Session}
@@ -14,32 +14,27 @@ use Rattle.cuts.specs.declared.Cut.{Cut}
 use Rattle.cuts.specs.declared.Cut.the-variants.{DayFloor, DayCeiling, TotalFloor, TotalCeiling}
 use Rattle.cuts.specs.declared.Told.{Told}
 use Rattle.cuts.specs.declared.Told.the-variants.{Known, Unknown}
-use Rattle.cutting.specs.Cutting.{malformed, earlier, clipped, retightened, refusing, tightenedTo, afterCut, afterTold, listAfter}
-use Rattle.cutting.specs.Laws.{passed, refused-same, accepted}
-use Rattle.cutting.specs.declared.AfterCut.{AfterCut}
-use Rattle.demands.specs.Demands.{Demand1}
+use Rattle.cutting.specs.Cutting.{dayRefusal, totalRefusal, malformed, earlier, clipped, retightened, refusing, tightenedTo, afterCut, afterTold}
+use Rattle.cutting.specs.Laws.{passed, refused-same, accepted, refused-list}
+use Rattle.demands.specs.Demands.{Leaves, Demand1}
+use Rattle.demands.specs.Changed.{changes}
 
--- ---- a refusal
+never-8 : (placed in-bounds : Bool) (otherwise outside : ℕ) → (otherwise ≡ 8 → ⊥) → (outside ≡ 8 → ⊥) → cond placed (cond in-bounds 0 outside) otherwise ≡ 8 → ⊥
+never-8 true true otherwise outside m k e = omega arith
+never-8 true false otherwise outside m k e = k e
+never-8 false in-bounds otherwise outside m k e = m e
 
-refused-list : (s : Session) (r : AfterCut) (l : List ℕ) → (r .answer .refusal ≡ 0 → ⊥) → listAfter s r l ≡ l
-unfolding listAfter
-refused-list s r l h = rw (ne-eqb (r .answer .refusal) 0 h) refl
+day-never-8 : (n day : ℕ) (value : ℤ) → dayRefusal n day value ≡ 8 → ⊥
+day-never-8 n day value = never-8 (ltb day n) (within lowestPoint highestPoint value) 7 3 (λ e. omega arith) (λ e. omega arith)
 
-day-never-8 : (a b : Bool) → _≡_ {A = ℕ} (cond a (cond b 0 3) 7) 8 → ⊥
-day-never-8 true true e = omega arith
-day-never-8 true false e = omega arith
-day-never-8 false b e = omega arith
-
-total-never-8 : (a b : Bool) → _≡_ {A = ℕ} (cond a (cond b 0 5) 12) 8 → ⊥
-total-never-8 true true e = omega arith
-total-never-8 true false e = omega arith
-total-never-8 false b e = omega arith
+total-never-8 : (day : ℕ) (value : ℤ) → totalRefusal day value ≡ 8 → ⊥
+total-never-8 day value = never-8 (eqb day 0) (within lowestTotal highestTotal value) 12 5 (λ e. omega arith) (λ e. omega arith)
 
 malformed-never-8 : (n : ℕ) (c : Cut) → malformed n c ≡ 8 → ⊥
-malformed-never-8 n (DayFloor day value) = day-never-8 (ltb day n) (within lowestPoint highestPoint value)
-malformed-never-8 n (DayCeiling day value) = day-never-8 (ltb day n) (within lowestPoint highestPoint value)
-malformed-never-8 n (TotalFloor day value) = total-never-8 (eqb day 0) (within lowestTotal highestTotal value)
-malformed-never-8 n (TotalCeiling day value) = total-never-8 (eqb day 0) (within lowestTotal highestTotal value)
+malformed-never-8 n (DayFloor day value) = day-never-8 n day value
+malformed-never-8 n (DayCeiling day value) = day-never-8 n day value
+malformed-never-8 n (TotalFloor day value) = total-never-8 day value
+malformed-never-8 n (TotalCeiling day value) = total-never-8 day value
 
 earlier-never-8 : (s : Session) (c : Cut) (room : ℕ) → earlier s c room ≡ 8 → ⊥
 unfolding earlier
@@ -52,17 +47,17 @@ earlier-never-8 s c room = go (eqb (malformed (s .days) c) 0) (ltb room (s .days
     go false b d e = malformed-never-8 (s .days) c e
 
 module _ (s : Session) (l : List ℕ) where
-  stays : (number : ℕ) → (number ≡ 8 → ⊥) → Demand1 s l (refusing number s)
+  stays : (number : ℕ) → (number ≡ 8 → ⊥) → Leaves s l (refusing number s)
   stays number other = record {
     list = refused-list s (refusing number s) l;
     session = λ _ _. refl;
     eight = (λ e. absurd (other e), λ h. absurd (true≢false (sym (h .1) ∙ h .0)));
   }
 
-  tightens : (t : Tight) → s .spent ≡ false → Demand1 s l (tightenedTo s t)
+  tightens : (t : Tight) → s .spent ≡ false → Leaves s l (tightenedTo s t)
   tightens t u = go (t .found) refl
     where
-      go : (b : Bool) → t .found ≡ b → Demand1 s l (tightenedTo s t)
+      go : (b : Bool) → t .found ≡ b → Leaves s l (tightenedTo s t)
       go true e = rw e (record {
         list = λ h. absurd (h refl);
         session = λ h _. absurd (h refl);
@@ -74,14 +69,17 @@ module _ (s : Session) (l : List ℕ) where
         eight = (λ _. (u, refl), λ _. refl);
       })
 
-  pub demand-1 : (t : Told) → Demand1 s l (afterTold s t (length l))
+  leaves : (t : Told) → Leaves s l (afterTold s t (length l))
   unfolding afterTold
-  demand-1 Unknown = stays 12 (λ e. omega arith)
-  demand-1 (Known c) = go (eqb (earlier s c room) 0) refl
+  leaves Unknown = stays 12 (λ e. omega arith)
+  leaves (Known c) = go (eqb (earlier s c room) 0) refl
     where
       room : ℕ
       room = length l
 
-      go : (b : Bool) → eqb (earlier s c room) 0 ≡ b → Demand1 s l (afterCut s c room)
+      go : (b : Bool) → eqb (earlier s c room) 0 ≡ b → Leaves s l (afterCut s c room)
       go true e = rw (accepted s c room e) (tightens (retightened s (clipped (s .present) c)) (passed s c room e .unspent))
       go false e = rw (refused-same s c room e) (stays (earlier s c room) (earlier-never-8 s c room))
+
+pub demand-1 : Demand1
+demand-1 = record { refused = λ s t l. leaves s l t; accepted = λ s t l. changes s l t }

@@ -7,12 +7,12 @@ use Prim.Native.Nat.{ℕ, _-_, _<_}
 use lib.IntN.{ℤ}
 use lib.ListN.{length}
 use Rattle.levels.specs.Code.{lowestPoint, lowestRise, lowestTotal, code, on}
-use Rattle.levels.specs.Offset.{Less, less-le, le-less}
+use Rattle.levels.specs.Offset.{Less, less-order}
 use Rattle.levels.specs.Laws.{point-less, total-less, code-less}
 use Rattle.method.specs.Filter.{held}
 use Rattle.method.specs.Exact.{exact, tighter, looser, exact-in-bounds}
 use Rattle.session.specs.Profile.{Profile, total}
-use Rattle.session.specs.Opening.{opened, narrowed as tight, codes, fresh, rangesOf}
+use Rattle.session.specs.Opening.{narrowed as tight, codes, fresh, rangesOf}
 use Rattle.session.specs.Entered.{Entered, entered, codes-bounds}
 use Rattle.session.specs.declared.Ranges.{Ranges}
 use Rattle.session.specs.declared.Session.{Session}
@@ -32,17 +32,11 @@ module _ (p : Profile) (d : Entered p) where
     sum-less : Less (total x) (held (p .days) y) 512000
     sum-less = held-less x (p .days) y whole (d .sized .few) same
 
-    to-levels : (c : Cut) → WellFormed p c → Keeps c x → KeepsLevels (p .days) c y
-    to-levels (DayFloor i v) w = le-less v (on x i) _ (y i) 1000 (code-less lowestPoint v 1000 point-less (w .1)) (same i (w .0))
-    to-levels (DayCeiling i v) w = le-less (on x i) v (y i) _ 1000 (same i (w .0)) (code-less lowestPoint v 1000 point-less (w .1))
-    to-levels (TotalFloor i v) w = le-less v (total x) _ (held (p .days) y) 512000 (code-less lowestTotal v 512000 total-less (w .1)) sum-less
-    to-levels (TotalCeiling i v) w = le-less (total x) v (held (p .days) y) _ 512000 sum-less (code-less lowestTotal v 512000 total-less (w .1))
-
-    of-levels : (c : Cut) → WellFormed p c → KeepsLevels (p .days) c y → Keeps c x
-    of-levels (DayFloor i v) w = less-le v (on x i) _ (y i) 1000 (code-less lowestPoint v 1000 point-less (w .1)) (same i (w .0))
-    of-levels (DayCeiling i v) w = less-le (on x i) v (y i) _ 1000 (same i (w .0)) (code-less lowestPoint v 1000 point-less (w .1))
-    of-levels (TotalFloor i v) w = less-le v (total x) _ (held (p .days) y) 512000 (code-less lowestTotal v 512000 total-less (w .1)) sum-less
-    of-levels (TotalCeiling i v) w = less-le (total x) v (held (p .days) y) _ 512000 sum-less (code-less lowestTotal v 512000 total-less (w .1))
+    keeps-same : (c : Cut) → WellFormed p c → Keeps c x ↔ KeepsLevels (p .days) c y
+    keeps-same (DayFloor i v) w = less-order v (on x i) _ (y i) 1000 (code-less lowestPoint v 1000 point-less (w .1)) (same i (w .0))
+    keeps-same (DayCeiling i v) w = less-order (on x i) v (y i) _ 1000 (same i (w .0)) (code-less lowestPoint v 1000 point-less (w .1))
+    keeps-same (TotalFloor i v) w = less-order v (total x) _ (held (p .days) y) 512000 (code-less lowestTotal v 512000 total-less (w .1)) sum-less
+    keeps-same (TotalCeiling i v) w = less-order (total x) v (held (p .days) y) _ 512000 sum-less (code-less lowestTotal v 512000 total-less (w .1))
 
   abbrev rs : List ℕ
   rs = codes lowestRise (p .rises) (p .days - 1)
@@ -56,12 +50,12 @@ module _ (p : Profile) (d : Entered p) where
 
   kept-levels : (hs : List Handed) (x : List ℤ) → Kept p hs x → LevelsKept hs (λ k. code lowestPoint (on x k))
   kept-levels hs x k =
-      (codes-of p d x (k .schedule), λ c v. to-levels x (k .schedule .whole) _ (levels-of p d x (k .schedule)) c (v .valid .formed) (k .keeps c v))
+      (codes-of p d x (k .schedule), λ c v. keeps-same x (k .schedule .whole) _ (levels-of p d x (k .schedule)) c (v .valid .formed) .0 (k .keeps c v))
 
   kept-points : (hs : List Handed) (y : ℕ → ℕ) → LevelsKept hs y → Kept p hs (pointsOf p d y)
   kept-points hs y k = record {
     schedule = schedule-of p d y (k .0);
-    keeps = λ c v. of-levels (pointsOf p d y) (points-length p d y) y (points-less p d y) c (v .valid .formed) (k .1 c v);
+    keeps = λ c v. keeps-same (pointsOf p d y) (points-length p d y) y (points-less p d y) c (v .valid .formed) .1 (k .1 c v);
   }
 
   -- what a session that is right for the levels says of the schedules
@@ -100,7 +94,7 @@ module _ (p : Profile) (d : Entered p) where
     same-session hs gs same =
         right-one (right-same (λ x k. (k .0, λ c v. k .1 c (same c .1 v))) (λ x k. (k .0, λ c v. k .1 c (same c .0 v))) (after-right hs)) (after-right gs)
 
-pub demand-3 : (p : Profile) → opened p .refusal ≡ 0 → (hs : List Handed) → Demand3 p hs
+pub demand-3 : Demand3
 demand-3 p z hs =
     let u = unrefused p z in
     let d = entered p (u .early) in

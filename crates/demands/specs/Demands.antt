@@ -1,10 +1,11 @@
--- The demands of document 01 on ranges, as statements.
+-- The demands, as statements.
 use mathlib.Core.Path.{_≡_}
 use mathlib.Core.Bool.{true, false}
 use mathlib.Core.Logic.{_↔_}
 use mathlib.Core.List.{List}
 use Prim.Native.Nat.{ℕ, _≤_, _<_}
 use lib.IntN.{ℤ}
+use lib.ListN.{length}
 use Rattle.series.specs.Sum.{at}
 use Rattle.levels.specs.Code.{on}
 use Rattle.session.specs.Profile.{Profile, Schedule, Spans, total}
@@ -12,13 +13,16 @@ use Rattle.session.specs.Showing.{floorOn, ceilingOn, totalFloor, totalCeiling}
 use Rattle.session.specs.Opening.{earlier, opened}
 use Rattle.session.specs.declared.Session.{Session}
 use Rattle.cuts.specs.declared.Cut.{Cut}
-use Rattle.cutting.specs.Cutting.{listAfter}
+use Rattle.cuts.specs.declared.Told.{Told}
+use Rattle.cutting.specs.Cutting.{afterTold, listAfter}
 use Rattle.cutting.specs.declared.AfterCut.{AfterCut}
 use Rattle.demands.specs.Cuts.{Handed, ValidIn, Kept, after}
 
--- Demand 1 at a cut, of whatever session, with a list l lent for changed days: a refusal leaves the list, and the session too; but 8, which is
--- said exactly where an unspent session becomes spent
-pub record Demand1 (s : Session) (l : List ℕ) (r : AfterCut) : Type 0 where
+-- ---- demand 1 at a cut
+
+-- what a cut with answer r leaves: a refusal leaves the lent list l, and the session s too; but 8, which is said exactly where an unspent
+-- session becomes spent
+pub record Leaves (s : Session) (l : List ℕ) (r : AfterCut) : Type 0 where
   pub list : (r .answer .refusal ≡ 0 → ⊥) → listAfter s r l ≡ l
   pub session : (r .answer .refusal ≡ 0 → ⊥) → (r .answer .refusal ≡ 8 → ⊥) → r .session ≡ s
   pub eight : (r .answer .refusal ≡ 8) ↔ (s .spent ≡ false) × (r .session .spent ≡ true)
@@ -30,21 +34,33 @@ pub record Changes (s : Session) (l : List ℕ) (r : AfterCut) : Type 0 where
   pub once : (i j : ℕ) → i < j → j < r .answer .changed → at (listAfter s r l) i ≡ at (listAfter s r l) j → ⊥
   pub rest : (i : ℕ) → r .answer .changed ≤ i → at (listAfter s r l) i ≡ at l i
 
+-- for whatever session, cut and lent list
+pub record Demand1 : Type 0 where
+  pub refused : (s : Session) (t : Told) (l : List ℕ) → Leaves s l (afterTold s t (length l))
+  pub accepted : (s : Session) (t : Told) (l : List ℕ) → afterTold s t (length l) .answer .refusal ≡ 0 → Changes s l (afterTold s t (length l))
+
+-- ---- demand 2 at opening
+
 -- the ranges that a session shows are exact for the schedules of S: each day's and the total's
 pub record Exact (p : Profile) (S : List ℤ → Type 0) (s : Session) : Type 0 where
   pub each : (i : ℕ) → i < p .days → Spans S (λ x. on x i) (floorOn s i) (ceilingOn s i)
   pub sum : Spans S total (totalFloor s) (totalCeiling s)
 
--- Demand 2 at opening: where it does not refuse, every range is exact; and 8 is said exactly where no check before it refuses and there is
+-- where opening does not refuse, every range is exact; and 8 is said exactly where no check before it refuses and there is
 -- no schedule
 pub record Demand2 : Type 0 where
   pub opening : (p : Profile) → opened p .refusal ≡ 0 → Exact p (Schedule p) (opened p .session)
   pub none : (p : Profile) → (opened p .refusal ≡ 8) ↔ (earlier p ≡ 0) × ((x : List ℤ) → Schedule p x → ⊥)
 
--- Demand 3, for a profile that opens unrefused and any whole list of cuts, refused ones included: the session is spent exactly where no
--- schedule keeps every valid cut of the list; otherwise its ranges are exact for the schedules that keep them all; and another list with
--- the same valid cuts ends in an equal session
-pub record Demand3 (p : Profile) (hs : List Handed) : Type 0 where
+-- ---- demand 3
+
+-- the session after a whole list of cuts, refused ones included: it is spent exactly where no schedule keeps every valid cut of the list;
+-- otherwise its ranges are exact for the schedules that keep them all; and another list with the same valid cuts ends in an equal session
+pub record AfterList (p : Profile) (hs : List Handed) : Type 0 where
   pub spent : (after (opened p .session) hs .spent ≡ true) ↔ ((x : List ℤ) → Kept p hs x → ⊥)
   pub exact : after (opened p .session) hs .spent ≡ false → Exact p (Kept p hs) (after (opened p .session) hs)
   pub order-free : (gs : List Handed) → ((c : Cut) → ValidIn p hs c ↔ ValidIn p gs c) → after (opened p .session) hs ≡ after (opened p .session) gs
+
+-- for every profile that opens unrefused and every list
+abbrev pub Demand3 : Type 0
+Demand3 = (p : Profile) → opened p .refusal ≡ 0 → (hs : List Handed) → AfterList p hs

@@ -2,16 +2,17 @@
 use mathlib.Core.Path.{_≡_, refl, sym, _∙_}
 use mathlib.Core.Logic.{_⊎_, inl, inr}
 use mathlib.Core.Bool.{Bool, true, false, true≢false}
-use mathlib.Core.List.{List, [], _∷_, List·Memᴰ, List·Memᴰ·head, List·Memᴰ·tail, List·Memᴰ·cases-cons}
-use Prim.Native.Nat.{ℕ, _≤_}
+use mathlib.Core.List.{List, [], _∷_, List·Memᴰ, List·Memᴰ·head, List·Memᴰ·tail, List·Memᴰ·cases-cons, List·Memᴰ·not-nil}
+use Prim.Native.Nat.{ℕ}
 use native.Mathlib.Omega.{arith}
 use lib.Dec.{eqb}
 use borrow.Author.Tests.{le-ltb, ltb-false}
 use Rattle.series.specs.Sum.{at}
-use Rattle.method.specs.Filter.{InBounds, Tight}
+use Rattle.method.specs.Filter.{Tight}
 use Rattle.method.specs.Exact.{none, exact, tighter, looser, exact-in-bounds}
 use Rattle.chains.specs.Spans.{spans-same}
 use Rattle.session.specs.Opening.{rangesOf}
+use Rattle.session.specs.Showing.{Fits}
 use Rattle.session.specs.Profile.{Profile}
 use Rattle.session.specs.declared.Ranges.{Ranges}
 use Rattle.session.specs.declared.Session.{Session}
@@ -21,8 +22,8 @@ use Rattle.cuts.specs.declared.Told.the-variants.{Known, Unknown}
 use Rattle.cutting.specs.Cutting.{malformed, earlier, clipped, retightened, tightenedTo, afterCut, afterTold}
 use Rattle.cutting.specs.Laws.{clipped-in-bounds, earlier-none, passed, refused-same, accepted}
 use Rattle.demands.specs.Cuts.{WellFormed, Handed, Valid, ValidIn, after}
-use Rattle.demands.specs.Clip.{Within, KeepsLevels, DayBelow, well-formed, not-malformed, day-below, to-clipped, of-clipped, floors-past, ceilings-past}
-use Rattle.demands.specs.Right.{Narrowed, live, ended, Right, narrowed, exhausted, right-same}
+use Rattle.demands.specs.Clip.{Within, KeepsLevels, well-formed, to-clipped, of-clipped, clipped-past}
+use Rattle.demands.specs.Right.{Narrowed, unspent, spent, Right, narrowed, exhausted, right-same}
 
 known-same : (c d : Cut) → Known c ≡ Known d → c ≡ d
 known-same c d e = cc
@@ -31,30 +32,39 @@ unknown-known : (c : Cut) → Unknown ≡ Known c → ⊥
 unknown-known c e = let z : _≡_ {A = ℕ} 0 1 = cc in absurd (omega arith)
 
 module _ (p : Profile) (rs : List ℕ) (o : Ranges) where
+  abbrev RightFor : ((ℕ → ℕ) → Type 0) → Session → Type 0
+  RightFor = Right (p .days) rs o
+
+  abbrev unspentWith : Ranges → Session
+  unspentWith = unspent (p .days) rs o
+
+  abbrev spentSession : Session
+  spentSession = spent (p .days) rs o
+
   -- a well-formed cut, clipped and tightened
   module _ (S : (ℕ → ℕ) → Type 0) (r : Ranges) (w : Narrowed (p .days) rs o S r) (c : Cut) (formed : malformed (p .days) c ≡ 0) where
     abbrev T : (ℕ → ℕ) → Type 0
     T x = S x × KeepsLevels (p .days) c x
 
     abbrev t : Tight
-    t = retightened (live (p .days) rs o r) (clipped r c)
+    t = retightened (unspentWith r) (clipped r c)
 
-    below : DayBelow (p .days) c
-    below = day-below p c (well-formed p c formed)
+    well : WellFormed p c
+    well = well-formed p c .0 formed
 
-    fits : InBounds (clipped r c .floors) (clipped r c .ceilings) rs (p .days) (clipped r c .least) (clipped r c .most)
+    fits : Fits rs (p .days) (clipped r c)
     fits = clipped-in-bounds rs (p .days) r c (w .bounds) formed
 
     to : (x : ℕ → ℕ) → T x → Within rs (p .days) (clipped r c) x
-    to x k = to-clipped rs (p .days) (w .bounds .most) r (w .bounds .floors) (w .bounds .ceilings) c below x (w .within x (k .0)) (k .1)
+    to x k = to-clipped p rs (w .bounds .most) r (w .bounds .floors) (w .bounds .ceilings) c well x (w .within x (k .0)) (k .1)
 
     of : (x : ℕ → ℕ) → Within rs (p .days) (clipped r c) x → T x
-    of x l = let z = of-clipped rs (p .days) (w .bounds .most) r (w .bounds .floors) (w .bounds .ceilings) c below x l in (w .only x (z .0), z .1)
+    of x l = let z = of-clipped p rs (w .bounds .most) r (w .bounds .floors) (w .bounds .ceilings) c well x l in (w .only x (z .0), z .1)
 
-    cut-right : Right (p .days) rs o T (tightenedTo (live (p .days) rs o r) t .session)
+    cut-right : RightFor T (tightenedTo (unspentWith r) t .session)
     cut-right = go (t .found) refl
       where
-        go : (b : Bool) → t .found ≡ b → Right (p .days) rs o T (tightenedTo (live (p .days) rs o r) t .session)
+        go : (b : Bool) → t .found ≡ b → RightFor T (tightenedTo (unspentWith r) t .session)
         go true e =
             let z = exact fits e in
             rw e (narrowed (rangesOf t) refl (record {
@@ -63,8 +73,8 @@ module _ (p : Profile) (rs : List ℕ) (o : Ranges) where
               only = λ x l. of x (looser z x l);
               day = λ k h. spans-same to of (z .day k h);
               total = spans-same to of (z .total);
-              floors-kept = λ k h. z .floors-past k h ∙ floors-past (p .days) r c below k h ∙ w .floors-kept k h;
-              ceilings-kept = λ k h. z .ceilings-past k h ∙ ceilings-past (p .days) r c below k h ∙ w .ceilings-kept k h;
+              floors-kept = λ k h. z .floors-past k h ∙ clipped-past p r c well k h .0 ∙ w .floors-kept k h;
+              ceilings-kept = λ k h. z .ceilings-past k h ∙ clipped-past p r c well k h .1 ∙ w .ceilings-kept k h;
             }))
         go false e = rw e (exhausted refl (λ x k. none fits e x (to x k)))
 
@@ -75,47 +85,46 @@ module _ (p : Profile) (rs : List ℕ) (o : Ranges) where
   Keeping S h x = S x × ((c : Cut) → Valid p h c → KeepsLevels (p .days) c x)
 
   module _ (S : (ℕ → ℕ) → Type 0) where
-    -- no valid cut: nothing is kept but S
-    idle : (h : Handed) {s : Session} → ((c : Cut) → Valid p h c → ⊥) → Right (p .days) rs o S s → Right (p .days) rs o (Keeping S h) s
-    idle h invalid = right-same (λ x k. (k, λ c v. absurd (invalid c v))) (λ x k. k .0)
+    -- where no cut is valid, S is kept as it is
+    none-valid : (h : Handed) {s : Session} → ((c : Cut) → Valid p h c → ⊥) → RightFor S s → RightFor (Keeping S h) s
+    none-valid h invalid = right-same (λ x k. (k, λ c v. absurd (invalid c v))) (λ x k. k .0)
 
-    -- a valid cut of an unspent session is not refused before 8
-    unrefused : (r : Ranges) (c : Cut) (room : ℕ) → WellFormed p c → p .days ≤ room → eqb (earlier (live (p .days) rs o r) c room) 0 ≡ true
-    unrefused r c room f l = earlier-none (live (p .days) rs o r) c room (not-malformed p c f) (le-ltb room (p .days) l) refl
+    module _ (c : Cut) (room : ℕ) where
+      abbrev h : Handed
+      h = record { told = Known c; room = room }
 
-    live-step : (r : Ranges) → Narrowed (p .days) rs o S r → (c : Cut) (room : ℕ)
-        → Right (p .days) rs o (Keeping S (record { told = Known c; room = room })) (afterCut (live (p .days) rs o r) c room .session)
-    live-step r w c room = go (eqb (earlier (live (p .days) rs o r) c room) 0) refl
-      where
-        go : (b : Bool) → eqb (earlier (live (p .days) rs o r) c room) 0 ≡ b
-            → Right (p .days) rs o (Keeping S (record { told = Known c; room = room })) (afterCut (live (p .days) rs o r) c room .session)
-        go true e =
-            let q = passed (live (p .days) rs o r) c room e in
-            let v : Valid p (record { told = Known c; room = room }) c = record { known = refl; formed = well-formed p c (q .formed); roomy = ltb-false room (p .days) (q .roomy) } in
-            rw (accepted (live (p .days) rs o r) c room e)
-            (right-same
-            (λ x k. (k .0, λ d u. let same : c ≡ d = known-same c d (u .known) in rw (sym same) (k .1)))
-            (λ x k. (k .0, k .1 c v))
-            (cut-right S r w c (q .formed)))
-        go false e =
-            rw (refused-same (live (p .days) rs o r) c room e)
-            (idle (record { told = Known c; room = room }) (λ d u. let same : c ≡ d = known-same c d (u .known) in
-            absurd (true≢false (sym (unrefused r c room (rw same (u .formed)) (u .roomy)) ∙ e))) (narrowed r refl w))
+      -- a valid cut of an unspent session is not refused before 8
+      unrefused : (r : Ranges) (d : Cut) → Valid p h d → eqb (earlier (unspentWith r) c room) 0 ≡ true
+      unrefused r d v =
+          let same : c ≡ d = known-same c d (v .known) in
+          earlier-none (unspentWith r) c room (well-formed p c .1 (rw same (v .formed))) (le-ltb room (p .days) (v .roomy)) refl
 
-    spent-step : (c : Cut) (room : ℕ) → ((x : ℕ → ℕ) → S x → ⊥)
-        → Right (p .days) rs o (Keeping S (record { told = Known c; room = room })) (afterCut (ended (p .days) rs o) c room .session)
-    spent-step c room none = go (eqb (earlier (ended (p .days) rs o) c room) 0) refl
-      where
-        go : (b : Bool) → eqb (earlier (ended (p .days) rs o) c room) 0 ≡ b
-            → Right (p .days) rs o (Keeping S (record { told = Known c; room = room })) (afterCut (ended (p .days) rs o) c room .session)
-        go true e = absurd (true≢false (passed (ended (p .days) rs o) c room e .unspent))
-        go false e = rw (refused-same (ended (p .days) rs o) c room e) (exhausted refl (λ x k. none x (k .0)))
+      unspent-step : (r : Ranges) → Narrowed (p .days) rs o S r → RightFor (Keeping S h) (afterCut (unspentWith r) c room .session)
+      unspent-step r w = go (eqb (earlier (unspentWith r) c room) 0) refl
+        where
+          go : (b : Bool) → eqb (earlier (unspentWith r) c room) 0 ≡ b → RightFor (Keeping S h) (afterCut (unspentWith r) c room .session)
+          go true e =
+              let q = passed (unspentWith r) c room e in
+              let v : Valid p h c = record { known = refl; formed = well-formed p c .0 (q .formed); roomy = ltb-false room (p .days) (q .roomy) } in
+              rw (accepted (unspentWith r) c room e)
+              (right-same
+              (λ x k. (k .0, λ d u. let same : d ≡ c = sym (known-same c d (u .known)) in rw same (k .1)))
+              (λ x k. (k .0, k .1 c v))
+              (cut-right S r w c (q .formed)))
+          go false e = rw (refused-same (unspentWith r) c room e) (none-valid h (λ d u. true≢false (sym (unrefused r d u) ∙ e)) (narrowed r refl w))
 
-    step : {s : Session} (t : Told) (room : ℕ) → Right (p .days) rs o S s → Right (p .days) rs o (Keeping S (record { told = t; room = room })) (afterTold s t room .session)
+      spent-step : ((x : ℕ → ℕ) → S x → ⊥) → RightFor (Keeping S h) (afterCut spentSession c room .session)
+      spent-step empty = go (eqb (earlier spentSession c room) 0) refl
+        where
+          go : (b : Bool) → eqb (earlier spentSession c room) 0 ≡ b → RightFor (Keeping S h) (afterCut spentSession c room .session)
+          go true e = absurd (true≢false (passed spentSession c room e .unspent))
+          go false e = rw (refused-same spentSession c room e) (exhausted refl (λ x k. empty x (k .0)))
+
+    step : {s : Session} (t : Told) (room : ℕ) → RightFor S s → RightFor (Keeping S (record { told = t; room = room })) (afterTold s t room .session)
     unfolding afterTold
-    step (Known c) room (narrowed r e w) = rw e (live-step r w c room)
-    step (Known c) room (exhausted e h) = rw e (spent-step c room h)
-    step Unknown room z = idle (record { told = Unknown; room = room }) (λ c v. unknown-known c (v .known)) z
+    step (Known c) room (narrowed r e w) = rw e (unspent-step c room r w)
+    step (Known c) room (exhausted e empty) = rw e (spent-step c room empty)
+    step Unknown room z = none-valid (record { told = Unknown; room = room }) (λ c v. unknown-known c (v .known)) z
 
   -- ---- whole lists
 
@@ -131,14 +140,8 @@ module _ (p : Profile) (rs : List ℕ) (o : Ranges) where
       go (inl e) = first c (rw e at (v .valid))
       go (inr m) = later c (record { handed = v .handed; member = m; valid = v .valid })
 
-  none-in : (c : Cut) → ValidIn p [] c → ⊥
-  none-in c v = empty (v .member)
-    where
-      empty : List·Memᴰ (v .handed) [] → ⊥
-      empty = elim [ ]
-
-  pub fold : (S : (ℕ → ℕ) → Type 0) (s : Session) (hs : List Handed) → Right (p .days) rs o S s → Right (p .days) rs o (KeepingAll S hs) (after s hs)
-  fold S s [] z = right-same (λ x k. (k, λ c v. absurd (none-in c v))) (λ x k. k .0) z
+  pub fold : (S : (ℕ → ℕ) → Type 0) (s : Session) (hs : List Handed) → RightFor S s → RightFor (KeepingAll S hs) (after s hs)
+  fold S s [] z = right-same (λ x k. (k, λ c v. absurd (List·Memᴰ·not-nil (v .member)))) (λ x k. k .0) z
   fold S s (h ∷ hs) z =
       right-same
       (λ x k. (k .0 .0, first-or-later h hs x (k .0 .1) (k .1)))

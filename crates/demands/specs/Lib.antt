@@ -6,7 +6,7 @@ pub mod Bridge
 pub mod Clip
 pub mod Right
 pub mod Fold
-pub mod Demand1
 pub mod Changed
+pub mod Demand1
 pub mod Demand2
 pub mod Demand3

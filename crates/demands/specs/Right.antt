@@ -8,15 +8,16 @@ use native.Mathlib.Omega.{arith}
 use native.Mathlib.Decide.{decLt}
 use lib.Seq.{ext-getD}
 use Rattle.series.specs.Sum.{at}
-use Rattle.method.specs.Filter.{InBounds, held}
+use Rattle.method.specs.Filter.{held}
 use Rattle.chains.specs.Spans.{Spans, spans-same, spans-least, spans-most}
+use Rattle.session.specs.Showing.{Fits}
 use Rattle.session.specs.declared.Ranges.{Ranges}
 use Rattle.session.specs.declared.Session.{Session}
 use Rattle.demands.specs.Clip.{Within}
 
 -- ranges that are exact for S, and hold exactly the levels of S; past the last day they are as opened
 pub record Narrowed (n : ℕ) (rs : List ℕ) (o : Ranges) (S : (ℕ → ℕ) → Type 0) (r : Ranges) : Type 0 where
-  pub bounds : InBounds (r .floors) (r .ceilings) rs n (r .least) (r .most)
+  pub bounds : Fits rs n r
   pub within : (x : ℕ → ℕ) → S x → Within rs n r x
   pub only : (x : ℕ → ℕ) → Within rs n r x → S x
   pub day : (k : ℕ) → k < n → Spans S (λ x. x k) (at (r .floors) k) (at (r .ceilings) k)
@@ -24,16 +25,16 @@ pub record Narrowed (n : ℕ) (rs : List ℕ) (o : Ranges) (S : (ℕ → ℕ) �
   pub floors-kept : (k : ℕ) → n ≤ k → at (r .floors) k ≡ at (o .floors) k
   pub ceilings-kept : (k : ℕ) → n ≤ k → at (r .ceilings) k ≡ at (o .ceilings) k
 
-abbrev pub live : ℕ → List ℕ → Ranges → Ranges → Session
-live n rs o r = record { days = n; rises = rs; opened = o; present = r; spent = false }
+abbrev pub unspent : ℕ → List ℕ → Ranges → Ranges → Session
+unspent n rs o r = record { days = n; rises = rs; opened = o; present = r; spent = false }
 
-abbrev pub ended : ℕ → List ℕ → Ranges → Session
-ended n rs o = record { days = n; rises = rs; opened = o; present = o; spent = true }
+abbrev pub spent : ℕ → List ℕ → Ranges → Session
+spent n rs o = record { days = n; rises = rs; opened = o; present = o; spent = true }
 
 -- not spent, with ranges for S; or spent, and S empty
 pub data Right (n : ℕ) (rs : List ℕ) (o : Ranges) (S : (ℕ → ℕ) → Type 0) (s : Session) : Type 0 where
-  narrowed : (r : Ranges) → s ≡ live n rs o r → Narrowed n rs o S r → Right n rs o S s
-  exhausted : s ≡ ended n rs o → ((x : ℕ → ℕ) → S x → ⊥) → Right n rs o S s
+  narrowed : (r : Ranges) → s ≡ unspent n rs o r → Narrowed n rs o S r → Right n rs o S s
+  exhausted : s ≡ spent n rs o → ((x : ℕ → ℕ) → S x → ⊥) → Right n rs o S s
 
 module _ {n : ℕ} {rs : List ℕ} {o : Ranges} where
   pub right-same : {S T : (ℕ → ℕ) → Type 0} {s : Session} → ((x : ℕ → ℕ) → S x → T x) → ((x : ℕ → ℕ) → T x → S x) → Right n rs o S s → Right n rs o T s
@@ -72,7 +73,7 @@ module _ {n : ℕ} {rs : List ℕ} {o : Ranges} {S : (ℕ → ℕ) → Type 0} w
   some {r} a = let z = a .total .taken (r .least) (le-refl (r .least)) (a .total .some) in (z .0, z .1)
 
   pub right-one : {s t : Session} → Right n rs o S s → Right n rs o S t → s ≡ t
-  right-one (narrowed r e a) (narrowed q f b) = e ∙ ap (live n rs o) (ranges-same a b) ∙ sym f
+  right-one (narrowed r e a) (narrowed q f b) = e ∙ ap (unspent n rs o) (ranges-same a b) ∙ sym f
   right-one (narrowed r e a) (exhausted f h) = let z = some a in absurd (h (z .0) (z .1))
   right-one (exhausted e h) (narrowed q f b) = let z = some b in absurd (h (z .0) (z .1))
   right-one (exhausted e h) (exhausted f g) = e ∙ sym f

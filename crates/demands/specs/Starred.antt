@@ -101,7 +101,7 @@ table =
       cuts = DayFloor 0 (pos 3) ∷ TotalCeiling 0 (pos 11) ∷ [];
       gives = A-ranges ∷ changed 3 (11 ⋯ 12) (3 ⋯ 4 ∷ 4 ⋯ 4 ∷ 4 ⋯ 5 ∷ []) ∷ changed 2 (11 ⋯ 11) (3 ⋯ 3 ∷ 4 ⋯ 4 ∷ 4 ⋯ 4 ∷ []) ∷ [];
     }
-    -- C: the cuts of B in the other order end the same
+    -- C: the cuts of B in the other order end the same (what the first of them gives, here and in D, document 01 leaves out)
     ∷ record {
       given = A;
       cuts = TotalCeiling 0 (pos 11) ∷ DayFloor 0 (pos 3) ∷ [];

@@ -4,9 +4,17 @@ use mathlib.Core.Path.{_≡_, refl, ap, _∙_}
 use mathlib.Core.List.{List}
 use native.Mathlib.Numerals.{add-one}
 use native.Mathlib.Omega.{arith}
-use native.Mathlib.Decide.{decLt}
+use native.Mathlib.Decide.{decLt, ℕ-discrete}
 use lib.ListN.{length, getD, set, length-set}
 use lib.Seq.{getD-set-same, getD-set-other, set-comm}
+
+-- what holds at each place of a list with one element changed
+pub by-cell : {A : Type 0} (P : ℕ → A → Type 0) (d : A) (l : List A) (i : ℕ) (a : A) → i < length l → P i a → (k : ℕ) → P k (getD l k d) → P k (getD (set l i a) k d)
+by-cell P d l i a h here k there = go (ℕ-discrete k i)
+  where
+    go : Dec (k ≡ i) → P k (getD (set l i a) k d)
+    go (yes e) = rw (e, getD-set-same l i a d h) here
+    go (no e) = rw (getD-set-other l i k a d e) there
 
 unfoldable pub written : {A : Type 0} → (ℕ → A) → ℕ → List A → List A
 written f zero l = l

@@ -10,14 +10,14 @@ use borrow.Author.Tests.{eqb-true}
 use Rattle.series.specs.Sum.{at}
 use Rattle.series.specs.Written.{written, length-written, written-below}
 use Rattle.levels.specs.Code.{lowestPoint, lowestRise, code}
-use Rattle.method.specs.Filter.{InBounds, zeros}
+use Rattle.method.specs.Filter.{zeros}
 use Rattle.method.specs.Exact.{exact, exact-in-bounds}
 use Rattle.session.specs.Profile.{Profile}
 use Rattle.session.specs.Opening.{earlier, opened, openedWith, refusedWith, narrowed, allZero, codes}
-use Rattle.session.specs.Showing.{Sane}
+use Rattle.session.specs.Showing.{Fits, Sane}
 use Rattle.session.specs.Entered.{entered, codes-bounds}
 
-one-day : InBounds (allZero .floors) (allZero .ceilings) zeros 1 (allZero .least) (allZero .most)
+one-day : Fits zeros 1 allZero
 one-day =
     let wide = length-written (λ (k : ℕ). code lowestPoint (pos 0)) 1 zeros ∙ length-replicate {A = ℕ} 512 0 in
     let first : (k : ℕ) → k < 1 → at (written (λ (j : ℕ). code lowestPoint (pos 0)) 1 zeros) k ≤ 5000 =

@@ -8,6 +8,7 @@ use Rattle.series.specs.Sum.{at}
 use Rattle.series.specs.Written.{written}
 use Rattle.levels.specs.Code.{lowestPoint, lowestTotal, decoded}
 use Rattle.method.specs.Filter.{InBounds}
+use Rattle.session.specs.declared.Ranges.{Ranges}
 use Rattle.session.specs.declared.Session.{Session}
 use Rattle.session.specs.declared.Shown.{Shown}
 
@@ -38,7 +39,11 @@ shown s floors ceilings =
 unfoldable pub shownList : ℕ → (ℕ → ℤ) → ℕ → List ℤ → List ℤ
 shownList refusal f n l = cond (eqb refusal 0) (written f n l) l
 
+-- ranges of n days are in bounds, with the rises between the days
+abbrev pub Fits : List ℕ → ℕ → Ranges → Type 0
+Fits rs n r = InBounds (r .floors) (r .ceilings) rs n (r .least) (r .most)
+
 -- the numbers of a session are in bounds
 pub record Sane (s : Session) : Type 0 where
-  pub opened : InBounds (s .opened .floors) (s .opened .ceilings) (s .rises) (s .days) (s .opened .least) (s .opened .most)
-  pub present : InBounds (s .present .floors) (s .present .ceilings) (s .rises) (s .days) (s .present .least) (s .present .most)
+  pub opened : Fits (s .rises) (s .days) (s .opened)
+  pub present : Fits (s .rises) (s .days) (s .present)
