@@ -4,7 +4,7 @@ ghost use Prim.Native.Nat.{ℕ, _-_, _*_, _≤_, _<_};
 ghost use Rattle.series.specs.Sum.{at};
 ghost use Rattle.series.specs.Written.{written};
 ghost use Rattle.chains.specs.Sum.{sum, all};
-ghost use Rattle.method.specs.Filter.{mirrored, reversed};
+ghost use Rattle.method.specs.Filter.{mirrored, reversed, held};
 use numbers::narrow;
 use numbers::wide;
 
@@ -20,6 +20,14 @@ pub fn sum(levels: &[u16; 512], n: usize) -> usize
         count += 1;
     }
     total
+}
+
+// The sum of n days' levels as a total is held.
+pub fn held_total(levels: &[u16; 512], n: usize) -> usize
+    requires { ⌜ n ≤ 512 ⌝ }
+    ensures { λ r. ⌜ (r ≡ held n (at (now (levels .entry)))) × (r ≤ 34066432) ⌝ }
+{
+    sum(levels, n) + 1000 * (512 - n)
 }
 
 // The levels of n days, from the other end of the days and of the scale.

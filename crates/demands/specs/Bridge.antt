@@ -19,8 +19,8 @@ use Rattle.session.specs.Profile.{Profile, Schedule, Spans, total}
 use Rattle.session.specs.Opening.{codes}
 use Rattle.session.specs.declared.Session.{Session}
 use Rattle.demands.specs.Demands.{Exact}
-use Rattle.demands.specs.Lists as Lists
-use Rattle.demands.specs.Lists.{listOf, length-listOf, on-listOf}
+use Rattle.session.specs.Lists as Lists
+use Rattle.session.specs.Lists.{listOf, length-listOf, on-listOf}
 use Rattle.levels.specs.Order.{≤ℤ-trans}
 use Rattle.session.specs.Entered.{Entered, floor-less, ceiling-less, rise-less-at, lowest-less, highest-less}
 
@@ -33,57 +33,73 @@ held-less x n c e few h =
     let all-days : n * 1000 + 1000 * (512 - n) ≡ 512000 = omega arith in
     rw all-days at wide
 
+-- lists of codes stand for a profile's points and rises, and numbers for its total's bounds
+pub record Coding (p : Profile) (fs cs rs : List ℕ) (L U : ℕ) : Type 0 where
+  pub few : p .days ≤ 512
+  pub floor : (k : ℕ) → k < p .days → Less (on (p .floors) k) (at fs k) 1000
+  pub ceiling : (k : ℕ) → k < p .days → Less (on (p .ceilings) k) (at cs k) 1000
+  pub rise : (k : ℕ) → k + 1 < p .days → Less (on (p .rises) k) (at rs k) 2000
+  pub lowest : Less (p .lowest) L 512000
+  pub highest : Less (p .highest) U 512000
+
+-- a list of points and the levels that stand for them are schedules together
+module _ {p : Profile} {fs cs rs : List ℕ} {L U : ℕ} (g : Coding p fs cs rs L U)
+    (x : List ℤ) (whole : length x ≡ p .days) (c : ℕ → ℕ) (same : (i : ℕ) → i < p .days → Less (on x i) (c i) 1000) where
+  sum-less : Less (total x) (held (p .days) c) 512000
+  sum-less = held-less x (p .days) c whole (g .few) same
+
+  floor-same : (k : ℕ) → k < p .days → (on (p .floors) k ≤ℤ on x k) ↔ (at fs k ≤ c k)
+  floor-same k h = less-order (on (p .floors) k) (on x k) (at fs k) (c k) 1000 (g .floor k h) (same k h)
+
+  ceiling-same : (k : ℕ) → k < p .days → (on x k ≤ℤ on (p .ceilings) k) ↔ (c k ≤ at cs k)
+  ceiling-same k h = less-order (on x k) (on (p .ceilings) k) (c k) (at cs k) 1000 (same k h) (g .ceiling k h)
+
+  rise-same : (k : ℕ) → k + 1 < p .days → ((on x k +ℤ on (p .rises) k) ≤ℤ on x (k + 1)) ↔ (c k + at rs k ≤ c (k + 1) + 2000)
+  rise-same k h =
+      less-order (on x k +ℤ on (p .rises) k) (on x (k + 1)) (c k + at rs k) (c (k + 1) + 2000) 3000
+      (less-add (on x k) (on (p .rises) k) (c k) (at rs k) 1000 2000 (same k (omega arith)) (g .rise k h))
+      (less-shift (on x (k + 1)) (c (k + 1)) 1000 2000 (same (k + 1) h))
+
+  least-same : (p .lowest ≤ℤ total x) ↔ (L ≤ held (p .days) c)
+  least-same = less-order (p .lowest) (total x) L (held (p .days) c) 512000 (g .lowest) sum-less
+
+  most-same : (total x ≤ℤ p .highest) ↔ (held (p .days) c ≤ U)
+  most-same = less-order (total x) (p .highest) (held (p .days) c) U 512000 sum-less (g .highest)
+
+  pub to-levels : Schedule p x → Levels fs cs rs (p .days) L U c
+  to-levels s = record {
+    floor = λ k h. floor-same k h .0 (s .floor k h);
+    ceiling = λ k h. ceiling-same k h .0 (s .ceiling k h);
+    rise = λ k h. rise-same k h .0 (s .rise k h);
+    least = least-same .0 (s .least);
+    most = most-same .0 (s .most);
+  }
+
+  pub of-levels : Levels fs cs rs (p .days) L U c → Schedule p x
+  of-levels s = record {
+    whole = whole;
+    floor = λ k h. floor-same k h .1 (s .floor k h);
+    ceiling = λ k h. ceiling-same k h .1 (s .ceiling k h);
+    rise = λ k h. rise-same k h .1 (s .rise k h);
+    least = least-same .1 (s .least);
+    most = most-same .1 (s .most);
+  }
+
 module _ (p : Profile) (d : Entered p) where
   abbrev pub CodesOf : (ℕ → ℕ) → Type 0
   CodesOf = Levels (codes lowestPoint (p .floors) (p .days)) (codes lowestPoint (p .ceilings) (p .days))
       (codes lowestRise (p .rises) (p .days - 1)) (p .days) (code lowestTotal (p .lowest)) (code lowestTotal (p .highest))
 
-  -- a list of points and the levels that stand for them are schedules together
-  module _ (x : List ℤ) (whole : length x ≡ p .days) (c : ℕ → ℕ) (same : (i : ℕ) → i < p .days → Less (on x i) (c i) 1000) where
-    sum-less : Less (total x) (held (p .days) c) 512000
-    sum-less = held-less x (p .days) c whole (d .sized .few) same
-
-    stepped : (i : ℕ) → i + 1 < p .days → Less (on x i +ℤ on (p .rises) i) (c i + at (codes lowestRise (p .rises) (p .days - 1)) i) 3000
-    stepped i h =
-        less-add (on x i) (on (p .rises) i) (c i) (at (codes lowestRise (p .rises) (p .days - 1)) i) 1000 2000 (same i (omega arith)) (rise-less-at p d i h)
-
-    next : (i : ℕ) → i + 1 < p .days → Less (on x (i + 1)) (c (i + 1) + 2000) 3000
-    next i h = less-shift (on x (i + 1)) (c (i + 1)) 1000 2000 (same (i + 1) h)
-
-    floor-same : (k : ℕ) → k < p .days → (on (p .floors) k ≤ℤ on x k) ↔ (at (codes lowestPoint (p .floors) (p .days)) k ≤ c k)
-    floor-same k h = less-order (on (p .floors) k) (on x k) _ (c k) 1000 (floor-less p d k h) (same k h)
-
-    ceiling-same : (k : ℕ) → k < p .days → (on x k ≤ℤ on (p .ceilings) k) ↔ (c k ≤ at (codes lowestPoint (p .ceilings) (p .days)) k)
-    ceiling-same k h = less-order (on x k) (on (p .ceilings) k) (c k) _ 1000 (same k h) (ceiling-less p d k h)
-
-    rise-same : (k : ℕ) → k + 1 < p .days
-        → ((on x k +ℤ on (p .rises) k) ≤ℤ on x (k + 1)) ↔ (c k + at (codes lowestRise (p .rises) (p .days - 1)) k ≤ c (k + 1) + 2000)
-    rise-same k h = less-order (on x k +ℤ on (p .rises) k) (on x (k + 1)) _ (c (k + 1) + 2000) 3000 (stepped k h) (next k h)
-
-    least-same : (p .lowest ≤ℤ total x) ↔ (code lowestTotal (p .lowest) ≤ held (p .days) c)
-    least-same = less-order (p .lowest) (total x) _ (held (p .days) c) 512000 (lowest-less p d) sum-less
-
-    most-same : (total x ≤ℤ p .highest) ↔ (held (p .days) c ≤ code lowestTotal (p .highest))
-    most-same = less-order (total x) (p .highest) (held (p .days) c) _ 512000 sum-less (highest-less p d)
-
-    to-codes : Schedule p x → CodesOf c
-    to-codes s = record {
-      floor = λ k h. floor-same k h .0 (s .floor k h);
-      ceiling = λ k h. ceiling-same k h .0 (s .ceiling k h);
-      rise = λ k h. rise-same k h .0 (s .rise k h);
-      least = least-same .0 (s .least);
-      most = most-same .0 (s .most);
-    }
-
-    of-codes : CodesOf c → Schedule p x
-    of-codes s = record {
-      whole = whole;
-      floor = λ k h. floor-same k h .1 (s .floor k h);
-      ceiling = λ k h. ceiling-same k h .1 (s .ceiling k h);
-      rise = λ k h. rise-same k h .1 (s .rise k h);
-      least = least-same .1 (s .least);
-      most = most-same .1 (s .most);
-    }
+  pub coding : Coding p (codes lowestPoint (p .floors) (p .days)) (codes lowestPoint (p .ceilings) (p .days))
+      (codes lowestRise (p .rises) (p .days - 1)) (code lowestTotal (p .lowest)) (code lowestTotal (p .highest))
+  coding = record {
+    few = d .sized .few;
+    floor = floor-less p d;
+    ceiling = ceiling-less p d;
+    rise = rise-less-at p d;
+    lowest = lowest-less p d;
+    highest = highest-less p d;
+  }
 
   -- the levels of a schedule
   pub levels-of : (x : List ℤ) → Schedule p x → (i : ℕ) → i < p .days → Less (on x i) (code lowestPoint (on x i)) 1000
@@ -104,19 +120,19 @@ module _ (p : Profile) (d : Entered p) where
 
   -- the levels of a schedule, in codes, and the points of one in codes
   pub codes-of : (x : List ℤ) → Schedule p x → CodesOf (λ k. code lowestPoint (on x k))
-  codes-of x h = to-codes x (h .whole) (λ k. code lowestPoint (on x k)) (levels-of x h) h
+  codes-of x h = to-levels coding x (h .whole) (λ k. code lowestPoint (on x k)) (levels-of x h) h
 
   pub schedule-of : (c : ℕ → ℕ) → CodesOf c → Schedule p (pointsOf c)
-  schedule-of c h = of-codes (pointsOf c) (points-length c) c (points-less c) h
+  schedule-of c h = of-levels coding (pointsOf c) (points-length c) c (points-less c) h
 
 -- ---- exact ranges in codes, as points
 
--- a value from one decoded number to another is decoded from a number between
-between : (low v : ℤ) (k m n : ℕ) → Less low 0 k → decoded low m ≤ℤ v → v ≤ℤ decoded low n → (c : ℕ) × Less v c k × (m ≤ c) × (c ≤ n)
+-- the code of a value from one decoded number to another is between them
+pub between : (low v : ℤ) (k m n : ℕ) → Less low 0 k → decoded low m ≤ℤ v → v ≤ℤ decoded low n → Less v (code low v) k × (m ≤ code low v) × (code low v ≤ n)
 between low v k m n p lo hi =
     let bottom : low ≤ℤ decoded low m = less-le low (decoded low m) 0 m k p (decoded-less low m k p) (omega arith) in
     let c : Less v (code low v) k = code-less low v k p (≤ℤ-trans low (decoded low m) v bottom lo) in
-    (code low v, c, le-less (decoded low m) v m (code low v) k (decoded-less low m k p) c lo, le-less v (decoded low n) (code low v) n k c (decoded-less low n k p) hi)
+    (c, le-less (decoded low m) v m (code low v) k (decoded-less low m k p) c lo, le-less v (decoded low n) (code low v) n k c (decoded-less low n k p) hi)
 
 -- a set of schedules, and the same set in codes
 module _ (p : Profile) (d : Entered p) (S : List ℤ → Type 0) (T : (ℕ → ℕ) → Type 0) (schedule : (x : List ℤ) → S x → Schedule p x)
@@ -134,9 +150,9 @@ module _ (p : Profile) (d : Entered p) (S : List ℤ → Type 0) (T : (ℕ → �
     at-value : (v : ℤ) → decoded low lo ≤ℤ v → v ≤ℤ decoded low hi → (x : List ℤ) × S x × (f x ≡ v)
     at-value v l u =
         let b = between low v k lo hi offset l u in
-        let t = s .taken (b .0) (b .2) (b .3) in
-        let here : Less (f (pointsOf p d (t .0))) (b .0) k = rw (t .2) at (same (pointsOf p d (t .0)) (t .0) (points-length p d (t .0)) (points-less p d (t .0))) in
-        (pointsOf p d (t .0), of (t .0) (t .1), less-same (f (pointsOf p d (t .0))) v (b .0) k here (b .1))
+        let t = s .taken (code low v) (b .1) (b .2) in
+        let here : Less (f (pointsOf p d (t .0))) (code low v) k = rw (t .2) at (same (pointsOf p d (t .0)) (t .0) (points-length p d (t .0)) (points-less p d (t .0))) in
+        (pointsOf p d (t .0), of (t .0) (t .1), less-same (f (pointsOf p d (t .0))) v (code low v) k here (b .0))
 
     spans : Spans S f (decoded low lo) (decoded low hi)
     spans = record {

@@ -14,18 +14,15 @@ use Rattle.series.specs.Written.{by-cell}
 use Rattle.levels.specs.Code.{lowestPoint, highestPoint, lowestTotal, highestTotal, code}
 use Rattle.levels.specs.Laws.{within-yes}
 use Rattle.method.specs.Filter.{held}
-use Rattle.method.specs.Levels.{Levels, rebound}
+use Rattle.method.specs.Levels.{rebound}
 use Rattle.session.specs.Profile.{Profile}
+use Rattle.session.specs.Showing.{Within}
 use Rattle.session.specs.declared.Ranges.{Ranges}
 use Rattle.cuts.specs.declared.Cut.{Cut}
 use Rattle.cuts.specs.declared.Cut.the-variants.{DayFloor, DayCeiling, TotalFloor, TotalCeiling}
 use Rattle.cutting.specs.Cutting.{dayRefusal, totalRefusal, malformed, clipped}
 use Rattle.cutting.specs.Laws.{day-formed, total-formed}
 use Rattle.demands.specs.Cuts.{WellFormed}
-
--- levels within ranges
-abbrev pub Within : List ℕ → ℕ → Ranges → (ℕ → ℕ) → Type 0
-Within rs n r = Levels (r .floors) (r .ceilings) rs n (r .least) (r .most)
 
 -- n days' levels keep a cut
 abbrev pub KeepsLevels : ℕ → Cut → (ℕ → ℕ) → Type 0

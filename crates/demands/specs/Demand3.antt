@@ -20,7 +20,7 @@ use Rattle.cuts.specs.declared.Cut.{Cut}
 use Rattle.cuts.specs.declared.Cut.the-variants.{DayFloor, DayCeiling, TotalFloor, TotalCeiling}
 use Rattle.demands.specs.Cuts.{WellFormed, Keeps, Handed, ValidIn, Kept, after}
 use Rattle.demands.specs.Demands.{Exact, Demand3}
-use Rattle.demands.specs.Bridge.{held-less, CodesOf, levels-of, pointsOf, points-length, points-less, codes-of, schedule-of, exact-points}
+use Rattle.demands.specs.Bridge.{held-less, CodesOf, levels-of, pointsOf, points-length, points-less, codes-of, coding, of-levels, exact-points}
 use Rattle.demands.specs.Demand2.{unrefused}
 use Rattle.demands.specs.Clip.{KeepsLevels}
 use Rattle.demands.specs.Right.{Right, narrowed, exhausted, right-same, some, right-one}
@@ -45,18 +45,21 @@ module _ (p : Profile) (d : Entered p) where
   o = rangesOf (tight p)
 
   -- the levels that keep every valid cut of the list
-  abbrev LevelsKept : List Handed → (ℕ → ℕ) → Type 0
+  abbrev pub LevelsKept : List Handed → (ℕ → ℕ) → Type 0
   LevelsKept hs = KeepingAll p rs o (CodesOf p d) hs
 
-  kept-levels : (hs : List Handed) (x : List ℤ) → Kept p hs x → LevelsKept hs (λ k. code lowestPoint (on x k))
+  pub kept-levels : (hs : List Handed) (x : List ℤ) → Kept p hs x → LevelsKept hs (λ k. code lowestPoint (on x k))
   kept-levels hs x k =
       (codes-of p d x (k .schedule), λ c v. keeps-same x (k .schedule .whole) _ (levels-of p d x (k .schedule)) c (v .valid .formed) .0 (k .keeps c v))
 
-  kept-points : (hs : List Handed) (y : ℕ → ℕ) → LevelsKept hs y → Kept p hs (pointsOf p d y)
-  kept-points hs y k = record {
-    schedule = schedule-of p d y (k .0);
-    keeps = λ c v. keeps-same (pointsOf p d y) (points-length p d y) y (points-less p d y) c (v .valid .formed) .1 (k .1 c v);
+  pub levels-kept : (hs : List Handed) (x : List ℤ) → length x ≡ p .days → (y : ℕ → ℕ) → ((i : ℕ) → i < p .days → Less (on x i) (y i) 1000) → LevelsKept hs y → Kept p hs x
+  levels-kept hs x whole y same k = record {
+    schedule = of-levels (coding p d) x whole y same (k .0);
+    keeps = λ c v. keeps-same x whole y same c (v .valid .formed) .1 (k .1 c v);
   }
+
+  kept-points : (hs : List Handed) (y : ℕ → ℕ) → LevelsKept hs y → Kept p hs (pointsOf p d y)
+  kept-points hs y = levels-kept hs (pointsOf p d y) (points-length p d y) y (points-less p d y)
 
   -- what a session that is right for the levels says of the schedules
   spent-exactly : (hs : List Handed) {s : Session} → Right (p .days) rs o (LevelsKept hs) s → (s .spent ≡ true) ↔ ((x : List ℤ) → Kept p hs x → ⊥)
@@ -87,7 +90,7 @@ module _ (p : Profile) (d : Entered p) where
           ceilings-kept = λ k h. refl;
         })
 
-    after-right : (hs : List Handed) → Right (p .days) rs o (LevelsKept hs) (after start hs)
+    pub after-right : (hs : List Handed) → Right (p .days) rs o (LevelsKept hs) (after start hs)
     after-right hs = fold p rs o (CodesOf p d) start hs start-right
 
     same-session : (hs gs : List Handed) → ((c : Cut) → ValidIn p hs c ↔ ValidIn p gs c) → after start hs ≡ after start gs

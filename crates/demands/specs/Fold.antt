@@ -12,7 +12,7 @@ use Rattle.method.specs.Filter.{Tight}
 use Rattle.method.specs.Exact.{none, exact, tighter, looser, exact-in-bounds}
 use Rattle.chains.specs.Spans.{spans-same}
 use Rattle.session.specs.Opening.{rangesOf}
-use Rattle.session.specs.Showing.{Fits}
+use Rattle.session.specs.Showing.{Fits, Within}
 use Rattle.session.specs.Profile.{Profile}
 use Rattle.session.specs.declared.Ranges.{Ranges}
 use Rattle.session.specs.declared.Session.{Session}
@@ -22,7 +22,7 @@ use Rattle.cuts.specs.declared.Told.the-variants.{Known, Unknown}
 use Rattle.cutting.specs.Cutting.{malformed, earlier, clipped, retightened, tightenedTo, afterCut, afterTold}
 use Rattle.cutting.specs.Laws.{clipped-in-bounds, earlier-none, passed, refused-same, accepted}
 use Rattle.demands.specs.Cuts.{WellFormed, Handed, Valid, ValidIn, after}
-use Rattle.demands.specs.Clip.{Within, KeepsLevels, well-formed, to-clipped, of-clipped, clipped-past}
+use Rattle.demands.specs.Clip.{KeepsLevels, well-formed, to-clipped, of-clipped, clipped-past}
 use Rattle.demands.specs.Right.{Narrowed, unspent, spent, Right, narrowed, exhausted, right-same}
 
 known-same : (c d : Cut) → Known c ≡ Known d → c ≡ d

@@ -1,7 +1,6 @@
 pub mod Cuts
 pub mod Demands
 pub mod Starred
-pub mod Lists
 pub mod Bridge
 pub mod Clip
 pub mod Right
@@ -10,3 +9,7 @@ pub mod Changed
 pub mod Demand1
 pub mod Demand2
 pub mod Demand3
+pub mod Schedules
+pub mod Inspected
+pub mod Reached
+pub mod Written

@@ -10,10 +10,9 @@ use lib.Seq.{ext-getD}
 use Rattle.series.specs.Sum.{at}
 use Rattle.method.specs.Filter.{held}
 use Rattle.chains.specs.Spans.{Spans, spans-same, spans-least, spans-most}
-use Rattle.session.specs.Showing.{Fits}
+use Rattle.session.specs.Showing.{Fits, Within}
 use Rattle.session.specs.declared.Ranges.{Ranges}
 use Rattle.session.specs.declared.Session.{Session}
-use Rattle.demands.specs.Clip.{Within}
 
 -- ranges that are exact for S, and hold exactly the levels of S; past the last day they are as opened
 pub record Narrowed (n : ℕ) (rs : List ℕ) (o : Ranges) (S : (ℕ → ℕ) → Type 0) (r : Ranges) : Type 0 where

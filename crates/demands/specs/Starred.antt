@@ -8,9 +8,10 @@ use lib.Dec.{eqb}
 use lib.ListN.{length}
 use Rattle.series.specs.Sum.{sumFor}
 use Rattle.series.specs.Written.{written}
+use Rattle.series.specs.First.{firstWhere}
 use Rattle.chains.specs.Fit.{fitFrom}
 use Rattle.method.specs.Shift.{shiftFrom}
-use Rattle.method.specs.Filter.{tightened, tightCeilings, tightFloors, raised, loweredFrom, firstCrossed, carried}
+use Rattle.method.specs.Filter.{tightened, tightCeilings, tightFloors, raised, loweredFrom, carried}
 use Rattle.session.specs.Profile.{Profile}
 use Rattle.session.specs.Showing.{floorOn, ceilingOn, totalFloor, totalCeiling}
 use Rattle.session.specs.Opening.{opened, earlier}
@@ -131,5 +132,5 @@ table =
     ∷ []
 
 pub starred : map (λ (r : Row). replies (r .given) (r .cuts)) table ≡ map (λ (r : Row). r .gives) table
-unfolding opened earlier tightened tightCeilings tightFloors raised loweredFrom firstCrossed carried written sumFor fitFrom shiftFrom afterCut earlierCut clipped daysWhere
+unfolding opened earlier tightened tightCeilings tightFloors raised loweredFrom firstWhere carried written sumFor fitFrom shiftFrom afterCut earlierCut clipped daysWhere
 starred = refl

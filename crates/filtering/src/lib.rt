@@ -1,13 +1,11 @@
 // Document 01's filtering, on levels as shown.
 ghost use mathlib.Core.Path.{_≡_};
 ghost use mathlib.Core.Bool.{false};
-ghost use Prim.Native.Nat.{_≤_};
-ghost use Rattle.series.specs.Sum.{at};
-ghost use Rattle.method.specs.Filter.{InBounds, raised, tightened, held};
+ghost use Rattle.method.specs.Filter.{InBounds, raised, tightened};
 ghost use Rattle.filtering.specs.Raisable.{Raisable};
+use arrays::held_total;
 use arrays::mirror;
 use arrays::reverse;
-use arrays::sum;
 use carry::carry;
 use ceilings::lower_ceilings;
 use numbers::greatest;
@@ -39,14 +37,6 @@ fn raise_floors(
     reverse(rises, n, &mut back);
     lower_ceilings(&low, &mut high, &back, n, margin);
     mirror(&high, n, floors);
-}
-
-// The sum of n days' levels as a total is held.
-fn held_total(levels: &[u16; 512], n: usize) -> usize
-    requires { ⌜ n ≤ 512 ⌝ }
-    ensures { λ r. ⌜ (r ≡ held n (at (now (levels .entry)))) × (r ≤ 34066432) ⌝ }
-{
-    sum(levels, n) + 1000 * (512 - n)
 }
 
 // There is no schedule.

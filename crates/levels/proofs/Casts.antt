@@ -8,12 +8,13 @@ use lib.Signed.{_≤ℤ_, _<ℤ_, ltZ, ltZ-yes, ltZ-no, clashℤ, nonNeg, natAbs
 use lib.Dec.{T, leb→le}
 use denote.Floats.{passes}
 use borrow.Author.Needs.{sfits-of}
+use borrow.Author.Tests.{le-leb}
 use mir.Syntax.{Width, w16, w32, w64}
 use mir.Val.{Fits, SFits, toZ, ofZ, hbits}
 use mir.Facts.{toZ-ofZ, toZ-pos, sfits-widen, not-T}
 use Rattle.levels.specs.declared.Coded.the-variants.{Code, Outside}
 use Rattle.levels.specs.Offset.{Less}
-use Rattle.levels.specs.Code.{lowestPoint, within, code, decoded, coded}
+use Rattle.levels.specs.Code.{lowestPoint, lowestSetpoint, highestSetpoint, within, code, decoded, coded}
 use Rattle.levels.specs.Laws.{point-less, code-difference, code-most, decoded-less, within-yes}
 
 -- a number of 32 bits, read back from its bits
@@ -37,6 +38,11 @@ module _ (v w : Width) {z : ℤ} (f : SFits v z) (g : SFits w z) where
 
 pub whole-fits : (z : ℤ) → mag z < 2 ^ hbits w16 → SFits w32 (toZ w16 (ofZ w16 z))
 whole-fits z h = recast-fits w16 w32 {z = z} (sfits-of h) (sfits-widen tt (sfits-of {w = w16} h))
+
+-- a number of 16 bits is a setpoint
+pub setpoint-within : {z : ℤ} → SFits w16 z → within lowestSetpoint highestSetpoint z ≡ true
+setpoint-within {z = pos a} f = le-leb a 32767 (omega (arith, f .sfits))
+setpoint-within {z = negsuc a} f = rw (le-leb a 32767 (omega (arith, f .sfits)))
 
 -- `coded_from`
 outside : (low high z : ℤ) → (low ≤ℤ z → z ≤ℤ high → ⊥) → Outside ≡ coded low high z

@@ -13,13 +13,15 @@ use mir.Facts.{toZ-ofZ, sfits-widen}
 use Rattle.series.specs.Written.{written, written-none, written-more}
 use Rattle.levels.specs.declared.Coded.{Coded}
 use Rattle.levels.specs.declared.Coded.the-variants.{Code, Outside}
-use Rattle.levels.specs.Code.{lowestPoint, within, code, decoded, on, firstOutside, coded}
+use Rattle.levels.specs.Code.{lowestPoint, lowestSetpoint, highestSetpoint, within, code, decoded, on, firstOutside, coded}
 use Rattle.levels.specs.Laws.{code-most, stops-first, coded-code, coded-outside}
-use Rattle.levels.proofs.Casts.{seen, recast, point-fits}
+use Rattle.levels.proofs.Casts.{seen, recast, setpoint-within, point-fits}
 
 -- what `encode` ensures
 abbrev Encoded : List ℤ → List ℕ → ℕ → List ℕ → ℤ → ℤ → Type 0
-Encoded xs first r out low high = (r ≡ firstOutside low high xs) × (out ≡ written (λ k. code low (on xs k)) r first)
+Encoded xs first r out low high =
+    (r ≡ firstOutside low high xs)
+    × ((out ≡ written (λ k. code low (on xs k)) r first) × (r < length xs → within lowestSetpoint highestSetpoint (on xs r) ≡ true))
 
 -- its loop knows the bounds as they are read back
 module _ {low high : ℤ} (fl : SFits w32 low) (fh : SFits w32 high) where
@@ -39,11 +41,12 @@ pub start : (low high : ℤ) (xs : List ℤ) (first : List ℕ) → Upto low hig
 start low high xs first = record { most = omega arith; before = below-none _; made = sym (written-none _ first) }
 
 module _ {low high : ℤ} {xs : List ℤ} {first : List ℕ} {i : ℕ} {out : List ℕ} (u : Upto low high xs first i out) where
-  stops : (i < length xs → within low high (on xs i) ≡ false) → Encoded xs first i out low high
-  stops h = (stops-first low high xs i (record { most = u .most; before = u .before; at = h }), u .made)
+  stops : (i < length xs → within low high (on xs i) ≡ false) → (i < length xs → within lowestSetpoint highestSetpoint (on xs i) ≡ true)
+      → Encoded xs first i out low high
+  stops h s = (stops-first low high xs i (record { most = u .most; before = u .before; at = h }), (u .made, s))
 
   pub ends : length xs ≤ i → Encoded xs first i out low high
-  ends l = stops (λ h. absurd (omega arith))
+  ends l = stops (λ h. absurd (omega arith)) (λ h. absurd (omega arith))
 
   -- with the answer of a turn, on the element cast to 32 bits
   module _ {r : Coded} (f : SFits w16 (on xs i)) (e : r ≡ coded low high (seen (toZ w16 (ofZ w16 (on xs i))))) where
@@ -51,7 +54,7 @@ module _ {low high : ℤ} {xs : List ℤ} {first : List ℕ} {i : ℕ} {out : Li
     answer = rw (recast w16 w32 f (sfits-widen tt f)) at e
 
     pub leaves : r ≡ Outside → Encoded xs first i out low high
-    leaves o = stops (λ _. coded-outside low high (on xs i) answer o)
+    leaves o = stops (λ _. coded-outside low high (on xs i) answer o) (λ _. setpoint-within f)
 
     module _ {c : ℕ} (o : r ≡ Code c) where
       pub code-fits : code low high ≤ 65535 → Fits w16 c

@@ -27,6 +27,13 @@ lowestTotal = negsuc 511999
 abbrev pub highestTotal : ℤ
 highestTotal = pos 2048000
 
+-- the lowest and highest setpoint that a list can hold: 16 bits
+abbrev pub lowestSetpoint : ℤ
+lowestSetpoint = negsuc 32767
+
+abbrev pub highestSetpoint : ℤ
+highestSetpoint = pos 32767
+
 abbrev pub within : ℤ → ℤ → ℤ → Bool
 within low high z = leZ low z && leZ z high
 

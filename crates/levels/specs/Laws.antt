@@ -13,7 +13,7 @@ use denote.Floats.{passes, is-true}
 use Rattle.levels.specs.declared.Coded.{Coded}
 use Rattle.levels.specs.declared.Coded.the-variants.{Code, Outside}
 use Rattle.levels.specs.Offset.{Less, le-less, less-same, less-add}
-use Rattle.levels.specs.Code.{lowestPoint, highestPoint, lowestRise, highestRise, lowestTotal, highestTotal, within, code, decoded, on, firstOutside, coded}
+use Rattle.levels.specs.Code.{lowestPoint, highestPoint, lowestRise, highestRise, lowestTotal, highestTotal, lowestSetpoint, within, code, decoded, on, firstOutside, coded}
 
 -- the lowest bounds, as offsets
 pub point-less : Less lowestPoint 0 1000
@@ -24,6 +24,9 @@ rise-less = refl
 
 pub total-less : Less lowestTotal 0 512000
 total-less = refl
+
+pub setpoint-less : Less lowestSetpoint 0 32768
+setpoint-less = refl
 
 less-neg : (z : ℤ) (n k : ℕ) → Less z n k → Less (negℤ z) k n
 less-neg (pos zero) n k p = omega arith
@@ -79,6 +82,13 @@ within-yes low high z =
       λ h. (leZ-yes (passes (leZ low z) (both .0 h .0)), leZ-yes (passes (leZ z high) (both .0 h .1))),
       λ w. both .1 (is-true (leZ low z) (w .0 .le), is-true (leZ z high) (w .1 .le)),
     )
+
+pub within-no : (low high z : ℤ) → within low high z ≡ false ↔ ((low ≤ℤ z) × (z ≤ℤ high) → ⊥)
+within-no low high z = (λ e w. true≢false (sym (within-yes low high z .1 w) ∙ e), λ h. go h (within low high z) refl)
+  where
+    go : ((low ≤ℤ z) × (z ≤ℤ high) → ⊥) → (b : Bool) → within low high z ≡ b → b ≡ false
+    go h true e = absurd (h (within-yes low high z .0 e))
+    go h false e = refl
 
 pub within-less : (low high z : ℤ) (k : ℕ) → Less low 0 k → within low high z ≡ true → Less z (code low z) k
 within-less low high z k p e = code-less low z k p (within-yes low high z .0 e .0)
@@ -156,3 +166,18 @@ module _ (low high : ℤ) where
   stops-first xs r p =
       let q = first-stops xs in
       omega (arith, not-above xs r (firstOutside low high xs) p q, not-above xs (firstOutside low high xs) r q p)
+
+  -- where the number at that index is within, the index is the length
+  pub none-outside : (xs : List ℤ) (r : ℕ) → r ≡ firstOutside low high xs → (r < length xs → within low high (on xs r) ≡ true) → r ≡ length xs
+  none-outside xs r e h = go (decLe (length xs) r)
+    where
+      q : Stops low high xs r
+      q = rw e (first-stops xs)
+
+      go : Dec (length xs ≤ r) → r ≡ length xs
+      go (yes l) = omega (arith, q .most)
+      go (no l) = absurd (true≢false (sym (h (omega arith)) ∙ q .at (omega arith)))
+
+  -- where it is the length, every number is within
+  pub all-within : (xs : List ℤ) → firstOutside low high xs ≡ length xs → (k : ℕ) → k < length xs → within low high (on xs k) ≡ true
+  all-within xs e k h = first-stops xs .before k (omega arith)

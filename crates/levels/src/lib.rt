@@ -1,11 +1,12 @@
 // The border between signed points, rises and totals and the unsigned numbers that the other crates work with.
 ghost use mathlib.Core.Path.{_≡_};
+ghost use mathlib.Core.Bool.{true};
 ghost use Prim.Native.Nat.{ℕ, _≤_, _<_};
 ghost use lib.IntN.{pos};
 ghost use lib.ListN.{length, getD};
 ghost use lib.Signed.{_≤ℤ_};
 ghost use Rattle.series.specs.Written.{written};
-ghost use Rattle.levels.specs.Code.{lowestPoint, highestPoint, lowestRise, highestRise, lowestTotal, highestTotal, code, decoded, on, firstOutside, coded};
+ghost use Rattle.levels.specs.Code.{lowestPoint, highestPoint, lowestRise, highestRise, lowestTotal, highestTotal, lowestSetpoint, highestSetpoint, within, code, decoded, on, firstOutside, coded};
 
 // A number's code, by how much it is above its lowest bound, or that it is outside its bounds.
 pub enum Coded {
@@ -25,6 +26,11 @@ pub const HIGHEST_RISE: i32 = 2000;
 pub const LOWEST_TOTAL: i32 = -512000;
 
 pub const HIGHEST_TOTAL: i32 = 2048000;
+
+// Every setpoint that a list can hold.
+const LOWEST_SETPOINT: i32 = -32768;
+
+const HIGHEST_SETPOINT: i32 = 32767;
 
 fn coded_from(z: i32, low: i32, high: i32) -> Coded
     requires { ⌜ code low high ≤ 2560000 ⌝ }
@@ -51,11 +57,12 @@ pub fn total(z: i32) -> Coded
     coded_from(z, LOWEST_TOTAL, HIGHEST_TOTAL)
 }
 
-// Stores the code of each number in turn, up to the first one outside its bounds, whose index it gives.
+// Stores the code of each number in turn, up to the first one outside its bounds, whose index it gives. That one too has 16 bits.
 fn encode(xs: &[i16], low: i32, high: i32, out: &mut [u16; 512]) -> usize
     requires { ⌜ (code low high ≤ 65535) × (length (now xs) ≤ 512) ⌝ }
     ensures { λ r. ⌜ r ≡ firstOutside low high (now (xs .entry)) ⌝ }
     ensures { λ r. ⌜ now (out .exit) ≡ written (λ k. code low (on (now (xs .entry)) k)) r (now (out .entry)) ⌝ }
+    ensures { λ r. ⌜ (r < length (now (xs .entry)) → within lowestSetpoint highestSetpoint (on (now (xs .entry)) r) ≡ true) ⌝ }
 {
     let mut i = 0;
     while i < xs.len() {
@@ -85,6 +92,15 @@ pub fn rises(xs: &[i16], out: &mut [u16; 512]) -> usize
     ensures { λ r. ⌜ now (out .exit) ≡ written (λ k. code lowestRise (on (now (xs .entry)) k)) r (now (out .entry)) ⌝ }
 {
     encode(xs, LOWEST_RISE, HIGHEST_RISE, out)
+}
+
+// Stores each setpoint plus 32,768. Every number that a list can hold is a setpoint.
+pub fn setpoints(xs: &[i16], out: &mut [u16; 512])
+    requires { ⌜ length (now xs) ≤ 512 ⌝ }
+    ensures { λ r. ⌜ now (out .exit) ≡ written (λ k. code lowestSetpoint (on (now (xs .entry)) k)) (length (now (xs .entry))) (now (out .entry)) ⌝ }
+    ensures { λ r. ⌜ firstOutside lowestSetpoint highestSetpoint (now (xs .entry)) ≡ length (now (xs .entry)) ⌝ }
+{
+    encode(xs, LOWEST_SETPOINT, HIGHEST_SETPOINT, out);
 }
 
 // The number n above low.

@@ -200,7 +200,7 @@ module _ {fs cs rs : List ℕ} {n : ℕ} (r : Ready fs cs rs n) (L U : ℕ) wher
       floors-right
 
 module _ {fs cs rs : List ℕ} {n L U : ℕ} where
-  carried-least : (x : ℕ → ℕ) → Levels fs cs rs n L U x → (k : ℕ) → k < n → carried fs rs k ≤ x k
+  pub carried-least : (x : ℕ → ℕ) → Levels fs cs rs n L U x → (k : ℕ) → k < n → carried fs rs k ≤ x k
   unfolding carried
   carried-least x l zero h = l .floor 0 h
   carried-least x l (suc k) h =

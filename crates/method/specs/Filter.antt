@@ -7,6 +7,7 @@ use lib.Dec.{ltb}
 use lib.ListN.{length, replicate}
 use Rattle.series.specs.Sum.{sumFor, at, above}
 use Rattle.series.specs.Written.{written}
+use Rattle.series.specs.First.{firstWhere}
 use Rattle.chains.specs.Sum.{sum, all}
 use Rattle.chains.specs.Fit.{fit}
 use Rattle.method.specs.Shift.{shift}
@@ -32,9 +33,8 @@ carried fs rs zero = at fs 0
 carried fs rs (suc k) = max (at fs (suc k)) (carried fs rs k + at rs k - 2000)
 
 -- the first of n days at which a is above b, or n
-unfoldable pub firstCrossed : (ℕ → ℕ) → (ℕ → ℕ) → ℕ → ℕ
-firstCrossed a b zero = zero
-firstCrossed a b (suc m) = let r : ℕ = firstCrossed a b m in cond (ltb r m) r (cond (ltb (b m) (a m)) m (suc m))
+abbrev pub firstCrossed : (ℕ → ℕ) → (ℕ → ℕ) → ℕ → ℕ
+firstCrossed a b = firstWhere (λ k. ltb (b k) (a k))
 
 -- ---- ceilings
 

@@ -1,11 +1,12 @@
 -- Days' levels that keep to floors, ceilings, rises and a total; shifted, they are a schedule of `chains` in which every least rise is 0.
 use Prim.Native.Nat.{ℕ, zero, suc, _+_, _-_, _*_, _≤_, _<_}
-use mathlib.Core.Path.{_≡_}
+use mathlib.Core.Path.{_≡_, _∙_}
 use mathlib.Core.List.{List}
 use native.Mathlib.Numerals.{add-one}
 use native.Mathlib.Omega.{arith}
-use lib.ListN.{length}
+use lib.ListN.{length, set, length-set}
 use Rattle.series.specs.Sum.{at}
+use Rattle.series.specs.Written.{by-cell}
 use Rattle.chains.specs.Sum.{sum, all, sum-eq}
 use Rattle.chains.specs.Chain.{Below}
 use Rattle.chains.specs.Mirror.{sum-add}
@@ -39,6 +40,13 @@ refit b floors ceilings floor ceiling lowest highest = record {
   lowest = lowest;
   highest = highest;
 }
+
+-- the range of one day set to one level
+pub refit-day : {fs cs rs : List ℕ} {n L U : ℕ} → InBounds fs cs rs n L U → (d v : ℕ) → d < n → v ≤ 5000 → InBounds (set fs d v) (set cs d v) rs n L U
+refit-day {fs} {cs} b d v h small =
+    refit b (length-set fs d v ∙ b .floors) (length-set cs d v ∙ b .ceilings)
+    (λ k l. by-cell (λ _ a. a ≤ 5000) 0 fs d v (omega (arith, b .floors, b .most)) small k (b .floor k l))
+    (λ k l. by-cell (λ _ a. a ≤ 5000) 0 cs d v (omega (arith, b .ceilings, b .most)) small k (b .ceiling k l)) (b .lowest) (b .highest)
 
 -- levels within other bounds, the same rises
 pub rebound : {fs gs cs ds rs : List ℕ} {n L L′ U U′ : ℕ} {x : ℕ → ℕ} → Levels fs cs rs n L U x → ((k : ℕ) → k < n → at gs k ≤ x k) → ((k : ℕ) → k < n → x k ≤ at ds k)

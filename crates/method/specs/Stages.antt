@@ -7,11 +7,12 @@ use mathlib.Core.List.{List}
 use native.Mathlib.Numerals.{add-one}
 use native.Mathlib.Nat.{le-refl}
 use native.Mathlib.Omega.{arith}
-use native.Mathlib.Decide.{decLt, ℕ-discrete}
+use native.Mathlib.Decide.{decLt}
 use lib.Dec.{ltb}
 use lib.ListN.{length, length-replicate, getD-replicate}
 use borrow.Author.Tests.{ltb-true, ltb-false}
 use Rattle.series.specs.Sum.{at, above, sum-most}
+use Rattle.series.specs.First.{first}
 use Rattle.series.specs.Written.{written, length-written, written-below, written-past}
 use Rattle.chains.specs.Chain.{Chain}
 use Rattle.chains.specs.Ceilings.{chain-up}
@@ -53,23 +54,13 @@ by-order {A} P x y {t} {u} less more = go (ltb x y) (ltb-true x y) (ltb-false x 
     go false l m = more (m refl)
 
 pub crossing : (a b : ℕ → ℕ) (n : ℕ) → Crossing a b n (firstCrossed a b n)
-unfolding firstCrossed
-crossing a b zero = record { most = le-refl 0; before = λ k h. absurd (omega arith); here = λ h. absurd (omega arith) }
-crossing a b (suc m) = go (crossing a b m)
-  where
-    r : ℕ
-    r = firstCrossed a b m
-
-    go : Crossing a b m r → Crossing a b (suc m) (cond (ltb r m) r (cond (ltb (b m) (a m)) m (suc m)))
-    go c =
-        by-order (Crossing a b (suc m)) r m (λ l. record { most = omega (arith, c .most); before = c .before; here = λ h. c .here l })
-        (λ l. by-order (Crossing a b (suc m)) (b m) (a m)
-        (λ over. record { most = omega arith; before = λ k h. c .before k (omega arith); here = λ h. over })
-        (λ under. record { most = le-refl (suc m); before = λ k h. last l under k h (ℕ-discrete k m); here = λ h. absurd (omega arith) }))
-      where
-        last : m ≤ r → a m ≤ b m → (k : ℕ) → k < suc m → Dec (k ≡ m) → a k ≤ b k
-        last l under k h (yes e) = rw e under
-        last l under k h (no e) = c .before k (omega arith)
+crossing a b n =
+    let f = first (λ k. ltb (b k) (a k)) n in
+    record {
+      most = f .most;
+      before = λ k h. ltb-false (b k) (a k) (f .before k h);
+      here = λ h. ltb-true (b (firstCrossed a b n)) (a (firstCrossed a b n)) (f .here h);
+    }
 
 module _ (fs rs : List ℕ) where
   pub carried-above : (k : ℕ) → at fs k ≤ carried fs rs k

@@ -73,6 +73,12 @@ module _ {A : Type 0} (f : ℕ → A) where
   last-before d n (suc m) l k h =
       getD-set-other (lastWritten f n m l) (n - suc m) k (f (suc m)) d (omega arith) ∙ last-before d n m l k (omega arith)
 
+-- only the values below n matter
+pub written-same : {A : Type 0} (f g : ℕ → A) (n : ℕ) (l : List A) → ((k : ℕ) → k < n → f k ≡ g k) → written f n l ≡ written g n l
+unfolding written
+written-same f g zero l e = refl
+written-same f g (suc n) l e = rw (written-same f g n l (λ k h. e k (omega arith)), e n (omega arith)) refl
+
 -- ---- down from n over all n days is the same as up, however long the list
 
 last-set : {A : Type 0} (f : ℕ → A) (n m : ℕ) (l : List A) (j : ℕ) (v : A) → j < n - m → set (lastWritten f n m l) j v ≡ lastWritten f n m (set l j v)

@@ -1,6 +1,8 @@
 pub mod Profile
+pub mod Lists
 pub mod Opening
 pub mod Showing
+pub mod ShownList
 pub mod Stages
 pub mod Entered
 pub mod Sanity

@@ -6,8 +6,9 @@ use lib.IntN.{ℤ, pos}
 use lib.Dec.{ltb, eqb}
 use Rattle.series.specs.Sum.{at}
 use Rattle.series.specs.Written.{written}
-use Rattle.levels.specs.Code.{lowestPoint, lowestTotal, decoded}
+use Rattle.levels.specs.Code.{lowestPoint, lowestRise, lowestTotal, decoded}
 use Rattle.method.specs.Filter.{InBounds}
+use Rattle.method.specs.Levels.{Levels}
 use Rattle.session.specs.declared.Ranges.{Ranges}
 use Rattle.session.specs.declared.Session.{Session}
 use Rattle.session.specs.declared.Shown.{Shown}
@@ -24,6 +25,10 @@ totalFloor s = decoded lowestTotal (s .present .least)
 
 abbrev pub totalCeiling : Session → ℤ
 totalCeiling s = decoded lowestTotal (s .present .most)
+
+-- the least rise from day i to the next, in points
+abbrev pub riseOn : Session → ℕ → ℤ
+riseOn s i = decoded lowestRise (at (s .rises) i)
 
 -- 2: a list shorter than n
 abbrev pub listTooShort : Shown
@@ -42,6 +47,10 @@ shownList refusal f n l = cond (eqb refusal 0) (written f n l) l
 -- ranges of n days are in bounds, with the rises between the days
 abbrev pub Fits : List ℕ → ℕ → Ranges → Type 0
 Fits rs n r = InBounds (r .floors) (r .ceilings) rs n (r .least) (r .most)
+
+-- n days' levels are within ranges, and keep the rises
+abbrev pub Within : List ℕ → ℕ → Ranges → (ℕ → ℕ) → Type 0
+Within rs n r = Levels (r .floors) (r .ceilings) rs n (r .least) (r .most)
 
 -- the numbers of a session are in bounds
 pub record Sane (s : Session) : Type 0 where

@@ -1,7 +1,9 @@
--- `arrays::first_crossed` meets its contract: the loop of Laws, `Uncrossed`. The measure is the days left. Assumes nothing.
+-- `first_crossed` meets its contract: no day below i is crossed. The measure is the days left.
 use Prim.Native.Nat.{_-_}
 use Rattle.series.specs.Sum.{at}
-use Rattle.carry.proofs.Laws.{Uncrossed, uncrossed-none, uncrossed-more, uncrossed-here, uncrossed-all}
+use borrow.Author.Tests.{lt-ltb, le-ltb}
+use Rattle.series.specs.First.{nowhere-none, nowhere-more, nowhere-here, nowhere-all}
+use Rattle.carry.proofs.Laws.{Uncrossed}
 use borrow.Author.Needs.{needs}
 use Rattle.carry.proofs.first_crossed.Statement.{statement}
 use Rattle.carry.proofs.first_crossed.Tie as tie
@@ -13,7 +15,7 @@ abbrev μ-loop : tie.MeasureT-loop
 μ-loop floors ceilings n i₀ i = n - i
 
 loop-holds : tie.Need-loop-holds Inv-loop μ-loop
-loop-holds c = uncrossed-none
+loop-holds c = nowhere-none
 
 mul-if1 : tie.Need-mul-if1 Inv-loop μ-loop
 mul-if1 c = search needs
@@ -28,7 +30,7 @@ element-copy-out-if1-2 : tie.Need-element-copy-out-if1-2 Inv-loop μ-loop
 element-copy-out-if1-2 c = search needs
 
 returns : tie.Need-returns Inv-loop μ-loop
-returns c = uncrossed-here (c .before .before .before .before .loop .inv) (c .before .before .before .loop-test .taken) (c .if1 .taken)
+returns c = nowhere-here (c .before .before .before .before .loop .inv) (c .before .before .before .loop-test .taken) (lt-ltb _ _ (c .if1 .taken))
 
 add-i : tie.Need-add-i Inv-loop μ-loop
 add-i c = search needs
@@ -37,10 +39,10 @@ loop-less : tie.Need-loop-less Inv-loop μ-loop
 loop-less c = search needs
 
 loop-again : tie.Need-loop-again Inv-loop μ-loop
-loop-again c = uncrossed-more (c .before .before .before .before .loop .inv) (c .before .before .before .loop-test .taken) (c .if1 .left)
+loop-again c = nowhere-more (c .before .before .before .before .loop .inv) (c .before .before .before .loop-test .taken) (le-ltb _ _ (c .if1 .left))
 
 returns-2 : tie.Need-returns-2 Inv-loop μ-loop
-returns-2 c = uncrossed-all (c .before .loop .inv) (c .loop-test .left)
+returns-2 c = nowhere-all (c .before .loop .inv) (c .loop-test .left)
 
 pub first-crossed-spec : {M : Type 1} → statement M
 first-crossed-spec =

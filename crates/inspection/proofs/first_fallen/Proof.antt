@@ -1,0 +1,77 @@
+-- `first_fallen` meets its contract: no rise below k is broken. The measure is the days left.
+use Prim.Native.Nat.{_-_}
+use mathlib.Core.Path.{sym, _∙_}
+use Rattle.series.specs.First.{Nowhere, nowhere-none, nowhere-more, nowhere-here, nowhere-all}
+use Rattle.inspection.specs.Stages.{fallen}
+use borrow.Author.Needs.{needs}
+use Rattle.inspection.proofs.first_fallen.Statement.{statement}
+use Rattle.inspection.proofs.first_fallen.Tie as tie
+
+abbrev Inv-loop : tie.InvT-loop
+Inv-loop setpoints rises n last k₀ k = Nowhere (fallen setpoints rises) (n - 1) k
+
+abbrev μ-loop : tie.MeasureT-loop
+μ-loop setpoints rises n last k₀ k = n - k
+
+sub-last : tie.Need-sub-last Inv-loop μ-loop
+sub-last c = search needs
+
+loop-holds : tie.Need-loop-holds Inv-loop μ-loop
+loop-holds c = nowhere-none
+
+add-next : tie.Need-add-next Inv-loop μ-loop
+add-next c = search needs
+
+mul-is-fallen : tie.Need-mul-is-fallen Inv-loop μ-loop
+mul-is-fallen c = search needs
+
+element-copy-out-is-fallen : tie.Need-element-copy-out-is-fallen Inv-loop μ-loop
+element-copy-out-is-fallen c = search needs
+
+mul-is-fallen-2 : tie.Need-mul-is-fallen-2 Inv-loop μ-loop
+mul-is-fallen-2 c = search needs
+
+element-copy-out-is-fallen-2 : tie.Need-element-copy-out-is-fallen-2 Inv-loop μ-loop
+element-copy-out-is-fallen-2 c = search needs
+
+mul-is-fallen-3 : tie.Need-mul-is-fallen-3 Inv-loop μ-loop
+mul-is-fallen-3 c = search needs
+
+element-copy-out-is-fallen-3 : tie.Need-element-copy-out-is-fallen-3 Inv-loop μ-loop
+element-copy-out-is-fallen-3 c = search needs
+
+is-fallen-requires : tie.Need-is-fallen-requires Inv-loop μ-loop
+is-fallen-requires c κs = search needs
+
+returns : tie.Need-returns Inv-loop μ-loop
+returns c = nowhere-here (c .before .before .before .before .before .before .loop .inv) (c .before .before .before .before .before .loop-test .taken) (sym (c .before .is-fallen .ensures) ∙ c .if1 .taken)
+
+loop-less : tie.Need-loop-less Inv-loop μ-loop
+loop-less c = search needs
+
+loop-again : tie.Need-loop-again Inv-loop μ-loop
+loop-again c = nowhere-more (c .before .before .before .before .before .before .loop .inv) (c .before .before .before .before .before .loop-test .taken) (sym (c .before .is-fallen .ensures) ∙ c .if1 .left)
+
+returns-2 : tie.Need-returns-2 Inv-loop μ-loop
+returns-2 c = nowhere-all (c .before .loop .inv) (c .loop-test .left)
+
+pub first-fallen-spec : {M : Type 1} → statement M
+first-fallen-spec =
+    tie.close
+    (tie.spec
+    Inv-loop
+    μ-loop
+    sub-last
+    loop-holds
+    add-next
+    mul-is-fallen
+    element-copy-out-is-fallen
+    mul-is-fallen-2
+    element-copy-out-is-fallen-2
+    mul-is-fallen-3
+    element-copy-out-is-fallen-3
+    is-fallen-requires
+    returns
+    loop-less
+    loop-again
+    returns-2)

@@ -1,0 +1,4 @@
+pub mod Writing
+pub mod Raising
+pub mod Supported
+pub mod Stages

@@ -1,0 +1,68 @@
+-- Document 01: writing a schedule for a day, or for the total, and a value.
+use mathlib.Core.Bool.{cond, not}
+use mathlib.Core.List.{List}
+use Prim.Native.Nat.{ℕ, zero, suc, _+_, _-_, min, max}
+use lib.IntN.{ℤ}
+use lib.Dec.{eqb, ltb}
+use lib.ListN.{length, set}
+use Rattle.series.specs.Sum.{at}
+use Rattle.levels.specs.Code.{lowestPoint, lowestTotal, within, code, decoded}
+use Rattle.method.specs.Filter.{carried, firstCrossed, forwarded, held}
+use Rattle.session.specs.Showing.{floorOn, ceilingOn, totalFloor, totalCeiling, shownList}
+use Rattle.session.specs.declared.Session.{Session}
+use Rattle.schedules.specs.declared.Raised.{Raised}
+
+-- ---- the refusals
+
+-- the first refusal of writing for a day that applies, or 0, where the list is `room` long: 2, a day not in the profile, spent, a value outside
+-- the day's present range
+unfoldable pub dayRefusal : Session → ℕ → ℤ → ℕ → ℕ
+dayRefusal s day value room =
+    cond (not (eqb room (s .days))) 2
+    (cond (not (ltb day (s .days))) 7
+    (cond (s .spent) 9
+    (cond (not (within (floorOn s day) (ceilingOn s day) value)) 10 0)))
+
+-- the same for the total
+unfoldable pub totalRefusal : Session → ℤ → ℕ → ℕ
+totalRefusal s value room =
+    cond (not (eqb room (s .days))) 2
+    (cond (s .spent) 9
+    (cond (not (within (totalFloor s) (totalCeiling s) value)) 10 0))
+
+-- ---- the schedule, in levels: floors, raised from the last day on
+
+-- a day's level where `next` has the following day's and what the sum still lacks: as far above the floor as the sum, the ceiling and the rise
+-- to the following day allow; and what the sum lacks then
+unfoldable pub raisedDay : ℕ → ℕ → ℕ → Raised → Raised
+raisedDay floor ceiling rise next =
+    let level : ℕ = max floor (min (floor + next .rest) (min ceiling (next .level + 2000 - rise))) in
+    record { level = level; rest = floor + next .rest - level }
+
+-- the m-th day from the end; past the last day stands a level that limits none
+unfoldable pub raisedFrom : List ℕ → List ℕ → List ℕ → ℕ → ℕ → ℕ → Raised
+raisedFrom fs cs rs n rest zero = record { level = 7000; rest = rest }
+raisedFrom fs cs rs n rest (suc m) = raisedDay (at fs (n - suc m)) (at cs (n - suc m)) (at rs (n - suc m)) (raisedFrom fs cs rs n rest m)
+
+-- the level of day k, where the floors are raised until the held total is t
+abbrev pub raisedTo : List ℕ → List ℕ → List ℕ → ℕ → ℕ → ℕ → ℕ
+raisedTo fs cs rs n t k = raisedFrom fs cs rs n (t - held n (at fs)) (n - k) .level
+
+-- with the total's value: the present floors, raised to it
+unfoldable pub totalLevels : Session → ℤ → ℕ → ℕ
+totalLevels s value = raisedTo (s .present .floors) (s .present .ceilings) (s .rises) (s .days) (code lowestTotal value)
+
+-- with a day's value: it is the day's floor and ceiling, the floors are carried forward, and raised to the total's floor where their sum is below it
+unfoldable pub dayLevels : Session → ℕ → ℤ → ℕ → ℕ
+dayLevels s day value =
+    let fs : List ℕ = set (s .present .floors) day (code lowestPoint value) in
+    let cs : List ℕ = set (s .present .ceilings) day (code lowestPoint value) in
+    raisedTo (forwarded fs (s .rises) (firstCrossed (carried fs (s .rises)) (at cs) (s .days))) cs (s .rises) (s .days) (s .present .least)
+
+-- ---- the lent list afterwards: as it was beside a refusal, else the schedule
+
+unfoldable pub dayWritten : Session → ℕ → ℤ → List ℤ → List ℤ
+dayWritten s day value l = shownList (dayRefusal s day value (length l)) (λ k. decoded lowestPoint (dayLevels s day value k)) (s .days) l
+
+unfoldable pub totalWritten : Session → ℤ → List ℤ → List ℤ
+totalWritten s value l = shownList (totalRefusal s value (length l)) (λ k. decoded lowestPoint (totalLevels s value k)) (s .days) l

@@ -1,0 +1,209 @@
+// Writing a schedule of a session's present ranges, through a day's value or with a total.
+ghost use mathlib.Core.Bool.{cond, not};
+ghost use mathlib.Core.Path.{_≡_};
+ghost use Prim.Native.Nat.{_+_, _-_, _≤_, _<_};
+ghost use lib.ListN.{length, set};
+ghost use Rattle.series.specs.Sum.{at};
+ghost use Rattle.series.specs.Written.{written};
+ghost use Rattle.levels.specs.Code.{lowestPoint, decoded};
+ghost use Rattle.method.specs.Filter.{InBounds, held};
+ghost use Rattle.session.specs.Showing.{Sane};
+ghost use Rattle.schedules.specs.Writing.{raisedDay, raisedTo, dayRefusal, totalRefusal, dayLevels, dayWritten, totalWritten};
+ghost use Rattle.schedules.specs.Stages.{checked};
+use levels::Coded;
+use numbers::greatest;
+use numbers::least;
+use numbers::narrow;
+use numbers::wide;
+use session::Session;
+
+// A day's level, and what the sum still lacks.
+struct Raised {
+    level: usize,
+    rest: usize,
+}
+
+// Whether a value is within its range, and its code.
+struct Checked {
+    within: bool,
+    code: usize,
+}
+
+// The greatest level that the rise to the next day's level allows, or 0 where that is below the scale. A rise code is the rise plus 2,000.
+fn most_before(next: usize, rise: usize) -> usize
+    requires { ⌜ (next ≤ 7000) × (rise ≤ 4000) ⌝ }
+    ensures { λ r. ⌜ r ≡ next + 2000 - rise ⌝ }
+{
+    let up = next + 2000;
+    if up < rise { 0 } else { up - rise }
+}
+
+// The level of the day before `next`, raised as far as the sum, the ceiling and the rise allow.
+fn raise_day(floor: usize, ceiling: usize, rise: usize, next: Raised) -> Raised
+    requires { ⌜ (floor ≤ 5000) × (ceiling ≤ 5000) × (rise ≤ 4000) × (next .level ≤ 7000) × (next .rest ≤ 2560000) ⌝ }
+    ensures { λ r. ⌜ r ≡ raisedDay floor ceiling rise next ⌝ }
+{
+    let most = floor + next.rest;
+    let limit = least(ceiling, most_before(next.level, rise));
+    let level = greatest(floor, least(most, limit));
+    Raised {
+        level,
+        rest: most - level,
+    }
+}
+
+fn level_of(day: Raised) -> u16
+    requires { ⌜ day .level ≤ 5000 ⌝ }
+    ensures { λ r. ⌜ r ≡ day .level ⌝ }
+{
+    narrow(day.level)
+}
+
+// What the floors' sum lacks of the total, or 0.
+fn lack(floors: &[u16; 512], n: usize, total: usize) -> usize
+    requires { ⌜ n ≤ 512 ⌝ }
+    ensures { λ r. ⌜ (r ≡ total - held n (at (now (floors .entry)))) × (r ≤ total) ⌝ }
+{
+    let sum = arrays::held_total(floors, n);
+    if total < sum { 0 } else { total - sum }
+}
+
+// Raises the floors, from the last day on, until their sum is the total.
+fn raise_to(
+    floors: &mut [u16; 512],
+    ceilings: &[u16; 512],
+    rises: &[u16; 512],
+    n: usize,
+    total: usize,
+)
+    requires { ⌜ InBounds (now floors) (now ceilings) (now rises) n 0 total ⌝ }
+    ensures { λ _. ⌜ now (floors .exit) ≡ written (raisedTo (now (floors .entry)) (now (ceilings .entry)) (now (rises .entry)) n total) n (now (floors .entry)) ⌝ }
+{
+    let mut day = Raised {
+        level: 7000,
+        rest: lack(floors, n, total),
+    };
+    let mut k = n;
+    while 0 < k {
+        k -= 1;
+        day = raise_day(wide(floors[k]), wide(ceilings[k]), wide(rises[k]), day);
+        floors[k] = level_of(day);
+    }
+}
+
+// Raises the floors to the total and stores the points.
+fn write(
+    floors: [u16; 512],
+    ceilings: &[u16; 512],
+    rises: &[u16; 512],
+    n: usize,
+    total: usize,
+    list: &mut [i16],
+)
+    requires { ⌜ InBounds floors (now ceilings) (now rises) n 0 total × (n ≤ length (now list)) ⌝ }
+    ensures { λ _. ⌜ now (list .exit) ≡ written (λ k. decoded lowestPoint (raisedTo floors (now (ceilings .entry)) (now (rises .entry)) n total k)) n (now (list .entry)) ⌝ }
+{
+    let mut levels = floors;
+    raise_to(&mut levels, ceilings, rises, n, total);
+    levels::show_points(&levels, n, list);
+}
+
+// A value outside its bounds is within no range.
+fn check(value: Coded, floor: usize, ceiling: usize) -> Checked
+    ensures { λ r. ⌜ r ≡ checked value floor ceiling ⌝ }
+{
+    let Coded::Code(code) = value else {
+        return Checked {
+            within: false,
+            code: 0,
+        };
+    };
+    Checked {
+        within: (floor <= code) & (code <= ceiling),
+        code,
+    }
+}
+
+// 9 for a spent session, then 10 for a value outside its range, else 0.
+fn refusal_of(spent: bool, within: bool) -> u8
+    ensures { λ r. ⌜ r ≡ cond spent 9 (cond (not within) 10 0) ⌝ }
+{
+    if spent {
+        return 9;
+    }
+    if !within {
+        return 10;
+    }
+    0
+}
+
+fn set_level(levels: &mut [u16; 512], day: usize, level: usize)
+    requires { ⌜ (day < 512) × (level ≤ 5000) ⌝ }
+    ensures { λ _. ⌜ now (levels .exit) ≡ set (now (levels .entry)) day level ⌝ }
+{
+    levels[day] = narrow(level);
+}
+
+// Writes the schedule with this level on this day.
+fn write_through(session: Session, day: usize, level: usize, list: &mut [i16])
+    requires { ⌜ Sane session × (day < session .days) × (level ≤ 5000) × (session .days ≤ length (now list)) ⌝ }
+    ensures { λ _. ⌜ now (list .exit) ≡ written (λ k. decoded lowestPoint (dayLevels session day (decoded lowestPoint level) k)) (session .days) (now (list .entry)) ⌝ }
+{
+    let n = session.days;
+    let rises = session.rises;
+    let ranges = session.present;
+    let mut floors = ranges.floors;
+    let mut ceilings = ranges.ceilings;
+    set_level(&mut floors, day, level);
+    set_level(&mut ceilings, day, level);
+    carry::carry(&mut floors, &ceilings, &rises, n);
+    write(floors, &ceilings, &rises, n, ranges.least, list);
+}
+
+// Writes a schedule with this value on this day. Document 01's checks 2, 7, 9, 10.
+pub fn write_day(session: Session, day: usize, value: i32, list: &mut [i16]) -> u8
+    requires { ⌜ Sane session ⌝ }
+    ensures { λ r. ⌜ r ≡ dayRefusal session day value (length (now (list .entry))) ⌝ }
+    ensures { λ r. ⌜ now (list .exit) ≡ dayWritten session day value (now (list .entry)) ⌝ }
+{
+    let n = session.days;
+    if list.len() != n {
+        return 2;
+    }
+    if n <= day {
+        return 7;
+    }
+    let ranges = session.present;
+    let floors = ranges.floors;
+    let ceilings = ranges.ceilings;
+    let level = check(levels::point(value), wide(floors[day]), wide(ceilings[day]));
+    let refusal = refusal_of(session.spent, level.within);
+    if refusal != 0 {
+        return refusal;
+    }
+    write_through(session, day, level.code, list);
+    0
+}
+
+// Writes a schedule with this sum. Document 01's checks 2, 9, 10.
+pub fn write_total(session: Session, value: i32, list: &mut [i16]) -> u8
+    requires { ⌜ Sane session ⌝ }
+    ensures { λ r. ⌜ r ≡ totalRefusal session value (length (now (list .entry))) ⌝ }
+    ensures { λ r. ⌜ now (list .exit) ≡ totalWritten session value (now (list .entry)) ⌝ }
+{
+    let n = session.days;
+    if list.len() != n {
+        return 2;
+    }
+    let ranges = session.present;
+    let total = check(levels::total(value), ranges.least, ranges.most);
+    let refusal = refusal_of(session.spent, total.within);
+    if refusal != 0 {
+        return refusal;
+    }
+    let rises = session.rises;
+    let floors = ranges.floors;
+    let ceilings = ranges.ceilings;
+    write(floors, &ceilings, &rises, n, total.code, list);
+    0
+}

@@ -1,0 +1,76 @@
+-- The first of the numbers below n at which a test holds.
+use Prim.Native.Nat.{ℕ, zero, suc, _+_, _≤_, _<_}
+use mathlib.Core.Path.{_≡_, refl, sym, _∙_}
+use mathlib.Core.Bool.{Bool, true, false, cond, true≢false}
+use native.Mathlib.Nat.{le-refl}
+use native.Mathlib.Omega.{arith}
+use native.Mathlib.Decide.{decLt, ℕ-discrete}
+use borrow.Author.Count.{below-none, below-more}
+use borrow.Author.Tests.{ltb-true, ltb-false}
+use lib.Dec.{ltb}
+
+-- the first k below n with t k, or n
+unfoldable pub firstWhere : (ℕ → Bool) → ℕ → ℕ
+firstWhere t zero = zero
+firstWhere t (suc m) = let r : ℕ = firstWhere t m in cond (ltb r m) r (cond (t m) m (suc m))
+
+pub record First (t : ℕ → Bool) (n r : ℕ) : Type 0 where
+  pub most : r ≤ n
+  pub before : (k : ℕ) → k < r → t k ≡ false
+  pub here : r < n → t r ≡ true
+
+pub first : (t : ℕ → Bool) (n : ℕ) → First t n (firstWhere t n)
+unfolding firstWhere
+first t zero = record { most = le-refl 0; before = below-none _; here = λ h. absurd (omega arith) }
+first t (suc m) = go (ltb (firstWhere t m) m) (t m) refl refl (ltb-true (firstWhere t m) m) (ltb-false (firstWhere t m) m) (first t m)
+  where
+    go : (less now : Bool) → less ≡ ltb (firstWhere t m) m → t m ≡ now → (ltb (firstWhere t m) m ≡ true → firstWhere t m < m) → (ltb (firstWhere t m) m ≡ false → m ≤ firstWhere t m)
+        → First t m (firstWhere t m) → First t (suc m) (cond less (firstWhere t m) (cond now m (suc m)))
+    go true now e f l u c = record { most = omega (arith, c .most); before = c .before; here = λ h. c .here (l (sym e)) }
+    go false true e f l u c = record { most = omega arith; before = λ k h. c .before k (omega (arith, u (sym e))); here = λ h. f }
+    go false false e f l u c = record { most = le-refl (suc m); before = λ k h. last k h (ℕ-discrete k m); here = λ h. absurd (omega arith) }
+      where
+        last : (k : ℕ) → k < suc m → Dec (k ≡ m) → t k ≡ false
+        last k h (yes i) = rw i f
+        last k h (no i) = c .before k (omega (arith, u (sym e)))
+
+module _ {t : ℕ → Bool} {n : ℕ} where
+  not-before : {r s : ℕ} → First t n r → First t n s → s ≤ r
+  not-before {r} {s} p q = go (decLt r s)
+    where
+      go : Dec (r < s) → s ≤ r
+      go (yes h) = absurd (true≢false (sym (p .here (omega (arith, q .most))) ∙ q .before r h))
+      go (no h) = omega arith
+
+  -- there is one such number
+  pub first-only : {r : ℕ} → First t n r → r ≡ firstWhere t n
+  first-only p = omega (arith, not-before p (first t n), not-before (first t n) p)
+
+-- tests that agree below n
+pub first-same : (t u : ℕ → Bool) (n : ℕ) → ((k : ℕ) → k < n → t k ≡ u k) → firstWhere t n ≡ firstWhere u n
+first-same t u n h =
+    let f = first t n in
+    first-only (record {
+      most = f .most;
+      before = λ k l. sym (h k (omega (arith, f .most))) ∙ f .before k l;
+      here = λ l. sym (h (firstWhere t n) l) ∙ f .here l;
+    })
+
+-- ---- a loop that looks for it: the test holds nowhere below i
+
+pub record Nowhere (t : ℕ → Bool) (n i : ℕ) : Type 0 where
+  pub most : i ≤ n
+  pub before : (k : ℕ) → k < i → t k ≡ false
+
+module _ {t : ℕ → Bool} {n : ℕ} where
+  pub nowhere-none : Nowhere t n 0
+  nowhere-none = record { most = omega arith; before = below-none _ }
+
+  pub nowhere-more : {i : ℕ} → Nowhere t n i → i < n → t i ≡ false → Nowhere t n (i + 1)
+  nowhere-more {i} h l e = record { most = omega arith; before = below-more _ i (h .before) e }
+
+  pub nowhere-here : {i : ℕ} → Nowhere t n i → i < n → t i ≡ true → i ≡ firstWhere t n
+  nowhere-here h l e = first-only (record { most = h .most; before = h .before; here = λ _. e })
+
+  pub nowhere-all : {i : ℕ} → Nowhere t n i → n ≤ i → n ≡ firstWhere t n
+  nowhere-all {i} h l = first-only (record { most = le-refl n; before = λ k u. h .before k (omega arith); here = λ u. absurd (omega arith) })
