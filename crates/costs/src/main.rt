@@ -1,9 +1,11 @@
 // Opens a profile of as many days as the digits on standard input say, and then does 50 times what the letter behind them
-// says, for the instructions to be counted: o opens it again, c lowers the total's ceiling, l does so with the session lent, and
-// d raises a day's floor.
+// says, for the instructions to be counted: o opens it again, c lowers the total's ceiling, l does so with the session lent,
+// d raises a day's floor, w writes a schedule for a day, t writes one for the total, and i inspects one. Before w, t and i it
+// writes a schedule, and after them it inspects the last one; with s it does no more than that.
 use cuts::Cut;
 use cutting::AfterCut;
 use cutting::CutAnswer;
+use inspection::Inspection;
 use numbers::greatest;
 use numbers::least;
 use numbers::wide;
@@ -157,9 +159,16 @@ fn lower_total(most: usize) -> Cut
     Cut::total_ceiling(levels::show_total(greatest(most, 100) - 100))
 }
 
-// A point above the day's present floor: a level is a point plus 1,000, and what a total is held as is 511,000 more.
+// The point of a level: a level is a point plus 1,000, and what a total is held as is 511,000 more.
+fn point_of(level: usize) -> i32
+    requires { ⌜ level ≤ 65536 ⌝ }
+{
+    levels::show_total(511000 + level)
+}
+
+// A point above the day's present floor.
 fn raise_floor(day: usize, level: u16) -> Cut {
-    Cut::DayFloor(day, levels::show_total(511001 + wide(level)))
+    Cut::DayFloor(day, point_of(wide(level) + 1))
 }
 
 // Cut k. Day floors are raised in turn.
@@ -191,6 +200,85 @@ fn cut_often(load: u8, first: AfterCut) -> AfterCut
         k += 1;
     }
     last
+}
+
+// The refusal's number, 0 where the schedule is kept, and 255 where it breaks a rule.
+fn number_of(answer: Inspection) -> u8 {
+    match answer {
+        Inspection::Refused(number) => number,
+        Inspection::Kept => 0,
+        _ => 255,
+    }
+}
+
+// Schedule k: days in turn with their highest value, or totals from the highest down.
+fn ask(load: u8, k: usize, s: Session, list: &mut [i16]) -> u8
+    requires { ⌜ Sane s × (k < 50) ⌝ }
+{
+    let present = s.present;
+    match load {
+        b'w' => {
+            let ceilings = present.ceilings;
+            let day = k % s.days;
+            schedules::write_day(s, day, point_of(wide(ceilings[day])), list)
+        }
+        b't' => {
+            let total = greatest(present.most, 100 * k) - 100 * k;
+            schedules::write_total(s, levels::show_total(total), list)
+        }
+        _ => number_of(inspection::inspect(s, list)),
+    }
+}
+
+// Takes the answer before for the spent mark, so that none can be left out. That mark does not change.
+fn ask_again(load: u8, k: usize, s: Session, before: u8, list: &mut [i16]) -> u8
+    requires { ⌜ Sane s × (k < 50) ⌝ }
+{
+    let mut session = s;
+    session.spent = before != 0;
+    ask(load, k, session, list)
+}
+
+fn ask_often(load: u8, times: usize, s: Session, list: &mut [i16]) -> u8
+    requires { ⌜ Sane s × (times ≤ 50) ⌝ }
+{
+    let mut last = 0;
+    let mut k = 0;
+    while k < times {
+        last = ask_again(load, k, s, last, list);
+        k += 1;
+    }
+    last
+}
+
+fn times(load: u8) -> usize
+    ensures { λ r. ⌜ r ≤ 50 ⌝ }
+{
+    if load == b's' { 0 } else { TIMES }
+}
+
+// Writes a schedule, does what the letter says, and inspects the last schedule.
+fn ask_all(load: u8, s: Session, list: &mut [i16]) -> u8
+    requires { ⌜ Sane s ⌝ }
+{
+    let first = ask(b't', 0, s, list);
+    if first != 0 {
+        return first;
+    }
+    let last = ask_often(load, times(load), s, list);
+    if last != 0 {
+        return last;
+    }
+    ask(b'i', 0, s, list)
+}
+
+fn ask_for_schedules(load: u8, s: Session) -> Answer
+    requires { ⌜ Sane s ⌝ }
+{
+    let n = s.days;
+    let mut list = [0i16; 512];
+    let number = ask_all(load, s, &mut list[..n]);
+    answer_of(number, 0, s)
 }
 
 // The total's, held plus 512,000: 6,000 points above the sum of the floors, so that it tightens the ceiling of each day, and so
@@ -226,6 +314,7 @@ fn run(n: usize, load: u8) -> Answer
             let a = last.answer;
             answer_of(a.refusal, a.changed, last.session)
         }
+        b's' | b'w' | b't' | b'i' => ask_for_schedules(load, s),
         _ => first,
     }
 }

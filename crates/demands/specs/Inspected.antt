@@ -20,7 +20,7 @@ use Rattle.inspection.specs.Inspecting.{brokenDay, brokenRise, brokenTotal, Fin
 use Rattle.session.specs.Lists.{on-listOf}
 use Rattle.demands.specs.Schedules.{presentProfile, DayKept, RiseKept, TotalKept, Inspects, wrong-length, spent, day, rise, sum, all-kept, Inspection}
 
--- what the tests say
+-- what a test of a rise says
 rise-kept : (a b : ℤ) → ltZ b a ≡ false → a ≤ℤ b
 rise-kept a b e = ltZ-no (passes (not (ltZ b a)) (ap not e))
 

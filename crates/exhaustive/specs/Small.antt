@@ -14,5 +14,5 @@ pub record Small (n : ℕ) (floors ceilings rises : List ℕ) (lowest highest : 
   pub floor : Low floors n
   pub ceiling : Low ceilings n
   pub rise : Low rises n
-  pub low : lowest ≤ 2560000
-  pub high : highest ≤ 2560000
+  pub low : lowest ≤ 1000000
+  pub high : highest ≤ 1000000

@@ -32,9 +32,9 @@ struct Run {
     tally: Tally,
 }
 
-struct Rows {
-    rows: [Row; 8],
-    seed: usize,
+pub(crate) struct Rows {
+    pub rows: [Row; 8],
+    pub seed: usize,
 }
 
 // ---- rows
@@ -139,6 +139,24 @@ fn draw(
         i += 1;
     }
     Rows { rows, seed: s }
+}
+
+// Draws `count` rows near a session's ranges.
+pub(crate) fn near_ranges(seed: usize, n: usize, ranges: Ranges, count: usize) -> Rows
+    requires { ⌜ (seed < 2147483647) × (0 < n) × (n ≤ 4) × (ranges .least ≤ 2560000) × (count ≤ 8) ⌝ }
+    ensures { λ r. ⌜ r .seed < 2147483647 ⌝ }
+{
+    let floors = ranges.floors;
+    let ceilings = ranges.ceilings;
+    draw(
+        seed,
+        n,
+        &floors,
+        &ceilings,
+        ranges.least,
+        ranges.most,
+        count,
+    )
 }
 
 // Two of the first `count` rows once more behind them.
@@ -480,20 +498,9 @@ fn turn(t: Tally) -> Tally
         return after;
     }
     let session = o.session;
-    let ranges = session.present;
-    let floors = ranges.floors;
-    let ceilings = ranges.ceilings;
     let first = small::next(p.seed);
     let count = first % 6 + 1;
-    let drawn = draw(
-        first,
-        p.n,
-        &floors,
-        &ceilings,
-        ranges.least,
-        ranges.most,
-        count,
-    );
+    let drawn = near_ranges(first, p.n, session.present, count);
     let rows = drawn.rows;
     let mixed = shuffled(repeated(rows, count, drawn.seed), count + 2, drawn.seed);
     let other = mixed.rows;
@@ -518,7 +525,7 @@ fn compared() -> Tally {
     t
 }
 
-fn print_count(label: &[u8], x: usize) {
+pub(crate) fn print_count(label: &[u8], x: usize) {
     io::write_all(1, label);
     io::print_decimal(1, x as u64);
 }

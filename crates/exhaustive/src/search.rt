@@ -100,7 +100,7 @@ fn setpoint(list: usize, floors: &[u16; 512], day: usize) -> usize
 
 // The point of a level, as a total: a level is held plus 1,000, a total plus 512,000.
 pub(crate) fn point(level: usize) -> i32
-    requires { ⌜ level ≤ 200000 ⌝ }
+    requires { ⌜ level ≤ 2000000 ⌝ }
 {
     levels::show_total(level + 511000)
 }
@@ -211,6 +211,37 @@ fn stretch_days(
     }
 }
 
+// Whether the list is a schedule that keeps the valid cuts, and if so its total.
+fn judge(
+    list: usize,
+    floors: &[u16; 512],
+    ceilings: &[u16; 512],
+    rises: &[u16; 512],
+    n: usize,
+    lowest: usize,
+    highest: usize,
+    cuts: [Row; 8],
+    count: usize,
+) -> Summed
+    requires { ⌜ (n ≤ 4) × (count ≤ 8) ⌝ }
+{
+    let w = walk(list, floors, ceilings, rises, n);
+    let total = w.sum + 1000 * (512 - n);
+    if !w.kept {
+        return broken();
+    }
+    if total < lowest {
+        return broken();
+    }
+    if highest < total {
+        return broken();
+    }
+    Summed {
+        kept: keeps_all(list, floors, n, total, cuts, count),
+        sum: total,
+    }
+}
+
 // Takes the list into account, if it is a schedule that keeps the valid cuts: 1, else 0.
 fn taken(
     list: usize,
@@ -228,22 +259,22 @@ fn taken(
     requires { ⌜ (n ≤ 4) × (count ≤ 8) ⌝ }
     ensures { λ r. ⌜ r ≤ 1 ⌝ }
 {
-    let w = walk(list, floors, ceilings, rises, n);
-    let total = w.sum + 1000 * (512 - n);
-    if !w.kept {
-        return 0;
-    }
-    if total < lowest {
-        return 0;
-    }
-    if highest < total {
-        return 0;
-    }
-    if !keeps_all(list, floors, n, total, cuts, count) {
+    let s = judge(
+        list,
+        floors,
+        ceilings,
+        rises,
+        n,
+        lowest,
+        highest,
+        cuts,
+        count,
+    );
+    if !s.kept {
         return 0;
     }
     stretch_days(list, floors, n, lows, highs);
-    stretch(lows, highs, TOTAL, total);
+    stretch(lows, highs, TOTAL, s.sum);
     1
 }
 
@@ -282,4 +313,53 @@ pub(crate) fn search(
         list += 1;
     }
     found
+}
+
+fn has_setpoints(list: usize, floors: &[u16; 512], setpoints: &[u16; 512], n: usize) -> bool
+    requires { ⌜ n ≤ 4 ⌝ }
+{
+    let mut d = 0;
+    while d < n {
+        if setpoint(list, floors, d) != numbers::wide(setpoints[d]) {
+            return false;
+        }
+        d += 1;
+    }
+    true
+}
+
+// Whether one of the schedules that the search counts has these setpoints.
+pub(crate) fn finds(
+    setpoints: &[u16; 512],
+    floors: &[u16; 512],
+    ceilings: &[u16; 512],
+    rises: &[u16; 512],
+    n: usize,
+    lowest: usize,
+    highest: usize,
+    cuts: [Row; 8],
+    count: usize,
+) -> bool
+    requires { ⌜ (n ≤ 4) × (count ≤ 8) ⌝ }
+{
+    let end = power(n);
+    let mut list = 0;
+    while list < end {
+        if has_setpoints(list, floors, setpoints, n) {
+            let s = judge(
+                list,
+                floors,
+                ceilings,
+                rises,
+                n,
+                lowest,
+                highest,
+                cuts,
+                count,
+            );
+            return s.kept;
+        }
+        list += 1;
+    }
+    false
 }

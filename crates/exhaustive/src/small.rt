@@ -66,15 +66,15 @@ fn draw(
     s
 }
 
-// The sum of the floors as a total, held plus 512,000.
-fn sum(floors: &[u16; 512], n: usize) -> usize
+// The sum of n levels as a total, held plus 512,000.
+pub(crate) fn sum(levels: &[u16; 512], n: usize) -> usize
     requires { ⌜ n ≤ 4 ⌝ }
     ensures { λ r. ⌜ (508000 ≤ r) × (r ≤ 774140) ⌝ }
 {
     let mut t = 1000 * (512 - n);
     let mut d = 0;
     while d < n {
-        t += numbers::wide(floors[d]);
+        t += numbers::wide(levels[d]);
         d += 1;
     }
     t
@@ -151,6 +151,26 @@ pub(crate) fn searched(
         count,
         lows,
         highs,
+    )
+}
+
+// Whether one of those schedules has these setpoints.
+pub(crate) fn finds(p: Profile, cuts: [Row; 8], count: usize, setpoints: &[u16; 512]) -> bool
+    requires { ⌜ (p .n ≤ 4) × (count ≤ 8) ⌝ }
+{
+    let floors = p.floors;
+    let ceilings = p.ceilings;
+    let rises = p.rises;
+    search::finds(
+        setpoints,
+        &floors,
+        &ceilings,
+        &rises,
+        p.n,
+        p.lowest,
+        p.highest,
+        cuts,
+        count,
     )
 }
 

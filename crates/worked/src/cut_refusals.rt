@@ -11,10 +11,10 @@ const TOTAL_FLOOR: usize = 2;
 
 const UNKNOWN: usize = 4;
 
-const DAYS: usize = 3;
+pub const DAYS: usize = 3;
 
 // A: 2..6, 4..7, 4..7, total 10..12.
-fn profile_a() -> Session
+pub(crate) fn profile_a() -> Session
     ensures { λ r. ⌜ Sane r ⌝ }
 {
     let floors = [2i16, 4, 4];
@@ -30,6 +30,14 @@ fn cut(session: Session, kind: usize, day: usize, value: i32, room: usize) -> Af
 {
     let mut changed = [0u16; 3];
     cutting::cut_told(session, kind, day, value, &mut changed[..room])
+}
+
+// A after a cut that no schedule keeps.
+pub(crate) fn spent() -> Session
+    ensures { λ r. ⌜ Sane r ⌝ }
+{
+    let after = cut(profile_a(), TOTAL_FLOOR, 0, 13, DAYS);
+    after.session
 }
 
 fn refusal(session: Session, kind: usize, day: usize, value: i32, room: usize) -> u8
@@ -49,8 +57,7 @@ fn of_a(kind: usize, day: usize, value: i32, room: usize) -> u8
 fn of_spent(kind: usize, day: usize, value: i32, room: usize) -> u8
     requires { ⌜ room ≤ 3 ⌝ }
 {
-    let spent = cut(profile_a(), TOTAL_FLOOR, 0, 13, DAYS);
-    refusal(spent.session, kind, day, value, room)
+    refusal(spent(), kind, day, value, room)
 }
 
 fn days() {

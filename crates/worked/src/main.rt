@@ -1,15 +1,21 @@
-// What opening and a cut answer at the bounds of an entry: document 01's examples that are run and not proved.
+// What opening, a cut, writing a schedule and inspecting one answer at the bounds of an entry: document 01's examples that are run and not proved.
 mod cut_refusals;
 mod refusals;
+mod schedule_refusals;
+
+pub(crate) fn numbered(text: &[u8], number: usize) {
+    io::write_all(1, text);
+    io::print_decimal(1, number as u64);
+    io::write_all(1, b"\n");
+}
 
 // A line ends with the refusal, 0 for none.
 pub(crate) fn line(text: &[u8], refusal: u8) {
-    io::write_all(1, text);
-    io::print_decimal(1, refusal as u64);
-    io::write_all(1, b"\n");
+    numbered(text, refusal as usize);
 }
 
 fn main() {
     refusals::print();
     cut_refusals::print();
+    schedule_refusals::print();
 }

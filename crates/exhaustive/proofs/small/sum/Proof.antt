@@ -5,10 +5,10 @@ use Rattle.exhaustive.proofs.small.sum.Statement.{statement}
 use Rattle.exhaustive.proofs.small.sum.Tie as tie
 
 abbrev Inv-loop : tie.InvT-loop
-Inv-loop floors n t₀ d₀ t d = (d ≤ n) × (508000 ≤ t) × (t + 1000 * n ≤ 512000 + 65535 * d)
+Inv-loop levels n t₀ d₀ t d = (d ≤ n) × (508000 ≤ t) × (t + 1000 * n ≤ 512000 + 65535 * d)
 
 abbrev μ-loop : tie.MeasureT-loop
-μ-loop floors n t₀ d₀ t d = n - d
+μ-loop levels n t₀ d₀ t d = n - d
 
 sub-t : tie.Need-sub-t Inv-loop μ-loop
 sub-t c = search needs
