@@ -1,4 +1,5 @@
--- Document 01: writing a schedule for a day, or for the total, and a value.
+-- Document 01: writing a schedule for a day, or for the total, and a value. Which schedule it is need not be believed: that it is one, with the value,
+-- is `Writing` of demands.
 use mathlib.Core.Bool.{cond, not}
 use mathlib.Core.List.{List}
 use Prim.Native.Nat.{ℕ, zero, suc, _+_, _-_, min, max}
@@ -14,8 +15,8 @@ use Rattle.schedules.specs.declared.Raised.{Raised}
 
 -- ---- the refusals
 
--- the first refusal of writing for a day that applies, or 0, where the list is `room` long: 2, a day not in the profile, spent, a value outside
--- the day's present range
+-- the first refusal of writing for a day that applies, or 0, where the list is `room` long. 2: it is not n long; 7: a day not in the profile; 9: the
+-- session is spent; 10: the value is outside the day's present range
 unfoldable pub dayRefusal : Session → ℕ → ℤ → ℕ → ℕ
 dayRefusal s day value room =
     cond (not (eqb room (s .days))) 2
