@@ -9,9 +9,9 @@ use lib.ListN.{length}
 use lib.Signed.{_≤ℤ_}
 use Rattle.series.specs.Sum.{at}
 use Rattle.chains.specs.Sum.{sum, all}
-use Rattle.levels.specs.Code.{lowestPoint, highestPoint, lowestRise, lowestTotal, code, decoded, on}
+use Rattle.levels.specs.Code.{lowestPoint, lowestRise, lowestTotal, code, decoded, on}
 use Rattle.levels.specs.Offset.{Less, less-le, le-less, less-order, less-shift, less-same, less-add}
-use Rattle.levels.specs.Laws.{point-less, total-less, code-less, decoded-less, within-yes}
+use Rattle.levels.specs.Laws.{point-less, total-less, code-less, decoded-less}
 use Rattle.chains.specs.Spans as Codes
 use Rattle.method.specs.Filter.{held}
 use Rattle.method.specs.Levels.{Levels}
@@ -85,6 +85,17 @@ module _ {p : Profile} {fs cs rs : List ℕ} {L U : ℕ} (g : Coding p fs cs rs 
     most = most-same .1 (s .most);
   }
 
+-- the levels of a schedule stand for it
+pub levels-of : {p : Profile} {fs cs rs : List ℕ} {L U : ℕ} → Coding p fs cs rs L U → (x : List ℤ) → Schedule p x
+    → (i : ℕ) → i < p .days → Less (on x i) (code lowestPoint (on x i)) 1000
+levels-of {p} {fs} g x s i h =
+    code-less lowestPoint (on x i) 1000 point-less
+    (≤ℤ-trans lowestPoint (on (p .floors) i) (on x i) (less-le lowestPoint (on (p .floors) i) 0 (at fs i) 1000 point-less (g .floor i h) (omega arith)) (s .floor i h))
+
+pub codes-of : {p : Profile} {fs cs rs : List ℕ} {L U : ℕ} → Coding p fs cs rs L U → (x : List ℤ) → Schedule p x
+    → Levels fs cs rs (p .days) L U (λ k. code lowestPoint (on x k))
+codes-of g x s = to-levels g x (s .whole) (λ k. code lowestPoint (on x k)) (levels-of g x s) s
+
 module _ (p : Profile) (d : Entered p) where
   abbrev pub CodesOf : (ℕ → ℕ) → Type 0
   CodesOf = Levels (codes lowestPoint (p .floors) (p .days)) (codes lowestPoint (p .ceilings) (p .days))
@@ -101,12 +112,6 @@ module _ (p : Profile) (d : Entered p) where
     highest = highest-less p d;
   }
 
-  -- the levels of a schedule
-  pub levels-of : (x : List ℤ) → Schedule p x → (i : ℕ) → i < p .days → Less (on x i) (code lowestPoint (on x i)) 1000
-  levels-of x s i h =
-      code-less lowestPoint (on x i) 1000 point-less
-      (≤ℤ-trans lowestPoint (on (p .floors) i) (on x i) (within-yes lowestPoint highestPoint (on (p .floors) i) .0 (d .floor i h) .0) (s .floor i h))
-
   -- the points of levels
   abbrev pub pointsOf : (ℕ → ℕ) → List ℤ
   pointsOf c = listOf (λ k. decoded lowestPoint (c k)) (p .days)
@@ -117,10 +122,6 @@ module _ (p : Profile) (d : Entered p) where
   pub points-less : (c : ℕ → ℕ) (i : ℕ) → i < p .days → Less (on (pointsOf c) i) (c i) 1000
   points-less c i h =
       rw (on-listOf (λ k. decoded lowestPoint (c k)) (p .days) i h) (decoded-less lowestPoint (c i) 1000 point-less)
-
-  -- the levels of a schedule, in codes, and the points of one in codes
-  pub codes-of : (x : List ℤ) → Schedule p x → CodesOf (λ k. code lowestPoint (on x k))
-  codes-of x h = to-levels coding x (h .whole) (λ k. code lowestPoint (on x k)) (levels-of x h) h
 
   pub schedule-of : (c : ℕ → ℕ) → CodesOf c → Schedule p (pointsOf c)
   schedule-of c h = of-levels coding (pointsOf c) (points-length c) c (points-less c) h
@@ -159,7 +160,7 @@ module _ (p : Profile) (d : Entered p) (S : List ℤ → Type 0) (T : (ℕ → �
       some = less-le (decoded low lo) (decoded low hi) lo hi k bottom top (s .some);
       inside = λ x h.
           let c : ℕ → ℕ = λ i. code lowestPoint (on x i) in
-          let here : Less (f x) (g c) k = same x c (schedule x h .whole) (levels-of p d x (schedule x h)) in
+          let here : Less (f x) (g c) k = same x c (schedule x h .whole) (levels-of (coding p d) x (schedule x h)) in
           let w = s .inside c (to x h) in
           (less-le (decoded low lo) (f x) lo (g c) k bottom here (w .0), less-le (f x) (decoded low hi) (g c) hi k here top (w .1));
       taken = at-value;

@@ -17,16 +17,16 @@ use Rattle.session.specs.Opening.{earlier, badCount, badLength, badPoint, badRi
 use Rattle.demands.specs.Demands.{Exact, Demand2}
 use Rattle.session.specs.declared.Opened.{Opened}
 use Rattle.session.specs.Entered.{Entered, entered, codes-bounds}
-use Rattle.demands.specs.Bridge.{CodesOf, codes-of, schedule-of, exact-points}
+use Rattle.demands.specs.Bridge.{CodesOf, coding, codes-of, schedule-of, exact-points}
 
 module _ (p : Profile) (d : Entered p) where
   opens : narrowed p .found ≡ true → Exact p (Schedule p) (fresh (p .days) (codes lowestRise (p .rises) (p .days - 1)) (rangesOf (narrowed p)))
   opens e =
       let t = exact (codes-bounds p d) e in
-      exact-points p d (Schedule p) (CodesOf p d) (λ x h. h) (codes-of p d) (schedule-of p d) _ (t .day) (t .total)
+      exact-points p d (Schedule p) (CodesOf p d) (λ x h. h) (codes-of (coding p d)) (schedule-of p d) _ (t .day) (t .total)
 
   no-schedule : narrowed p .found ≡ false → (x : List ℤ) → Schedule p x → ⊥
-  no-schedule e x h = none (codes-bounds p d) e _ (codes-of p d x h)
+  no-schedule e x h = none (codes-bounds p d) e _ (codes-of (coding p d) x h)
 
 -- opening by its two tests
 abbrev outcome : Profile → Bool → Bool → Opened

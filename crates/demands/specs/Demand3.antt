@@ -50,7 +50,7 @@ module _ (p : Profile) (d : Entered p) where
 
   pub kept-levels : (hs : List Handed) (x : List ℤ) → Kept p hs x → LevelsKept hs (λ k. code lowestPoint (on x k))
   kept-levels hs x k =
-      (codes-of p d x (k .schedule), λ c v. keeps-same x (k .schedule .whole) _ (levels-of p d x (k .schedule)) c (v .valid .formed) .0 (k .keeps c v))
+      (codes-of (coding p d) x (k .schedule), λ c v. keeps-same x (k .schedule .whole) _ (levels-of (coding p d) x (k .schedule)) c (v .valid .formed) .0 (k .keeps c v))
 
   pub levels-kept : (hs : List Handed) (x : List ℤ) → length x ≡ p .days → (y : ℕ → ℕ) → ((i : ℕ) → i < p .days → Less (on x i) (y i) 1000) → LevelsKept hs y → Kept p hs x
   levels-kept hs x whole y same k = record {

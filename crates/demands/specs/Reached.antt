@@ -2,13 +2,12 @@
 use mathlib.Core.Path.{_≡_, refl, sym, _∙_, ap}
 use mathlib.Core.Bool.{false, true≢false}
 use mathlib.Core.List.{List}
-use Prim.Native.Nat.{ℕ, _-_, _≤_, _<_}
+use Prim.Native.Nat.{ℕ, _-_, _≤_}
 use native.Mathlib.Omega.{arith}
 use lib.IntN.{ℤ}
 use Rattle.series.specs.Sum.{at}
 use Rattle.chains.specs.Spans.{spans-same}
 use Rattle.levels.specs.Code.{lowestPoint, lowestRise, lowestTotal, code, on}
-use Rattle.levels.specs.Offset.{Less}
 use Rattle.levels.specs.Laws.{point-less, rise-less, total-less, decoded-less}
 use Rattle.session.specs.Profile.{Profile, Schedule}
 use Rattle.session.specs.Opening.{opened, narrowed as tight, codes, rangesOf}
@@ -18,7 +17,7 @@ use Rattle.session.specs.declared.Session.{Session}
 use Rattle.schedules.specs.Supported.{Supported}
 use Rattle.demands.specs.Cuts.{Handed, Kept, after}
 use Rattle.session.specs.Lists.{on-listOf}
-use Rattle.demands.specs.Bridge.{Coding, to-levels, of-levels, levels-of, between}
+use Rattle.demands.specs.Bridge.{Coding, of-levels, levels-of, codes-of, coding}
 use Rattle.demands.specs.Demand2.{unrefused}
 use Rattle.demands.specs.Right.{Right, narrowed, exhausted}
 use Rattle.demands.specs.Demand3.{LevelsKept, kept-levels, levels-kept, after-right}
@@ -54,31 +53,24 @@ reached p d hs (narrowed r e w) u =
     })
 reached p d hs (exhausted e h) u = absurd (true≢false (sym (ap (λ (s : Session). s .spent) e) ∙ u))
 
-pub came : (p : Profile) (z : opened p .refusal ≡ 0) (d : Entered p) (hs : List Handed) (s : Session) → s ≡ after (opened p .session) hs → s .spent ≡ false → Reached p d hs s
-came p z d hs s e = let u = unrefused p z in reached p d hs (rw (e, u .session) (after-right p d (u .found) hs))
+pub after-reached : (p : Profile) (z : opened p .refusal ≡ 0) (d : Entered p) (hs : List Handed) (s : Session) → s ≡ after (opened p .session) hs → s .spent ≡ false → Reached p d hs s
+after-reached p z d hs s e = let u = unrefused p z in reached p d hs (rw (e, u .session) (after-right p d (u .found) hs))
 
 module _ (p : Profile) (d : Entered p) (hs : List Handed) (s : Session) (w : Reached p d hs s) where
-  coding : Coding (presentProfile s) (s .present .floors) (s .present .ceilings) (s .rises) (s .present .least) (s .present .most)
-  coding = present-coding s (w .supported .bounds .most)
-
-  -- the levels of a schedule of the present ranges
-  stand : (x : List ℤ) → Schedule (presentProfile s) x → (i : ℕ) → i < s .days → Less (on x i) (code lowestPoint (on x i)) 1000
-  stand x k i h =
-      between lowestPoint (on x i) 1000 (at (s .present .floors) i) (at (s .present .ceilings) i) point-less (rw (on-listOf (floorOn s) (s .days) i h) at (k .floor i h))
-      (rw (on-listOf (ceilingOn s) (s .days) i h) at (k .ceiling i h)) .0
+  present : Coding (presentProfile s) (s .present .floors) (s .present .ceilings) (s .rises) (s .present .least) (s .present .most)
+  present = present-coding s (w .supported .bounds .most)
 
   pub present-kept : (x : List ℤ) → Schedule (presentProfile s) x → Kept p hs x
   present-kept x k =
-      levels-kept p d hs x (k .whole ∙ w .days) (λ i. code lowestPoint (on x i)) (λ i h. stand x k i (rw (w .days) h))
-      (w .only _ (to-levels coding x (k .whole) (λ i. code lowestPoint (on x i)) (stand x k) k))
+      levels-kept p d hs x (k .whole ∙ w .days) (λ i. code lowestPoint (on x i)) (λ i h. levels-of present x k i (rw (w .days) h)) (w .only _ (codes-of present x k))
 
   kept-present : (x : List ℤ) → Kept p hs x → Schedule (presentProfile s) x
   kept-present x k =
-      of-levels coding x (k .schedule .whole ∙ sym (w .days)) (λ i. code lowestPoint (on x i)) (λ i h. levels-of p d x (k .schedule) i (rw (sym (w .days)) h))
+      of-levels present x (k .schedule .whole ∙ sym (w .days)) (λ i. code lowestPoint (on x i)) (λ i h. levels-of (coding p d) x (k .schedule) i (rw (sym (w .days)) h))
       (w .within _ (kept-levels p d hs x k))
 
 pub present-schedules : PresentSchedules
 present-schedules p z hs s e u x =
     let d = entered p (unrefused p z .early) in
-    let w = came p z d hs s e u in
+    let w = after-reached p z d hs s e u in
     (present-kept p d hs s w x, kept-present p d hs s w x)

@@ -1,10 +1,12 @@
 -- What is written is a schedule of the session's present ranges and one of the profile that keeps every valid cut, with the value asked for.
 use mathlib.Core.Path.{_≡_, refl, _∙_}
 use mathlib.Core.Bool.{Bool, true, false, cond, not}
+use mathlib.Core.Logic.{_↔_}
 use mathlib.Core.List.{List}
 use Prim.Native.Nat.{ℕ, _-_, _≤_, _<_}
 use native.Mathlib.Omega.{arith}
 use lib.IntN.{ℤ, pos}
+use lib.Dec.{eqb, ltb}
 use lib.ListN.{length}
 use lib.Signed.{_≤ℤ_}
 use borrow.Author.Tests.{eqb-true, eq-eqb, ltb-true, lt-ltb}
@@ -24,7 +26,7 @@ use Rattle.schedules.specs.Supported.{with-total, with-day}
 use Rattle.demands.specs.Cuts.{Handed, after}
 use Rattle.demands.specs.Bridge.{held-less, of-levels, between}
 use Rattle.demands.specs.Demand2.{unrefused}
-use Rattle.demands.specs.Reached.{Reached, present-coding, came, present-kept}
+use Rattle.demands.specs.Reached.{Reached, present-coding, after-reached, present-kept}
 use Rattle.demands.specs.Inspected.{inspection}
 use Rattle.demands.specs.Schedules.{presentProfile, ScheduleFor, Writes, Ranged, Writing}
 
@@ -48,32 +50,38 @@ range-refuses true true true d e = absurd (omega arith)
 range-refuses true false c d e = absurd (omega arith)
 range-refuses false b c d e = absurd (omega arith)
 
-day-ranged : (s : Session) (i : ℕ) (v : ℤ) (room : ℕ)
-    → Ranged (dayRefusal s i v room) ((room ≡ s .days) × (i < s .days) × (s .spent ≡ false)) (floorOn s i) v (ceilingOn s i)
-unfolding dayRefusal
-day-ranged s i v room = record {
+-- of the range's bounds and the checks before it, which say Before
+ranged : {Before : Type 0} (a b c : Bool) (low v high : ℤ) → Before ↔ (a ≡ true) × (b ≡ true) × (c ≡ false) → Ranged (firstOf a b c (within low high v)) Before low v high
+ranged a b c low v high before = record {
   ten = (
-    λ e. let t = range-refuses _ _ _ _ e in ((eqb-true room (s .days) (t .0), ltb-true i (s .days) (t .1), t .2), within-no _ _ v .0 (t .3)),
-    λ w. rw (eq-eqb room (s .days) (w .0 .0), lt-ltb i (s .days) (w .0 .1), w .0 .2, within-no _ _ v .1 (w .1)) refl,
+    λ e. let t = range-refuses a b c (within low high v) e in (before .1 (t .0, t .1, t .2), within-no low high v .0 (t .3)),
+    λ w. let t = before .0 (w .0) in rw (t .0, t .1, t .2, within-no low high v .1 (w .1)) refl,
   );
   taken = (
-    λ e. let t = none-refuses _ _ _ _ e in let m = within-yes _ _ v .0 (t .3) in ((eqb-true room (s .days) (t .0), ltb-true i (s .days) (t .1), t .2), m .0, m .1),
-    λ w. rw (eq-eqb room (s .days) (w .0 .0), lt-ltb i (s .days) (w .0 .1), w .0 .2, within-yes _ _ v .1 (w .1, w .2)) refl,
+    λ e.
+        let t = none-refuses a b c (within low high v) e in
+        let m = within-yes low high v .0 (t .3) in
+        (before .1 (t .0, t .1, t .2), m .0, m .1),
+    λ w. let t = before .0 (w .0) in rw (t .0, t .1, t .2, within-yes low high v .1 (w .1, w .2)) refl,
   );
 }
 
+day-ranged : (s : Session) (i : ℕ) (v : ℤ) (room : ℕ)
+    → Ranged (dayRefusal s i v room) ((room ≡ s .days) × (i < s .days) × (s .spent ≡ false)) (floorOn s i) v (ceilingOn s i)
+unfolding dayRefusal
+day-ranged s i v room =
+    ranged (eqb room (s .days)) (ltb i (s .days)) (s .spent) (floorOn s i) v (ceilingOn s i) (
+      λ w. (eq-eqb room (s .days) (w .0), lt-ltb i (s .days) (w .1), w .2),
+      λ t. (eqb-true room (s .days) (t .0), ltb-true i (s .days) (t .1), t .2),
+    )
+
 sum-ranged : (s : Session) (v : ℤ) (room : ℕ) → Ranged (totalRefusal s v room) ((room ≡ s .days) × (s .spent ≡ false)) (totalFloor s) v (totalCeiling s)
 unfolding totalRefusal
-sum-ranged s v room = record {
-  ten = (
-    λ e. let t = range-refuses _ true _ _ e in ((eqb-true room (s .days) (t .0), t .2), within-no _ _ v .0 (t .3)),
-    λ w. rw (eq-eqb room (s .days) (w .0 .0), w .0 .1, within-no _ _ v .1 (w .1)) refl,
-  );
-  taken = (
-    λ e. let t = none-refuses _ true _ _ e in let m = within-yes _ _ v .0 (t .3) in ((eqb-true room (s .days) (t .0), t .2), m .0, m .1),
-    λ w. rw (eq-eqb room (s .days) (w .0 .0), w .0 .1, within-yes _ _ v .1 (w .1, w .2)) refl,
-  );
-}
+sum-ranged s v room =
+    ranged (eqb room (s .days)) true (s .spent) (totalFloor s) v (totalCeiling s) (
+      λ w. (eq-eqb room (s .days) (w .0), refl, w .1),
+      λ t. (eqb-true room (s .days) (t .0), t .2),
+    )
 
 -- ---- the list
 
@@ -130,7 +138,7 @@ module _ (p : Profile) (z : opened p .refusal ≡ 0) (hs : List Handed) (s : Ses
     left = list-left _ _ _ l;
     schedule = λ o.
         let t = day-ranged s i v (length l) .taken .0 o in
-        rw (list-filled _ _ _ l o) (day-schedule p d hs s (came p z d hs s e (t .0 .2)) (t .0 .2) l (t .0 .0) i v (t .0 .1) (t .1) (t .2));
+        rw (list-filled _ _ _ l o) (day-schedule p d hs s (after-reached p z d hs s e (t .0 .2)) (t .0 .2) l (t .0 .0) i v (t .0 .1) (t .1) (t .2));
   }
 
   writes-sum : (v : ℤ) (l : List ℤ) → Writes p hs s total v (totalRefusal s v (length l)) l (totalWritten s v l)
@@ -139,7 +147,7 @@ module _ (p : Profile) (z : opened p .refusal ≡ 0) (hs : List Handed) (s : Ses
     left = list-left _ _ _ l;
     schedule = λ o.
         let t = sum-ranged s v (length l) .taken .0 o in
-        rw (list-filled _ _ _ l o) (total-schedule p d hs s (came p z d hs s e (t .0 .1)) (t .0 .1) l (t .0 .0) v (t .1) (t .2));
+        rw (list-filled _ _ _ l o) (total-schedule p d hs s (after-reached p z d hs s e (t .0 .1)) (t .0 .1) l (t .0 .0) v (t .1) (t .2));
   }
 
 pub writing : Writing

@@ -14,7 +14,7 @@ use Rattle.chains.specs.Sum.{sum, all}
 use Rattle.method.specs.Filter.{zeros}
 use Rattle.levels.specs.Code.{lowestPoint, lowestRise, lowestTotal, lowestSetpoint, highestSetpoint, within, code, decoded, on, firstOutside}
 use Rattle.levels.specs.Offset.{Less, less-shift, less-add}
-use Rattle.levels.specs.Laws.{point-less, rise-less, total-less, setpoint-less, decoded-less, within-less, all-within}
+use Rattle.levels.specs.Laws.{point-less, rise-less, total-less, setpoint-less, decoded-less, within-less, first-before}
 use Rattle.levels.specs.Order.{less-test, within-test}
 use Rattle.session.specs.Profile.{total}
 use Rattle.session.specs.Opening.{codes}
@@ -49,7 +49,7 @@ module _ (s : Session) (x : List ℤ) (few : s .days ≤ 512) (whole : length x 
   setpoint : (k : ℕ) → k < s .days → Less (on x k) (at xs k) 32768
   setpoint k h =
       rw (codes-at lowestSetpoint x (s .days) k h few)
-      (within-less lowestSetpoint highestSetpoint (on x k) 32768 setpoint-less (all-within lowestSetpoint highestSetpoint x inside k (omega arith)))
+      (within-less lowestSetpoint highestSetpoint (on x k) 32768 setpoint-less (first-before lowestSetpoint highestSetpoint x k (omega arith)))
 
   day-test : (k : ℕ) → k < s .days → brokenDay s x k ≡ dayOutside xs (s .present .floors) (s .present .ceilings) k
   day-test k h =

@@ -1,20 +1,20 @@
 -- The loops of `encode` and `show_points` over plain lists: their invariants, and what starts, keeps and ends each.
 use Prim.Native.Nat.{ℕ, _+_, _≤_, _<_}
 use mathlib.Core.Path.{_≡_, ap, sym, _∙_}
-use mathlib.Core.Bool.{true, false}
+use mathlib.Core.Bool.{true, false, not}
 use mathlib.Core.List.{List}
 use native.Mathlib.Omega.{arith}
-use borrow.Author.Count.{below-none, below-more}
 use lib.IntN.{ℤ}
 use lib.ListN.{length, set}
 use mir.Syntax.{w16, w32}
 use mir.Val.{Fits, SFits, toZ, ofZ}
 use mir.Facts.{toZ-ofZ, sfits-widen}
 use Rattle.series.specs.Written.{written, written-none, written-more}
+use Rattle.series.specs.First.{first-only, Nowhere, nowhere-none, nowhere-more}
 use Rattle.levels.specs.declared.Coded.{Coded}
 use Rattle.levels.specs.declared.Coded.the-variants.{Code, Outside}
 use Rattle.levels.specs.Code.{lowestPoint, lowestSetpoint, highestSetpoint, within, code, decoded, on, firstOutside, coded}
-use Rattle.levels.specs.Laws.{code-most, stops-first, coded-code, coded-outside}
+use Rattle.levels.specs.Laws.{code-most, coded-code, coded-outside}
 use Rattle.levels.proofs.Casts.{seen, recast, setpoint-within, point-fits}
 
 -- what `encode` ensures
@@ -33,17 +33,16 @@ module _ {low high : ℤ} (fl : SFits w32 low) (fh : SFits w32 high) where
   encoded-seen xs first r out e = rw (toZ-ofZ fl, toZ-ofZ fh) at e
 
 pub record Upto (low high : ℤ) (xs : List ℤ) (first : List ℕ) (i : ℕ) (out : List ℕ) : Type 0 where
-  pub most : i ≤ length xs
-  pub before : (k : ℕ) → k < i → within low high (on xs k) ≡ true
+  pub inside : Nowhere (λ k. not (within low high (on xs k))) (length xs) i
   pub made : out ≡ written (λ k. code low (on xs k)) i first
 
 pub start : (low high : ℤ) (xs : List ℤ) (first : List ℕ) → Upto low high xs first 0 first
-start low high xs first = record { most = omega arith; before = below-none _; made = sym (written-none _ first) }
+start low high xs first = record { inside = nowhere-none; made = sym (written-none _ first) }
 
 module _ {low high : ℤ} {xs : List ℤ} {first : List ℕ} {i : ℕ} {out : List ℕ} (u : Upto low high xs first i out) where
   stops : (i < length xs → within low high (on xs i) ≡ false) → (i < length xs → within lowestSetpoint highestSetpoint (on xs i) ≡ true)
       → Encoded xs first i out low high
-  stops h s = (stops-first low high xs i (record { most = u .most; before = u .before; at = h }), (u .made, s))
+  stops h s = (first-only (record { most = u .inside .most; before = u .inside .before; here = λ l. ap not (h l) }), (u .made, s))
 
   pub ends : length xs ≤ i → Encoded xs first i out low high
   ends l = stops (λ h. absurd (omega arith)) (λ h. absurd (omega arith))
@@ -66,8 +65,7 @@ module _ {low high : ℤ} {xs : List ℤ} {first : List ℕ} {i : ℕ} {out : Li
       turn l =
           let t = coded-code low high (on xs i) c answer o in
           record {
-            most = omega arith;
-            before = below-more _ i (u .before) (t .0);
+            inside = nowhere-more (u .inside) l (ap not (t .0));
             made = ap (λ a. set a i c) (u .made) ∙ written-more _ i first c (t .1);
           }
 

@@ -1,10 +1,11 @@
 -- Signed numbers within bounds as natural numbers: how far each is above its lowest bound (offset binary).
-use mathlib.Core.Bool.{Bool, cond, _&&_}
-use mathlib.Core.List.{List, [], _∷_}
-use Prim.Native.Nat.{ℕ, zero, suc}
+use mathlib.Core.Bool.{Bool, cond, not, _&&_}
+use mathlib.Core.List.{List}
+use Prim.Native.Nat.{ℕ}
 use lib.IntN.{ℤ, pos, negsuc, natAbs, _+ℤ_, _-ℤ_}
-use lib.ListN.{getD}
+use lib.ListN.{length, getD}
 use lib.Signed.{leZ}
+use Rattle.series.specs.First.{firstWhere}
 use Rattle.levels.specs.declared.Coded.{Coded}
 use Rattle.levels.specs.declared.Coded.the-variants.{Code, Outside}
 
@@ -50,8 +51,7 @@ on l k = getD l k (pos 0)
 
 -- the first index whose number is outside, or the list's length
 abbrev pub firstOutside : ℤ → ℤ → List ℤ → ℕ
-firstOutside low high [] = zero
-firstOutside low high (z ∷ zs) = cond (within low high z) (suc (firstOutside low high zs)) zero
+firstOutside low high zs = firstWhere (λ k. not (within low high (on zs k))) (length zs)
 
 abbrev pub coded : ℤ → ℤ → ℤ → Coded
 coded low high z = cond (within low high z) (Code (code low z)) Outside

@@ -1,15 +1,17 @@
 -- What holds of codes, of answers, and of the first number outside its bounds.
 use mathlib.Core.Path.{_≡_, refl, sym, ap, _∙_}
 use mathlib.Core.Logic.{_↔_}
-use mathlib.Core.Bool.{Bool, true, false, cond, and-eq-true-iff, true≢false}
-use mathlib.Core.List.{List, [], _∷_}
+use mathlib.Core.Bool.{Bool, true, false, cond, not, and-eq-true-iff, true≢false}
+use mathlib.Core.List.{List}
 use Prim.Native.Nat.{ℕ, zero, suc, _+_, _-_, _≤_, _<_}
 use native.Mathlib.Omega.{arith}
-use native.Mathlib.Decide.{decLe}
+use native.Mathlib.Decide.{decLt}
 use lib.IntN.{ℤ, pos, negsuc, negℤ, natAbs, _-ℤ_, +ℤ-comm, +ℤ-negℤ-cancel, -ℤ-+ℤ-cancel}
 use lib.ListN.{length}
 use lib.Signed.{_≤ℤ_, leZ, leZ-yes}
 use denote.Floats.{passes, is-true}
+use borrow.Author.Tests.{not-true, not-false}
+use Rattle.series.specs.First.{first}
 use Rattle.levels.specs.declared.Coded.{Coded}
 use Rattle.levels.specs.declared.Coded.the-variants.{Code, Outside}
 use Rattle.levels.specs.Offset.{Less, le-less, less-same, less-add}
@@ -128,56 +130,22 @@ coded-outside {r} low high z e f = go (within low high z) e
     go true p = cc
     go false p = refl
 
--- r is the index of the first number outside, or the length
-pub record Stops (low high : ℤ) (xs : List ℤ) (r : ℕ) : Type 0 where
-  pub most : r ≤ length xs
-  pub before : (k : ℕ) → k < r → within low high (on xs k) ≡ true
-  pub at : r < length xs → within low high (on xs r) ≡ false
+-- ---- the first number outside its bounds
 
-module _ (low high : ℤ) where
-  next-before : (z : ℤ) (zs : List ℤ) (r : ℕ) → within low high z ≡ true → ((k : ℕ) → k < r → within low high (on zs k) ≡ true)
-      → (k : ℕ) → k < suc r → within low high (on (z ∷ zs) k) ≡ true
-  next-before z zs r e b zero l = e
-  next-before z zs r e b (suc k) l = b k (omega arith)
+module _ (low high : ℤ) (xs : List ℤ) where
+  pub first-most : firstOutside low high xs ≤ length xs
+  first-most = first (λ k. not (within low high (on xs k))) (length xs) .most
 
-  pub first-stops : (xs : List ℤ) → Stops low high xs (firstOutside low high xs)
-  first-stops [] = record { most = omega arith; before = λ k l. absurd (omega arith); at = λ l. absurd (omega arith) }
-  first-stops (z ∷ zs) = go (within low high z) refl (first-stops zs)
-    where
-      go : (b : Bool) → within low high z ≡ b → Stops low high zs (firstOutside low high zs)
-          → Stops low high (z ∷ zs) (cond b (suc (firstOutside low high zs)) zero)
-      go true e s =
-          record {
-            most = omega arith;
-            before = next-before z zs (firstOutside low high zs) e (s .before);
-            at = λ l. s .at (omega arith);
-          }
-      go false e s = record { most = omega arith; before = λ k l. absurd (omega arith); at = λ _. e }
+  pub first-before : (k : ℕ) → k < firstOutside low high xs → within low high (on xs k) ≡ true
+  first-before k h = not-false _ (first (λ j. not (within low high (on xs j))) (length xs) .before k h)
 
-  -- and there is one such index
-  not-above : (xs : List ℤ) (r s : ℕ) → Stops low high xs r → Stops low high xs s → s ≤ r
-  not-above xs r s p q = go (decLe s r)
-    where
-      go : Dec (s ≤ r) → s ≤ r
-      go (yes h) = h
-      go (no h) = absurd (true≢false (sym (q .before r (omega arith)) ∙ p .at (omega arith)))
-
-  pub stops-first : (xs : List ℤ) (r : ℕ) → Stops low high xs r → r ≡ firstOutside low high xs
-  stops-first xs r p =
-      let q = first-stops xs in
-      omega (arith, not-above xs r (firstOutside low high xs) p q, not-above xs (firstOutside low high xs) r q p)
+  pub first-here : firstOutside low high xs < length xs → within low high (on xs (firstOutside low high xs)) ≡ false
+  first-here h = not-true _ (first (λ j. not (within low high (on xs j))) (length xs) .here h)
 
   -- where the number at that index is within, the index is the length
-  pub none-outside : (xs : List ℤ) (r : ℕ) → r ≡ firstOutside low high xs → (r < length xs → within low high (on xs r) ≡ true) → r ≡ length xs
-  none-outside xs r e h = go (decLe (length xs) r)
+  pub none-outside : {r : ℕ} → r ≡ firstOutside low high xs → (r < length xs → within low high (on xs r) ≡ true) → r ≡ length xs
+  none-outside {r} e h = go (decLt r (length xs))
     where
-      q : Stops low high xs r
-      q = rw e (first-stops xs)
-
-      go : Dec (length xs ≤ r) → r ≡ length xs
-      go (yes l) = omega (arith, q .most)
-      go (no l) = absurd (true≢false (sym (h (omega arith)) ∙ q .at (omega arith)))
-
-  -- where it is the length, every number is within
-  pub all-within : (xs : List ℤ) → firstOutside low high xs ≡ length xs → (k : ℕ) → k < length xs → within low high (on xs k) ≡ true
-  all-within xs e k h = first-stops xs .before k (omega arith)
+      go : Dec (r < length xs) → r ≡ length xs
+      go (yes l) = absurd (true≢false (sym (h l) ∙ rw (← e) at (first-here (rw e at l))))
+      go (no l) = omega (arith, first-most)

@@ -16,7 +16,7 @@ use Rattle.levels.specs.Code.{within}
 pub ≤ℤ-trans : (a b c : ℤ) → a ≤ℤ b → b ≤ℤ c → a ≤ℤ c
 ≤ℤ-trans a b c l u = ltZ-no (not-T (ltZ c a) (λ t. clashℤ (<ℤ-≤ℤ-trans (ltZ-yes t) l) u))
 
-pub same-test : (a b m n : ℕ) → (a < b → m < n) → (b ≤ a → n ≤ m) → ltb a b ≡ ltb m n
+same-test : (a b m n : ℕ) → (a < b → m < n) → (b ≤ a → n ≤ m) → ltb a b ≡ ltb m n
 same-test a b m n less more = go (decLt a b)
   where
     go : Dec (a < b) → ltb a b ≡ ltb m n

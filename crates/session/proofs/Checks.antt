@@ -1,6 +1,6 @@
 -- The checks of opening, by what the code found, and opening once they are passed.
 use mathlib.Core.Path.{_≡_, refl, ap, sym, _∙_}
-use mathlib.Core.Bool.{Bool, true, false, cond, not, _&&_, _||_}
+use mathlib.Core.Bool.{Bool, true, false, cond, not, _&&_, _||_, and-eq-true-iff, true≢false}
 use mathlib.Core.List.{List, [], _∷_}
 use Prim.Native.Nat.{ℕ, zero, suc, _+_, _-_, _≤_, _<_}
 use native.Mathlib.Omega.{arith}
@@ -13,25 +13,27 @@ use borrow.Author.Tests.{ne-eqb, lt-ltb, le-ltb}
 use Rattle.series.specs.Sum.{at}
 use Rattle.series.specs.Written.{written}
 use Rattle.levels.specs.Code.{lowestPoint, highestPoint, lowestRise, highestRise, lowestTotal, highestTotal, within, code, on, firstOutside}
-use Rattle.levels.specs.Laws.{first-stops}
+use Rattle.levels.specs.Laws.{first-most, first-before, first-here}
 use Rattle.method.specs.Filter.{InBounds, firstCrossed, zeros}
 use Rattle.method.specs.Stages.{Crossing, crossing}
 use Rattle.session.specs.Profile.{Profile}
 use Rattle.session.specs.Opening.{narrowed, openedWith, every, crossed, earlier, opened, refusedWith, codes, badCount, badLength, badPoint, badRise, badTotal, badRange}
 use Rattle.session.specs.Stages.{openedCodes, lengthRefusal}
-use Rattle.levels.specs.Order.{same-test, less-test}
-use Rattle.session.specs.Entered.{Entered, Sized, sized, passed, codes-bounds, or-true, floor-less, ceiling-less, lowest-less, highest-less}
+use Rattle.levels.specs.Order.{less-test}
+use Rattle.session.specs.Entered.{Entered, every-on, Sized, sized, passed, codes-bounds, or-true, floor-less, ceiling-less, lowest-less, highest-less}
 
 -- ---- every number within its bounds
 
-pub every-test : (low high : ℤ) (zs : List ℤ) → not (every (within low high) zs) ≡ ltb (firstOutside low high zs) (length zs)
-every-test low high [] = refl
-every-test low high (z ∷ zs) = go (within low high z) (every-test low high zs)
+every-yes : (test : ℤ → Bool) (zs : List ℤ) → ((k : ℕ) → k < length zs → test (on zs k) ≡ true) → every test zs ≡ true
+every-yes test [] h = refl
+every-yes test (z ∷ zs) h = and-eq-true-iff (test z) (every test zs) .1 (h 0 (omega arith), every-yes test zs (λ k l. h (suc k) (omega arith)))
+
+every-no : (test : ℤ → Bool) (zs : List ℤ) (k : ℕ) → k < length zs → test (on zs k) ≡ false → every test zs ≡ false
+every-no test zs k h e = go (every test zs) refl
   where
-    go : (b : Bool) → not (every (within low high) zs) ≡ ltb (firstOutside low high zs) (length zs)
-        → not (b && every (within low high) zs) ≡ ltb (cond b (suc (firstOutside low high zs)) zero) (suc (length zs))
-    go true e = e ∙ sym (same-test (suc (firstOutside low high zs)) (suc (length zs)) (firstOutside low high zs) (length zs) (λ h. omega arith) (λ h. omega arith))
-    go false e = sym (lt-ltb 0 (suc (length zs)) (omega arith))
+    go : (b : Bool) → every test zs ≡ b → b ≡ false
+    go true p = absurd (true≢false (sym (every-on test zs p k h) ∙ e))
+    go false p = refl
 
 -- ---- a floor above its ceiling
 
@@ -152,15 +154,15 @@ not-yes e = ap not e
 -- a list whose first number outside is found, or none
 module _ (low high : ℤ) (zs : List ℤ) {r : ℕ} (first : r ≡ firstOutside low high zs) where
   found : r < length zs → not (every (within low high) zs) ≡ true
-  found h = every-test low high zs ∙ lt-ltb (firstOutside low high zs) (length zs) (rw first at h)
+  found h = ap not (every-no (within low high) zs (firstOutside low high zs) (rw first at h) (first-here low high zs (rw first at h)))
 
   clear : length zs ≤ r → not (every (within low high) zs) ≡ false
-  clear h = every-test low high zs ∙ le-ltb (firstOutside low high zs) (length zs) (rw first at h)
+  clear h = ap not (every-yes (within low high) zs (λ k l. first-before low high zs k (omega arith)))
 
   -- then the codes of all of them are stored
   pub stored : {out : List ℕ} (n : ℕ) → length zs ≡ n → n ≤ r → out ≡ written (λ k. code low (on zs k)) r zeros → out ≡ codes low zs n
   stored n e h o =
-      let same : r ≡ n = omega (arith, first-stops low high zs .most) in
+      let same : r ≡ n = omega (arith, first-most low high zs) in
       rw same at o
 
 module _ (p : Profile) {z : ℕ} (ez : z ≡ lengths p) (none : z ≡ 0) where
@@ -171,7 +173,7 @@ module _ (p : Profile) {z : ℕ} (ez : z ≡ lengths p) (none : z ≡ 0) where
   sizes = sized p (whole p e .0) (whole p e .1)
 
   pub rises-few : {r : ℕ} → r ≡ firstOutside lowestRise highestRise (p .rises) → r < 512
-  rises-few {r} er = omega (arith, first-stops lowestRise highestRise (p .rises) .most, sizes .rises, sizes .few, sizes .some)
+  rises-few {r} er = omega (arith, first-most lowestRise highestRise (p .rises), sizes .rises, sizes .few, sizes .some)
 
   module _ {f : ℕ} (ef : f ≡ firstOutside lowestPoint highestPoint (p .floors)) where
     abbrev point : ℤ → Bool

@@ -1,5 +1,5 @@
 -- Showing by what its tests found.
-use mathlib.Core.Path.{_≡_, refl}
+use mathlib.Core.Path.{_≡_, sym}
 use mathlib.Core.Bool.{true, false, _||_}
 use mathlib.Core.List.{List}
 use Prim.Native.Nat.{ℕ, _≤_, _<_}
@@ -13,8 +13,8 @@ use Rattle.levels.specs.Laws.{decoded-less, total-less}
 use Rattle.levels.proofs.Casts.{less-fits}
 use lib.Dec.{ltb}
 use borrow.Author.Tests.{lt-ltb, le-ltb}
-use Rattle.series.specs.Written.{written}
 use Rattle.session.specs.Showing.{shown, shownList, listTooShort, totalFloor, totalCeiling}
+use Rattle.session.specs.ShownList.{list-left}
 use Rattle.session.specs.declared.Session.{Session}
 use Rattle.session.specs.declared.Shown.{Shown}
 use Rattle.session.specs.Entered.{or-true}
@@ -35,14 +35,9 @@ module _ (s : Session) (a b : ℕ) where
       let f : ltb b (s .days) ≡ false = le-ltb b (s .days) l in
       rw (e, f)
 
-module _ (f : ℕ → ℤ) (n : ℕ) (l : List ℤ) where
-  pub left : {r : Shown} → r ≡ listTooShort → l ≡ shownList (r .refusal) f n l
-  unfolding shownList
-  left e = rw e
-
-  pub filled : written f n l ≡ shownList 0 f n l
-  unfolding shownList
-  filled = refl
+-- both lists stay where either is too short
+pub left : (f : ℕ → ℤ) (n : ℕ) (l : List ℤ) {r : Shown} → r ≡ listTooShort → l ≡ shownList (r .refusal) f n l
+left f n l e = rw e (sym (list-left 2 f n l (λ z. absurd (omega arith))))
 
 -- a total that is shown, read back from its bits
 pub total-seen : {z : ℤ} {t : ℕ} → z ≡ decoded lowestTotal t → t ≤ 2560000 → toZ w32 (ofZ w32 z) ≡ decoded lowestTotal t

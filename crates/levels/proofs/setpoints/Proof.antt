@@ -1,4 +1,4 @@
-use mathlib.Core.Path.{_∙_, sym}
+use mathlib.Core.Path.{sym, _∙_}
 use Rattle.levels.specs.Code.{lowestSetpoint, highestSetpoint}
 use Rattle.levels.specs.Laws.{none-outside}
 use borrow.Author.Needs.{needs}
@@ -11,7 +11,7 @@ encode-requires c κs = search needs
 returns : tie.Need-returns
 returns c =
     let e = c .encode .ensures in
-    let whole = none-outside lowestSetpoint highestSetpoint (c .before .before .args .xs .now) _ (e .0) (e .1 .1) in
+    let whole = none-outside lowestSetpoint highestSetpoint (c .before .before .args .xs .now) (e .0) (e .1 .1) in
     (rw whole at (e .1 .0), sym (e .0) ∙ whole)
 
 pub setpoints-spec : {M : Type 1} → statement M

@@ -1,5 +1,6 @@
-use mathlib.Core.Path.{_∙_}
-use Rattle.session.proofs.Shows.{first-short, second-short, both-long, left, filled, total-seen}
+use mathlib.Core.Path.{refl, sym, _∙_}
+use Rattle.session.specs.ShownList.{list-filled}
+use Rattle.session.proofs.Shows.{first-short, second-short, both-long, left, total-seen}
 use borrow.Author.Needs.{needs}
 use Rattle.session.proofs.Session.show.Statement.{statement}
 use Rattle.session.proofs.Session.show.Tie as tie
@@ -35,7 +36,7 @@ same-length-2 : tie.Need-same-length-2
 same-length-2 c = search needs
 
 returns-3 : tie.Need-returns-3
-returns-3 c = (rw (total-seen (c .before .show-total .ensures) (c .before .before .before .before .before .before .before .before .before .before .before .before .before .before .before .pre .present .lowest), total-seen (c .show-total2 .ensures) (c .before .before .before .before .before .before .before .before .before .before .before .before .before .before .before .pre .present .highest)) (both-long _ _ _ (c .before .before .before .before .before .before .before .before .before .before .before .before .before .before .if1 .left) (c .before .before .before .before .before .before .before .before .before .before .before .before .before .if2 .left)), (c .before .before .before .before .before .before .before .show-points .ensures ∙ filled _ _ _, c .before .before .before .show-points2 .ensures ∙ filled _ _ _))
+returns-3 c = (rw (total-seen (c .before .show-total .ensures) (c .before .before .before .before .before .before .before .before .before .before .before .before .before .before .before .pre .present .lowest), total-seen (c .show-total2 .ensures) (c .before .before .before .before .before .before .before .before .before .before .before .before .before .before .before .pre .present .highest)) (both-long _ _ _ (c .before .before .before .before .before .before .before .before .before .before .before .before .before .before .if1 .left) (c .before .before .before .before .before .before .before .before .before .before .before .before .before .if2 .left)), (c .before .before .before .before .before .before .before .show-points .ensures ∙ sym (list-filled 0 _ _ _ refl), c .before .before .before .show-points2 .ensures ∙ sym (list-filled 0 _ _ _ refl)))
 
 pub show-spec : {M : Type 1} → statement M
 show-spec =
