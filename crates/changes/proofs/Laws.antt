@@ -7,7 +7,8 @@ use native.Mathlib.Numerals.{add-one}
 use native.Mathlib.Omega.{arith}
 use lib.ListN.{length, set, length-set, length-append}
 use lib.Seq.{drop-cons, set-append-seam}
-use Rattle.changes.specs.Changes.{daysWhere, inFront}
+use Rattle.series.specs.Front.{inFront}
+use Rattle.changes.specs.Changes.{daysWhere}
 use Rattle.changes.specs.Laws.{days-few, days-more}
 
 -- `out` is l with the days ds in front, `count` of them

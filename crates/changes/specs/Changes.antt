@@ -1,9 +1,8 @@
--- Document 01: the days that a cut changed, and the list that is lent for them.
+-- Document 01: the days that a cut changed.
 use mathlib.Core.Bool.{Bool, cond, not, _||_}
 use mathlib.Core.List.{List, [], _∷_, _++_}
 use Prim.Native.Nat.{ℕ, zero, suc}
 use lib.Dec.{eqb}
-use lib.ListN.{length, drop}
 use Rattle.series.specs.Sum.{at}
 
 -- the floor or the ceiling of day k is another than before
@@ -14,7 +13,3 @@ differs floors ceilings floors′ ceilings′ k = not (eqb (at floors k) (at flo
 unfoldable pub daysWhere : (ℕ → Bool) → ℕ → List ℕ
 daysWhere test zero = []
 daysWhere test (suc m) = cond (test m) (daysWhere test m ++ m ∷ []) (daysWhere test m)
-
--- a list with days written at its front, and its rest as before
-unfoldable pub inFront : List ℕ → List ℕ → List ℕ
-inFront ds l = ds ++ drop (length ds) l

@@ -3,7 +3,8 @@ ghost use mathlib.Core.Bool.{cond};
 ghost use mathlib.Core.Path.{_≡_};
 ghost use Prim.Native.Nat.{_+_, _≤_, _<_};
 ghost use lib.ListN.{length, set};
-ghost use Rattle.changes.specs.Changes.{differs, daysWhere, inFront};
+ghost use Rattle.series.specs.Front.{inFront};
+ghost use Rattle.changes.specs.Changes.{differs, daysWhere};
 
 // Writes a changed day behind the days that the list has, and gives their number.
 fn note(list: &mut [u16], count: usize, day: usize, differs: bool) -> usize

@@ -1,1 +1,3 @@
 pub mod Told
+pub mod Sheet
+pub mod Laws

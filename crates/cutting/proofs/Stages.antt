@@ -20,7 +20,7 @@ use Rattle.cuts.specs.declared.Cut.{Cut}
 use Rattle.cuts.specs.declared.Cut.the-variants.{DayFloor, DayCeiling, TotalFloor, TotalCeiling}
 use Rattle.cuts.specs.declared.Told.{Told}
 use Rattle.cuts.specs.declared.Told.the-variants.{Known, Unknown}
-use Rattle.changes.specs.Changes.{inFront}
+use Rattle.series.specs.Front.{inFront}
 use Rattle.cutting.specs.Cutting.{dayRefusal, totalRefusal, malformed, earlier, clipped, retightened, changedDays, spend, withPresent, refusing, tightenedTo, afterCut, afterTold, listAfter}
 use Rattle.cutting.specs.declared.AfterCut.{AfterCut}
 use Rattle.cutting.specs.declared.Checked.{Checked}

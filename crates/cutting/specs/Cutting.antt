@@ -15,7 +15,8 @@ use Rattle.cuts.specs.declared.Cut.{Cut}
 use Rattle.cuts.specs.declared.Cut.the-variants.{DayFloor, DayCeiling, TotalFloor, TotalCeiling}
 use Rattle.cuts.specs.declared.Told.{Told}
 use Rattle.cuts.specs.declared.Told.the-variants.{Known, Unknown}
-use Rattle.changes.specs.Changes.{differs, daysWhere, inFront}
+use Rattle.series.specs.Front.{inFront}
+use Rattle.changes.specs.Changes.{differs, daysWhere}
 use Rattle.cutting.specs.declared.AfterCut.{AfterCut}
 
 -- ---- the refusals

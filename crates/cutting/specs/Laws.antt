@@ -21,7 +21,8 @@ use Rattle.cuts.specs.declared.Cut.{Cut}
 use Rattle.cuts.specs.declared.Cut.the-variants.{DayFloor, DayCeiling, TotalFloor, TotalCeiling}
 use Rattle.cuts.specs.declared.Told.{Told}
 use Rattle.cuts.specs.declared.Told.the-variants.{Known, Unknown}
-use Rattle.changes.specs.Changes.{inFront}
+use Rattle.cuts.specs.Sheet.{dayOf}
+use Rattle.series.specs.Front.{inFront}
 use Rattle.cutting.specs.Cutting.{dayRefusal, totalRefusal, malformed, earlier, clipped, retightened, tightenedTo, refusing, changedDays, afterCut, afterTold, listAfter}
 use Rattle.cutting.specs.declared.AfterCut.{AfterCut}
 
@@ -37,6 +38,13 @@ day-formed n day value e = let f = placed-within (ltb day n) (within lowestPoint
 
 pub total-formed : (day : ℕ) (value : ℤ) → totalRefusal day value ≡ 0 → (day ≡ 0) × (within lowestTotal highestTotal value ≡ true)
 total-formed day value e = let f = placed-within (eqb day 0) (within lowestTotal highestTotal value) 4 11 e in (eqb-true day 0 (f .0), f .1)
+
+-- its day is one of the profile's, or 0
+pub formed-day : (n : ℕ) (c : Cut) → malformed n c ≡ 0 → 0 < n → dayOf c < n
+formed-day n (DayFloor day value) e some = day-formed n day value e .0
+formed-day n (DayCeiling day value) e some = day-formed n day value e .0
+formed-day n (TotalFloor day value) e some = omega (arith, total-formed day value e .0)
+formed-day n (TotalCeiling day value) e some = omega (arith, total-formed day value e .0)
 
 -- no check before 8 refuses where the cut is well-formed, the list long enough and the session not spent
 pub earlier-none : (s : Session) (c : Cut) (room : ℕ) → malformed (s .days) c ≡ 0 → ltb room (s .days) ≡ false → s .spent ≡ false → eqb (earlier s c room) 0 ≡ true

@@ -72,6 +72,14 @@ fn check(cut: Cut, days: usize) -> Checked
     }
 }
 
+// The refusal of a cut by itself, whatever the session: 12, 7, then 3 or 5, else 0.
+pub fn malformed(cut: Cut, days: usize) -> u8
+    ensures { λ r. ⌜ r ≡ malformed days cut ⌝ }
+{
+    let checked = check(cut, days);
+    checked.refusal
+}
+
 // Clips the range of one day or of the total.
 fn clip(
     cut: Cut,

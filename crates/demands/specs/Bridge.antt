@@ -4,9 +4,10 @@ use mathlib.Core.Logic.{_↔_}
 use mathlib.Core.List.{List}
 use Prim.Native.Nat.{ℕ, _+_, _-_, _*_, _≤_, _<_}
 use native.Mathlib.Omega.{arith}
-use lib.IntN.{ℤ, _+ℤ_}
+use lib.IntN.{ℤ, pos, _+ℤ_}
 use lib.ListN.{length}
 use lib.Signed.{_≤ℤ_}
+use Rattle.series.specs.ListOf.{listOf, length-listOf, get-listOf}
 use Rattle.series.specs.Sum.{at}
 use Rattle.chains.specs.Sum.{sum, all}
 use Rattle.levels.specs.Code.{lowestPoint, lowestRise, lowestTotal, code, decoded, on}
@@ -20,7 +21,6 @@ use Rattle.session.specs.Opening.{codes}
 use Rattle.session.specs.declared.Session.{Session}
 use Rattle.demands.specs.Demands.{Exact}
 use Rattle.session.specs.Lists as Lists
-use Rattle.session.specs.Lists.{listOf, length-listOf, on-listOf}
 use Rattle.levels.specs.Order.{≤ℤ-trans}
 use Rattle.session.specs.Entered.{Entered, floor-less, ceiling-less, rise-less-at, lowest-less, highest-less}
 
@@ -121,7 +121,7 @@ module _ (p : Profile) (d : Entered p) where
 
   pub points-less : (c : ℕ → ℕ) (i : ℕ) → i < p .days → Less (on (pointsOf c) i) (c i) 1000
   points-less c i h =
-      rw (on-listOf (λ k. decoded lowestPoint (c k)) (p .days) i h) (decoded-less lowestPoint (c i) 1000 point-less)
+      rw (get-listOf (λ k. decoded lowestPoint (c k)) (pos 0) (p .days) i h) (decoded-less lowestPoint (c i) 1000 point-less)
 
   pub schedule-of : (c : ℕ → ℕ) → CodesOf c → Schedule p (pointsOf c)
   schedule-of c h = of-levels coding (pointsOf c) (points-length c) c (points-less c) h

@@ -17,7 +17,8 @@ use Rattle.session.specs.declared.Session.{Session}
 use Rattle.cuts.specs.declared.Told.{Told}
 use Rattle.cuts.specs.declared.Told.the-variants.{Known, Unknown}
 use Rattle.changes.specs.Changes.{differs, daysWhere}
-use Rattle.changes.specs.Laws.{at-mem, mem-at, front-at, front-past, days-where, days-ascend}
+use Rattle.series.specs.Front.{front-at, front-past}
+use Rattle.changes.specs.Laws.{at-mem, mem-at, days-where, days-ascend}
 use Rattle.cutting.specs.Cutting.{earlier, clipped, retightened, tightenedTo, changedDays, afterCut, afterTold, listAfter}
 use Rattle.cutting.specs.Laws.{refused-same, accepted, accepted-list}
 use Rattle.cutting.specs.declared.AfterCut.{AfterCut}
@@ -73,7 +74,7 @@ module _ (s : Session) (l : List ℕ) (t : Told) (z : afterTold s t (length l) .
   days = daysWhere test (s .days)
 
   front : (i : ℕ) → i < r .answer .changed → at (listAfter s r l) i ≡ at days i
-  front i h = rw (accepted-list s r l z) (front-at days l i (omega (arith, counted s t (length l) z)))
+  front i h = rw (accepted-list s r l z) (front-at days l i 0 (omega (arith, counted s t (length l) z)))
 
   shown : (k : ℕ) → (test k ≡ true) ↔ ((floorOn s k ≡ floorOn (r .session) k) × (ceilingOn s k ≡ ceilingOn (r .session) k) → ⊥)
   shown k = differs-shown (at (s .present .floors) k) (at (s .present .ceilings) k) (at (r .session .present .floors) k) (at (r .session .present .ceilings) k)
@@ -87,5 +88,5 @@ module _ (s : Session) (l : List ℕ) (t : Told) (z : afterTold s t (length l) .
           (d .0, h, front (d .0) h ∙ d .2),
     );
     once = λ i j h m e. omega (arith, days-ascend test (s .days) i j h (omega (arith, counted s t (length l) z)), front i (omega arith), front j m);
-    rest = λ i h. rw (accepted-list s r l z) (front-past days l i (omega (arith, counted s t (length l) z)));
+    rest = λ i h. rw (accepted-list s r l z) (front-past days l i 0 (omega (arith, counted s t (length l) z)));
   }

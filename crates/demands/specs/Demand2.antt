@@ -3,7 +3,7 @@ use mathlib.Core.Path.{_≡_, refl}
 use mathlib.Core.Bool.{Bool, true, false, cond}
 use mathlib.Core.Logic.{_↔_}
 use mathlib.Core.List.{List}
-use Prim.Native.Nat.{_-_, _≤_}
+use Prim.Native.Nat.{_-_}
 use native.Mathlib.Omega.{arith}
 use lib.IntN.{ℤ}
 use lib.Dec.{eqb}
@@ -13,10 +13,11 @@ use Rattle.series.specs.Sum.{at}
 use Rattle.levels.specs.Code.{lowestRise}
 use Rattle.method.specs.Exact.{none, exact}
 use Rattle.session.specs.Profile.{Profile, Schedule, total}
-use Rattle.session.specs.Opening.{earlier, badCount, badLength, badPoint, badRise, badTotal, badRange, opened, refusedWith, narrowed, codes, fresh, rangesOf}
+use Rattle.session.specs.Opening.{earlier, opened, refusedWith, narrowed, codes, fresh, rangesOf}
 use Rattle.demands.specs.Demands.{Exact, Demand2}
 use Rattle.session.specs.declared.Opened.{Opened}
 use Rattle.session.specs.Entered.{Entered, entered, codes-bounds}
+use Rattle.session.specs.Sanity.{earlier-few}
 use Rattle.demands.specs.Bridge.{CodesOf, coding, codes-of, schedule-of, exact-points}
 
 module _ (p : Profile) (d : Entered p) where
@@ -49,19 +50,6 @@ unrefused p = go (eqb (earlier p) 0) (narrowed p .found) refl refl
     go true false e f z = absurd (omega (arith, rw (e, f) at z))
     go false found e f z = absurd (eqb-false (earlier p) 0 e (rw e at z))
 
-few : (p : Profile) → earlier p ≤ 6
-unfolding earlier
-few p = go (badCount p) (badLength p) (badPoint p) (badRise p) (badTotal p) (badRange p)
-  where
-    go : (a b c d e f : Bool) → cond a 1 (cond b 2 (cond c 3 (cond d 4 (cond e 5 (cond f 6 0))))) ≤ 6
-    go true b c d e f = omega arith
-    go false true c d e f = omega arith
-    go false false true d e f = omega arith
-    go false false false true e f = omega arith
-    go false false false false true f = omega arith
-    go false false false false false true = omega arith
-    go false false false false false false = omega arith
-
 refused : (p : Profile) (early found : Bool) → eqb (earlier p) 0 ≡ early → narrowed p .found ≡ found
     → (outcome p early found .refusal ≡ 8) ↔ (earlier p ≡ 0) × ((x : List ℤ) → Schedule p x → ⊥)
 refused p true true e f =
@@ -72,7 +60,7 @@ refused p true true e f =
 refused p true false e f =
     let z : earlier p ≡ 0 = eqb-true (earlier p) 0 e in
     (λ h. (z, no-schedule p (entered p z) f), λ w. refl)
-refused p false found e f = (λ h. absurd (omega (arith, few p)), λ w. absurd (eqb-false (earlier p) 0 e (w .0)))
+refused p false found e f = (λ h. absurd (omega (arith, earlier-few p)), λ w. absurd (eqb-false (earlier p) 0 e (w .0)))
 
 pub demand-2 : Demand2
 unfolding opened

@@ -4,12 +4,13 @@ use mathlib.Core.Bool.{Bool, true, false, cond, not, true≢false}
 use mathlib.Core.List.{List}
 use Prim.Native.Nat.{ℕ, _+_, _-_, _<_}
 use native.Mathlib.Omega.{arith}
-use lib.IntN.{ℤ, _+ℤ_}
+use lib.IntN.{ℤ, pos, _+ℤ_}
 use lib.Dec.{eqb, ltb}
 use lib.ListN.{length}
 use lib.Signed.{_≤ℤ_, ltZ, ltZ-yes, ltZ-no, clashℤ}
 use denote.Floats.{passes}
 use borrow.Author.Tests.{not-true, not-false, eqb-true, eqb-false, ltb-true, ltb-false}
+use Rattle.series.specs.ListOf.{get-listOf}
 use Rattle.series.specs.First.{firstWhere, first}
 use Rattle.levels.specs.Code.{on}
 use Rattle.levels.specs.Laws.{within-yes, within-no}
@@ -17,7 +18,6 @@ use Rattle.session.specs.Profile.{Schedule, total}
 use Rattle.session.specs.Showing.{floorOn, ceilingOn, riseOn, totalFloor, totalCeiling}
 use Rattle.session.specs.declared.Session.{Session}
 use Rattle.inspection.specs.Inspecting.{brokenDay, brokenRise, brokenTotal, Finding, refused, kept, broken, judged, inspected}
-use Rattle.session.specs.Lists.{on-listOf}
 use Rattle.demands.specs.Schedules.{presentProfile, DayKept, RiseKept, TotalKept, Inspects, wrong-length, spent, day, rise, sum, all-kept, Inspection}
 
 -- what a test of a rise says
@@ -35,18 +35,18 @@ module _ (s : Session) (x : List ℤ) where
   scheduled : length x ≡ s .days → ((j : ℕ) → j < s .days → DayKept s x j) → ((j : ℕ) → j + 1 < s .days → RiseKept s x j) → TotalKept s x → Schedule (presentProfile s) x
   scheduled e days rises sums = record {
     whole = e;
-    floor = λ i h. rw (on-listOf (floorOn s) n i h) (days i h .0);
-    ceiling = λ i h. rw (on-listOf (ceilingOn s) n i h) (days i h .1);
-    rise = λ i h. rw (on-listOf (riseOn s) (n - 1) i (omega arith)) (rises i h);
+    floor = λ i h. rw (get-listOf (floorOn s) (pos 0) n i h) (days i h .0);
+    ceiling = λ i h. rw (get-listOf (ceilingOn s) (pos 0) n i h) (days i h .1);
+    rise = λ i h. rw (get-listOf (riseOn s) (pos 0) (n - 1) i (omega arith)) (rises i h);
     least = sums .0;
     most = sums .1;
   }
 
   day-of : Schedule (presentProfile s) x → (j : ℕ) → j < s .days → DayKept s x j
-  day-of w j h = (rw (on-listOf (floorOn s) n j h) at (w .floor j h), rw (on-listOf (ceilingOn s) n j h) at (w .ceiling j h))
+  day-of w j h = (rw (get-listOf (floorOn s) (pos 0) n j h) at (w .floor j h), rw (get-listOf (ceilingOn s) (pos 0) n j h) at (w .ceiling j h))
 
   rise-of : Schedule (presentProfile s) x → (j : ℕ) → j + 1 < s .days → RiseKept s x j
-  rise-of w j h = rw (on-listOf (riseOn s) (n - 1) j (omega arith)) at (w .rise j h)
+  rise-of w j h = rw (get-listOf (riseOn s) (pos 0) (n - 1) j (omega arith)) at (w .rise j h)
 
   module _ (e : length x ≡ s .days) (u : s .spent ≡ false) where
     abbrev d : ℕ

@@ -4,7 +4,8 @@ use mathlib.Core.Bool.{false, true≢false}
 use mathlib.Core.List.{List}
 use Prim.Native.Nat.{ℕ, _-_, _≤_}
 use native.Mathlib.Omega.{arith}
-use lib.IntN.{ℤ}
+use lib.IntN.{ℤ, pos}
+use Rattle.series.specs.ListOf.{get-listOf}
 use Rattle.series.specs.Sum.{at}
 use Rattle.chains.specs.Spans.{spans-same}
 use Rattle.levels.specs.Code.{lowestPoint, lowestRise, lowestTotal, code, on}
@@ -16,7 +17,6 @@ use Rattle.session.specs.Showing.{Within, floorOn, ceilingOn, riseOn}
 use Rattle.session.specs.declared.Session.{Session}
 use Rattle.schedules.specs.Supported.{Supported}
 use Rattle.demands.specs.Cuts.{Handed, Kept, after}
-use Rattle.session.specs.Lists.{on-listOf}
 use Rattle.demands.specs.Bridge.{Coding, of-levels, levels-of, codes-of, coding}
 use Rattle.demands.specs.Demand2.{unrefused}
 use Rattle.demands.specs.Right.{Right, narrowed, exhausted}
@@ -27,9 +27,9 @@ use Rattle.demands.specs.Schedules.{presentProfile, PresentSchedules}
 pub present-coding : (s : Session) → s .days ≤ 512 → Coding (presentProfile s) (s .present .floors) (s .present .ceilings) (s .rises) (s .present .least) (s .present .most)
 present-coding s few = record {
   few = few;
-  floor = λ k h. rw (on-listOf (floorOn s) (s .days) k h) (decoded-less lowestPoint (at (s .present .floors) k) 1000 point-less);
-  ceiling = λ k h. rw (on-listOf (ceilingOn s) (s .days) k h) (decoded-less lowestPoint (at (s .present .ceilings) k) 1000 point-less);
-  rise = λ k h. rw (on-listOf (riseOn s) (s .days - 1) k (omega arith)) (decoded-less lowestRise (at (s .rises) k) 2000 rise-less);
+  floor = λ k h. rw (get-listOf (floorOn s) (pos 0) (s .days) k h) (decoded-less lowestPoint (at (s .present .floors) k) 1000 point-less);
+  ceiling = λ k h. rw (get-listOf (ceilingOn s) (pos 0) (s .days) k h) (decoded-less lowestPoint (at (s .present .ceilings) k) 1000 point-less);
+  rise = λ k h. rw (get-listOf (riseOn s) (pos 0) (s .days - 1) k (omega arith)) (decoded-less lowestRise (at (s .rises) k) 2000 rise-less);
   lowest = decoded-less lowestTotal (s .present .least) 512000 total-less;
   highest = decoded-less lowestTotal (s .present .most) 512000 total-less;
 }

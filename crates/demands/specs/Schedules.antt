@@ -7,6 +7,7 @@ use Prim.Native.Nat.{ℕ, _+_, _-_, _<_}
 use lib.IntN.{ℤ, _+ℤ_}
 use lib.ListN.{length}
 use lib.Signed.{_≤ℤ_}
+use Rattle.series.specs.ListOf.{listOf}
 use Rattle.levels.specs.Code.{on}
 use Rattle.session.specs.Profile.{Profile, Schedule, total}
 use Rattle.session.specs.Showing.{floorOn, ceilingOn, riseOn, totalFloor, totalCeiling}
@@ -15,7 +16,6 @@ use Rattle.session.specs.declared.Session.{Session}
 use Rattle.schedules.specs.Writing.{dayRefusal, totalRefusal, dayWritten, totalWritten}
 use Rattle.inspection.specs.Inspecting.{Finding, refused, kept, broken, inspected}
 use Rattle.demands.specs.Cuts.{Handed, Kept, after}
-use Rattle.session.specs.Lists.{listOf}
 
 -- the profile that a session's present ranges and rises make: a schedule of the present ranges is one of this profile
 abbrev pub presentProfile : Session → Profile

@@ -19,7 +19,7 @@ use Rattle.session.specs.Profile.{Profile, Schedule, total}
 use Rattle.session.specs.Opening.{opened}
 use Rattle.session.specs.Entered.{Entered, entered}
 use Rattle.session.specs.Showing.{Within, floorOn, ceilingOn, totalFloor, totalCeiling}
-use Rattle.session.specs.ShownList.{list-left, list-filled}
+use Rattle.series.specs.Lent.{list-left, list-filled}
 use Rattle.session.specs.declared.Session.{Session}
 use Rattle.schedules.specs.Writing.{dayRefusal, totalRefusal, dayLevels, totalLevels, dayWritten, totalWritten}
 use Rattle.schedules.specs.Supported.{with-total, with-day}

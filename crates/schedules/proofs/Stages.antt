@@ -21,7 +21,7 @@ use Rattle.method.specs.Levels.{refit, refit-day}
 use Rattle.method.specs.Stages.{crossing}
 use Rattle.carry.specs.Carriable.{Carriable}
 use Rattle.session.specs.Showing.{Sane}
-use Rattle.session.specs.ShownList.{list-left, list-filled}
+use Rattle.series.specs.Lent.{list-left, list-filled}
 use Rattle.session.specs.declared.Session.{Session}
 use Rattle.schedules.specs.Writing.{raisedTo, dayRefusal, totalRefusal, dayLevels, totalLevels, dayWritten, totalWritten}
 use Rattle.schedules.specs.Stages.{checked}

@@ -9,7 +9,8 @@ use lib.ListN.{length, set}
 use Rattle.series.specs.Sum.{at}
 use Rattle.levels.specs.Code.{lowestPoint, lowestTotal, within, code, decoded}
 use Rattle.method.specs.Filter.{carried, firstCrossed, forwarded, held}
-use Rattle.session.specs.Showing.{floorOn, ceilingOn, totalFloor, totalCeiling, shownList}
+use Rattle.series.specs.Lent.{lentList}
+use Rattle.session.specs.Showing.{floorOn, ceilingOn, totalFloor, totalCeiling}
 use Rattle.session.specs.declared.Session.{Session}
 use Rattle.schedules.specs.declared.Raised.{Raised}
 
@@ -63,7 +64,7 @@ dayLevels s day value =
 -- ---- the lent list afterwards: as it was beside a refusal, else the schedule
 
 unfoldable pub dayWritten : Session → ℕ → ℤ → List ℤ → List ℤ
-dayWritten s day value l = shownList (dayRefusal s day value (length l)) (λ k. decoded lowestPoint (dayLevels s day value k)) (s .days) l
+dayWritten s day value l = lentList (dayRefusal s day value (length l)) (λ k. decoded lowestPoint (dayLevels s day value k)) (s .days) l
 
 unfoldable pub totalWritten : Session → ℤ → List ℤ → List ℤ
-totalWritten s value l = shownList (totalRefusal s value (length l)) (λ k. decoded lowestPoint (totalLevels s value k)) (s .days) l
+totalWritten s value l = lentList (totalRefusal s value (length l)) (λ k. decoded lowestPoint (totalLevels s value k)) (s .days) l

@@ -13,8 +13,8 @@ use Rattle.levels.specs.Laws.{decoded-less, total-less}
 use Rattle.levels.proofs.Casts.{less-fits}
 use lib.Dec.{ltb}
 use borrow.Author.Tests.{lt-ltb, le-ltb}
-use Rattle.session.specs.Showing.{shown, shownList, listTooShort, totalFloor, totalCeiling}
-use Rattle.session.specs.ShownList.{list-left}
+use Rattle.series.specs.Lent.{lentList, list-left}
+use Rattle.session.specs.Showing.{shown, listTooShort, totalFloor, totalCeiling}
 use Rattle.session.specs.declared.Session.{Session}
 use Rattle.session.specs.declared.Shown.{Shown}
 use Rattle.session.specs.Entered.{or-true}
@@ -36,7 +36,7 @@ module _ (s : Session) (a b : ℕ) where
       rw (e, f)
 
 -- both lists stay where either is too short
-pub left : (f : ℕ → ℤ) (n : ℕ) (l : List ℤ) {r : Shown} → r ≡ listTooShort → l ≡ shownList (r .refusal) f n l
+pub left : (f : ℕ → ℤ) (n : ℕ) (l : List ℤ) {r : Shown} → r ≡ listTooShort → l ≡ lentList (r .refusal) f n l
 left f n l e = rw e (sym (list-left 2 f n l (λ z. absurd (omega arith))))
 
 -- a total that is shown, read back from its bits

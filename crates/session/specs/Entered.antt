@@ -1,6 +1,6 @@
 -- What holds of a profile that no check before 8 refuses.
 use mathlib.Core.Path.{_≡_, refl, _∙_}
-use mathlib.Core.Bool.{Bool, true, false, cond, _&&_, _||_, and-eq-true-iff}
+use mathlib.Core.Bool.{Bool, true, false, _&&_, _||_, and-eq-true-iff}
 use mathlib.Core.List.{List, [], _∷_}
 use Prim.Native.Nat.{ℕ, zero, suc, _+_, _-_, _≤_, _<_}
 use native.Mathlib.Omega.{arith}
@@ -9,6 +9,7 @@ use lib.IntN.{ℤ}
 use lib.Dec.{eqb}
 use lib.ListN.{length, length-replicate, getD-replicate}
 use borrow.Author.Tests.{not-false, ltb-false, eqb-true, eqb-false}
+use Rattle.series.specs.Checks.{cond-zero, or-false}
 use Rattle.series.specs.Sum.{at}
 use Rattle.series.specs.Written.{written-below, written-past, length-written}
 use Rattle.levels.specs.Code.{lowestPoint, highestPoint, lowestRise, highestRise, lowestTotal, highestTotal, within, code, on}
@@ -17,14 +18,6 @@ use Rattle.levels.specs.Laws.{point-less, rise-less, total-less, within-less, p
 use Rattle.method.specs.Filter.{InBounds, zeros}
 use Rattle.session.specs.Profile.{Profile}
 use Rattle.session.specs.Opening.{earlier, every, badCount, badLength, badPoint, badRise, badTotal, codes}
-
-cond-zero : (b : Bool) (m k : ℕ) → cond b (suc m) k ≡ 0 → (b ≡ false) × (k ≡ 0)
-cond-zero true m k e = absurd (omega arith)
-cond-zero false m k e = (refl, e)
-
-or-false : (a b : Bool) → (a || b) ≡ false → (a ≡ false) × (b ≡ false)
-or-false true b e = let z : _≡_ {A = ℕ} 0 1 = cc in absurd (omega arith)
-or-false false b e = (refl, e)
 
 pub or-true : (a b : Bool) → b ≡ true → (a || b) ≡ true
 or-true true b e = refl

@@ -2,7 +2,6 @@ pub mod Profile
 pub mod Lists
 pub mod Opening
 pub mod Showing
-pub mod ShownList
 pub mod Stages
 pub mod Entered
 pub mod Sanity

@@ -1,7 +1,7 @@
 -- Lists of points against functions of levels.
-use mathlib.Core.Path.{_≡_, refl, ap, sym}
+use mathlib.Core.Path.{_≡_, sym}
 use mathlib.Core.List.{List, [], _∷_}
-use Prim.Native.Nat.{ℕ, zero, suc, _+_, _*_, _<_}
+use Prim.Native.Nat.{ℕ, suc, _+_, _*_, _<_}
 use native.Mathlib.Omega.{arith}
 use lib.IntN.{ℤ, _+ℤ_}
 use lib.ListN.{length}
@@ -10,22 +10,6 @@ use Rattle.chains.specs.Mirror.{sum-first}
 use Rattle.levels.specs.Code.{on}
 use Rattle.levels.specs.Offset.{Less, less-add}
 use Rattle.session.specs.Profile.{total}
-
--- the list of f 0, f 1, .. , n of them
-pub listOf : {A : Type 0} → (ℕ → A) → ℕ → List A
-listOf f zero = []
-listOf f (suc n) = f 0 ∷ listOf (λ k. f (suc k)) n
-
-pub length-listOf : {A : Type 0} (f : ℕ → A) (n : ℕ) → length (listOf f n) ≡ n
-unfolding listOf
-length-listOf f zero = refl
-length-listOf f (suc n) = ap suc (length-listOf (λ k. f (suc k)) n)
-
-pub on-listOf : (f : ℕ → ℤ) (n k : ℕ) → k < n → on (listOf f n) k ≡ f k
-unfolding listOf
-on-listOf f zero k h = absurd (omega arith)
-on-listOf f (suc n) zero h = refl
-on-listOf f (suc n) (suc k) h = on-listOf (λ j. f (suc j)) n k (omega arith)
 
 -- a total is the sum of the numbers over the offset, over the sum of the offsets
 pub total-less : (x : List ℤ) (c : ℕ → ℕ) (k : ℕ) → ((i : ℕ) → i < length x → Less (on x i) (c i) k) → Less (total x) (sum all (length x) c) (length x * k)

@@ -3,9 +3,8 @@ use mathlib.Core.Bool.{false, cond, _||_}
 use mathlib.Core.List.{List}
 use Prim.Native.Nat.{ℕ}
 use lib.IntN.{ℤ, pos}
-use lib.Dec.{ltb, eqb}
+use lib.Dec.{ltb}
 use Rattle.series.specs.Sum.{at}
-use Rattle.series.specs.Written.{written}
 use Rattle.levels.specs.Code.{lowestPoint, lowestRise, lowestTotal, decoded}
 use Rattle.method.specs.Filter.{InBounds}
 use Rattle.method.specs.Levels.{Levels}
@@ -39,10 +38,6 @@ unfoldable pub shown : Session → ℕ → ℕ → Shown
 shown s floors ceilings =
     cond (ltb floors (s .days) || ltb ceilings (s .days)) listTooShort
     (record { refusal = 0; least = totalFloor s; most = totalCeiling s; spent = s .spent })
-
--- a list after showing: as it was where showing is refused, else f on its first n places
-unfoldable pub shownList : ℕ → (ℕ → ℤ) → ℕ → List ℤ → List ℤ
-shownList refusal f n l = cond (eqb refusal 0) (written f n l) l
 
 -- ranges of n days are in bounds, with the rises between the days
 abbrev pub Fits : List ℕ → ℕ → Ranges → Type 0

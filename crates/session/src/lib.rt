@@ -1,10 +1,11 @@
 // A session: document 01's profile, opened, with its ranges, for one batch.
 ghost use mathlib.Core.Path.{_≡_};
 ghost use lib.ListN.{length};
+ghost use Rattle.series.specs.Lent.{lentList};
 ghost use Rattle.method.specs.Filter.{InBounds};
 ghost use Rattle.session.specs.Opening.{opened, refusedWith, profile};
 ghost use Rattle.session.specs.Stages.{openedCodes, lengthRefusal};
-ghost use Rattle.session.specs.Showing.{Sane, shown, shownList, listTooShort, floorOn, ceilingOn};
+ghost use Rattle.session.specs.Showing.{Sane, shown, listTooShort, floorOn, ceilingOn};
 use levels::Coded;
 
 // The range of each day as levels, a point plus 1,000, and of the total, held plus 512,000.
@@ -193,8 +194,8 @@ impl Session {
     pub fn show(self, floors: &mut [i16], ceilings: &mut [i16]) -> Shown
         requires { ⌜ Sane self ⌝ }
         ensures { λ r. ⌜ r ≡ shown self (length (now (floors .entry))) (length (now (ceilings .entry))) ⌝ }
-        ensures { λ r. ⌜ now (floors .exit) ≡ shownList (r .refusal) (floorOn self) (self .days) (now (floors .entry)) ⌝ }
-        ensures { λ r. ⌜ now (ceilings .exit) ≡ shownList (r .refusal) (ceilingOn self) (self .days) (now (ceilings .entry)) ⌝ }
+        ensures { λ r. ⌜ now (floors .exit) ≡ lentList (r .refusal) (floorOn self) (self .days) (now (floors .entry)) ⌝ }
+        ensures { λ r. ⌜ now (ceilings .exit) ≡ lentList (r .refusal) (ceilingOn self) (self .days) (now (ceilings .entry)) ⌝ }
     {
         let n = self.days;
         if floors.len() < n {

@@ -1,0 +1,63 @@
+-- `first_bad` meets its contract: no cut below j is bad. The measure is the cuts left.
+use Prim.Native.Nat.{_+_, _-_, _*_}
+use mathlib.Core.Path.{_≡_, sym, ap, _∙_}
+use native.Mathlib.Omega.{arith}
+use borrow.Author.Needs.{needs}
+use Rattle.series.specs.First.{Nowhere, nowhere-none, nowhere-more, nowhere-here, nowhere-all}
+use Rattle.profile_file.specs.Format.{toldAt}
+use Rattle.profile_file.specs.Reading.{badCut}
+use Rattle.file_reader.proofs.first_bad.Statement.{statement}
+use Rattle.file_reader.proofs.first_bad.Tie as tie
+
+abbrev Inv-loop : tie.InvT-loop
+Inv-loop bytes from count j₀ j = Nowhere (λ i. badCut (toldAt bytes (from + i * 8))) count j
+
+abbrev μ-loop : tie.MeasureT-loop
+μ-loop bytes from count j₀ j = count - j
+
+loop-holds : tie.Need-loop-holds Inv-loop μ-loop
+loop-holds c = nowhere-none
+
+mul-told-at : tie.Need-mul-told-at Inv-loop μ-loop
+mul-told-at c = search needs
+
+add-told-at : tie.Need-add-told-at Inv-loop μ-loop
+add-told-at c = search needs
+
+told-at-requires : tie.Need-told-at-requires Inv-loop μ-loop
+told-at-requires c κs = search needs
+
+is-bad-requires : tie.Need-is-bad-requires Inv-loop μ-loop
+is-bad-requires c κs = search needs
+
+returns : tie.Need-returns Inv-loop μ-loop
+returns c = nowhere-here (c .before .before .before .before .loop .inv) (c .before .before .before .loop-test .taken) (sym (c .before .is-bad .ensures ∙ ap badCut (c .before .before .told-at .ensures)) ∙ c .if1 .taken)
+
+add-j : tie.Need-add-j Inv-loop μ-loop
+add-j c = search needs
+
+loop-less : tie.Need-loop-less Inv-loop μ-loop
+loop-less c = search needs
+
+loop-again : tie.Need-loop-again Inv-loop μ-loop
+loop-again c = nowhere-more (c .before .before .before .before .loop .inv) (c .before .before .before .loop-test .taken) (sym (c .before .is-bad .ensures ∙ ap badCut (c .before .before .told-at .ensures)) ∙ c .if1 .left)
+
+returns-2 : tie.Need-returns-2 Inv-loop μ-loop
+returns-2 c = let e : c .before .loop .j ≡ c .before .before .before .args .count = omega (arith, c .before .loop .inv .most) in e ∙ nowhere-all (c .before .loop .inv) (c .loop-test .left)
+
+pub first-bad-spec : {M : Type 1} → statement M
+first-bad-spec =
+    tie.close
+    (tie.spec
+    Inv-loop
+    μ-loop
+    loop-holds
+    mul-told-at
+    add-told-at
+    told-at-requires
+    is-bad-requires
+    returns
+    add-j
+    loop-less
+    loop-again
+    returns-2)

@@ -1,0 +1,62 @@
+-- `read_sheet` meets its contract: j entries are stored. The measure is the cuts left.
+use Prim.Native.Nat.{_+_, _-_, _*_}
+use borrow.Author.Needs.{needs}
+use Rattle.series.specs.Filled.{Filled, filled-none, filled-more, filled-all}
+use Rattle.profile_file.specs.Format.{toldAt, known}
+use Rattle.file_reader.specs.Reading.{sheetFrom}
+use Rattle.file_reader.proofs.read_sheet.Statement.{statement}
+use Rattle.file_reader.proofs.read_sheet.Tie as tie
+
+abbrev Inv-loop : tie.InvT-loop
+Inv-loop bytes from count entries₀ j₀ entries j = Filled (λ i. record { cut = known (toldAt bytes (from + i * 8)) }) count j entries₀ entries
+
+abbrev μ-loop : tie.MeasureT-loop
+μ-loop bytes from count entries₀ j₀ entries j = count - j
+
+loop-holds : tie.Need-loop-holds Inv-loop μ-loop
+loop-holds c = filled-none
+
+mul-entry-at : tie.Need-mul-entry-at Inv-loop μ-loop
+mul-entry-at c = search needs
+
+add-entry-at : tie.Need-add-entry-at Inv-loop μ-loop
+add-entry-at c = search needs
+
+entry-at-requires : tie.Need-entry-at-requires Inv-loop μ-loop
+entry-at-requires c κs = search needs
+
+mul-entries : tie.Need-mul-entries Inv-loop μ-loop
+mul-entries c = search needs
+
+array-set-from-entries : tie.Need-array-set-from-entries Inv-loop μ-loop
+array-set-from-entries c = search needs
+
+add-j : tie.Need-add-j Inv-loop μ-loop
+add-j c = search needs
+
+loop-less : tie.Need-loop-less Inv-loop μ-loop
+loop-less c = search needs
+
+loop-again : tie.Need-loop-again Inv-loop μ-loop
+loop-again c = filled-more (c .before .before .loop .inv) (c .before .loop-test .taken) (c .entry-at .ensures)
+
+returns : tie.Need-returns Inv-loop μ-loop
+unfolding sheetFrom
+returns c = rw (filled-all (c .before .loop .inv) (c .loop-test .left))
+
+pub read-sheet-spec : {M : Type 1} → statement M
+read-sheet-spec =
+    tie.close
+    (tie.spec
+    Inv-loop
+    μ-loop
+    loop-holds
+    mul-entry-at
+    add-entry-at
+    entry-at-requires
+    mul-entries
+    array-set-from-entries
+    add-j
+    loop-less
+    loop-again
+    returns)

@@ -1,0 +1,110 @@
+-- What `write` gives and leaves in its output, by the checks that refuse and by the bytes that it stores.
+use Prim.Native.Nat.{ℕ, _+_, _≤_, _<_}
+use mathlib.Core.Path.{_≡_, refl, ap, sym, _∙_}
+use mathlib.Core.List.{List, _++_}
+use native.Mathlib.Omega.{arith}
+use lib.ListN.{length, getD, length-append}
+use lib.Seq.{sets}
+use borrow.Author.Tests.{lt-ltb, le-ltb, ne-eqb}
+use Rattle.series.specs.First.{firstNonzero, nonzero-same, nonzero-none}
+use Rattle.series.specs.Rows.{rows, rows-same, length-rows, front-sets}
+use Rattle.levels.specs.Code.{on}
+use Rattle.session.specs.Profile.{Profile}
+use Rattle.session.specs.Opening as Opening
+use Rattle.session.specs.Entered.{entered}
+use Rattle.cuts.specs.declared.Sheet.{Sheet}
+use Rattle.cuts.specs.Sheet.{blank, cutOn, cutsOf, dayOf}
+use Rattle.cuts.specs.Laws.{length-cutsOf, cutOn-cutsOf}
+use Rattle.cutting.specs.Cutting.{malformed}
+use Rattle.cutting.specs.Laws.{formed-day}
+use Rattle.profile_file.specs.Format.{dayOffset, fileLength, header, cutBytes, dayRow, file}
+use Rattle.profile_file.specs.Layout.{header-length, day-length, length-file}
+use Rattle.profile_file.specs.Writing.{earlier, refusal}
+use Rattle.file_writer.specs.declared.WriteAnswer.{WriteAnswer}
+use Rattle.file_writer.specs.Writing.{writeAnswer, output}
+use Rattle.file_writer.proofs.Laws.{stored-after}
+
+-- what is answered, and the output afterwards, where it was l
+abbrev pub Answers : Profile → Sheet → List ℕ → WriteAnswer → List ℕ → Type 0
+Answers p s l r out = (r ≡ writeAnswer p (cutsOf s) (length l)) × (out ≡ output p (cutsOf s) l)
+
+-- the first refusal of the entries, or 0
+abbrev pub entriesRefusal : Profile → Sheet → ℕ
+entriesRefusal p s = firstNonzero (λ j. malformed (p .days) (getD (s .entries) j blank .cut)) (s .count)
+
+-- no check before the output's length refuses
+pub record Checked (p : Profile) (s : Sheet) : Type 0 where
+  pub few : s .count ≤ 512
+  pub profile : Opening.earlier p ≡ 0
+  pub formed : entriesRefusal p s ≡ 0
+
+-- ---- refused
+
+by-cuts : (p : Profile) (s : Sheet) → s .count ≤ 512 → Opening.earlier p ≡ 0 → earlier p (cutsOf s) ≡ entriesRefusal p s
+unfolding earlier
+by-cuts p s few o =
+    rw (length-cutsOf s, le-ltb 512 (s .count) few, o)
+    (nonzero-same (λ j. malformed (p .days) (cutOn (cutsOf s) j)) (λ j. malformed (p .days) (getD (s .entries) j blank .cut)) (s .count)
+    (λ j h. ap (malformed (p .days)) (cutOn-cutsOf s j h)))
+
+module _ (p : Profile) (s : Sheet) (l : List ℕ) where
+  refused : (number : ℕ) {r : WriteAnswer} → refusal p (cutsOf s) (length l) ≡ number → (number ≡ 0 → ⊥) → r ≡ record { refusal = number; length = 0 } → Answers p s l r l
+  unfolding writeAnswer output
+  refused number e x a = (rw (e, ne-eqb number 0 x) a, rw (e, ne-eqb number 0 x) refl)
+
+  early : {number : ℕ} {r : WriteAnswer} → number ≡ earlier p (cutsOf s) → (number ≡ 0 → ⊥) → r ≡ record { refusal = number; length = 0 } → Answers p s l r l
+  unfolding refusal
+  early {number} e x a = refused number (rw (← e, ne-eqb number 0 x) refl) x a
+
+  pub too-many : {r : WriteAnswer} → 512 < s .count → r ≡ record { refusal = 1; length = 0 } → Answers p s l r l
+  unfolding earlier
+  too-many h a = early (rw (length-cutsOf s, lt-ltb 512 (s .count) h) refl) (λ z. omega arith) a
+
+  module _ (few : s .count ≤ 512) {number : ℕ} {r : WriteAnswer} (x : number ≡ 0 → ⊥) (a : r ≡ record { refusal = number; length = 0 }) where
+    pub bad-profile : number ≡ Opening.earlier p → Answers p s l r l
+    unfolding earlier
+    bad-profile e = early (rw (length-cutsOf s, le-ltb 512 (s .count) few, ← e, ne-eqb number 0 x) refl) x a
+
+    pub bad-cut : Opening.earlier p ≡ 0 → number ≡ entriesRefusal p s → Answers p s l r l
+    bad-cut o e = early (e ∙ sym (by-cuts p s few o)) x a
+
+  pub too-short : {r : WriteAnswer} → Checked p s → length l < fileLength (p .days) (s .count) → r ≡ record { refusal = 2; length = 0 } → Answers p s l r l
+  unfolding refusal
+  too-short c h a =
+      refused 2 (rw (by-cuts p s (c .few) (c .profile), c .formed, length-cutsOf s, lt-ltb (length l) (fileLength (p .days) (s .count)) h) refl) (λ z. omega arith) a
+
+-- ---- written
+
+module _ (p : Profile) (s : Sheet) (c : Checked p s) where
+  -- each entry's day fits its field
+  pub entry-day : (j : ℕ) → j < s .count → dayOf (getD (s .entries) j blank .cut) < 65536
+  entry-day j h =
+      let z = entered p (c .profile) .sized in
+      omega (arith, formed-day (p .days) (getD (s .entries) j blank .cut) (nonzero-none (λ i. malformed (p .days) (getD (s .entries) i blank .cut)) (s .count) (c .formed) j h) (z .some), z .few)
+
+  module _ (l : List ℕ) (h : fileLength (p .days) (s .count) ≤ length l) where
+    accepted : refusal p (cutsOf s) (length l) ≡ 0
+    unfolding refusal
+    accepted = rw (by-cuts p s (c .few) (c .profile), c .formed, length-cutsOf s, le-ltb (length l) (fileLength (p .days) (s .count)) h) refl
+
+    -- the three parts of the file, stored one after another
+    whole : {a b out : List ℕ} → a ≡ sets l 0 (header (p .days) (s .count) (p .lowest) (p .highest)) → b ≡ sets a 16 (rows (dayRow p) (p .days))
+        → out ≡ sets b (dayOffset (p .days)) (rows (λ j. cutBytes (getD (s .entries) j blank .cut)) (s .count)) → out ≡ sets l 0 (file p (cutsOf s))
+    unfolding file
+    whole e f g =
+        let cuts = rows-same (λ j. cutBytes (cutOn (cutsOf s) j)) (λ j. cutBytes (getD (s .entries) j blank .cut)) (s .count) (λ j u. ap cutBytes (cutOn-cutsOf s j u)) in
+        let head = header (p .days) (s .count) (p .lowest) (p .highest) in
+        let days = rows (dayRow p) (p .days) in
+        let top = header-length (p .days) (s .count) (p .lowest) (p .highest) in
+        let rest = length-rows (dayRow p) 6 (p .days) (λ k u. day-length (on (p .floors) k) (on (p .ceilings) k) (on (p .rises) k)) in
+        let two : length (head ++ days) ≡ dayOffset (p .days) = omega (arith, length-append head days, top, rest) in
+        let z : 0 + dayOffset (p .days) ≡ dayOffset (p .days) = omega arith in
+        rw (length-cutsOf s, cuts)
+        (stored-after l 0 (dayOffset (p .days)) (head ++ days) (rows (λ j. cutBytes (getD (s .entries) j blank .cut)) (s .count)) two
+        (stored-after l 0 16 head days top e f) (rw z g))
+
+    pub written : {a b out : List ℕ} → a ≡ sets l 0 (header (p .days) (s .count) (p .lowest) (p .highest)) → b ≡ sets a 16 (rows (dayRow p) (p .days))
+        → out ≡ sets b (dayOffset (p .days)) (rows (λ j. cutBytes (getD (s .entries) j blank .cut)) (s .count)) → Answers p s l (record { refusal = 0; length = fileLength (p .days) (s .count) }) out
+    unfolding writeAnswer output
+    written e f g =
+        (rw (accepted, length-cutsOf s) refl, rw accepted (whole e f g ∙ front-sets (file p (cutsOf s)) l (omega (arith, length-file p (cutsOf s), length-cutsOf s))))

@@ -1,0 +1,58 @@
+use Prim.Native.Nat.{_-_}
+use mathlib.Core.Path.{sym, _∙_}
+use lib.ListN.{getD}
+use Rattle.series.specs.First.{ZeroBelow, zero-none, zero-more, zero-here, zero-all}
+use Rattle.cuts.specs.Sheet.{blank}
+use Rattle.cutting.specs.Cutting.{malformed}
+use borrow.Author.Needs.{needs}
+use Rattle.file_writer.proofs.entries_refusal.Statement.{statement}
+use Rattle.file_writer.proofs.entries_refusal.Tie as tie
+
+abbrev Inv-loop : tie.InvT-loop
+Inv-loop count days entries j₀ j = ZeroBelow (λ k. malformed days (getD entries k blank .cut)) count j
+
+abbrev μ-loop : tie.MeasureT-loop
+μ-loop count days entries j₀ j = count - j
+
+loop-holds : tie.Need-loop-holds Inv-loop μ-loop
+loop-holds c = zero-none
+
+mul-entry-refusal : tie.Need-mul-entry-refusal Inv-loop μ-loop
+mul-entry-refusal c = search needs
+
+array-copy-out-entry-refusal : tie.Need-array-copy-out-entry-refusal Inv-loop μ-loop
+array-copy-out-entry-refusal c = search needs
+
+entry-refusal-requires : tie.Need-entry-refusal-requires Inv-loop μ-loop
+entry-refusal-requires c κs = search needs
+
+returns : tie.Need-returns Inv-loop μ-loop
+returns c = let e = c .before .entry-refusal .ensures in e ∙ zero-here (c .before .before .before .before .loop .inv) (c .before .before .before .loop-test .taken) (λ h. c .if1 .taken (e ∙ h))
+
+add-j : tie.Need-add-j Inv-loop μ-loop
+add-j c = search needs
+
+loop-less : tie.Need-loop-less Inv-loop μ-loop
+loop-less c = search needs
+
+loop-again : tie.Need-loop-again Inv-loop μ-loop
+loop-again c = zero-more (c .before .before .before .before .loop .inv) (c .before .before .before .loop-test .taken) (sym (c .before .entry-refusal .ensures) ∙ c .if1 .left)
+
+returns-2 : tie.Need-returns-2 Inv-loop μ-loop
+returns-2 c = zero-all (c .before .loop .inv) (c .loop-test .left)
+
+pub entries-refusal-spec : {M : Type 1} → statement M
+entries-refusal-spec =
+    tie.close
+    (tie.spec
+    Inv-loop
+    μ-loop
+    loop-holds
+    mul-entry-refusal
+    array-copy-out-entry-refusal
+    entry-refusal-requires
+    returns
+    add-j
+    loop-less
+    loop-again
+    returns-2)

@@ -1,0 +1,50 @@
+use mathlib.Core.List.{_++_}
+use mathlib.Core.Path.{refl}
+use mir.Facts.{toZ-ofZ}
+use Rattle.little_endian.specs.Fields.{u16Bytes, i16Bytes}
+use Rattle.profile_file.specs.Format.{dayBytes}
+use Rattle.file_writer.proofs.Laws.{stored-after}
+use borrow.Author.Needs.{needs}
+use Rattle.file_writer.proofs.put_day.Statement.{statement}
+use Rattle.file_writer.proofs.put_day.Tie as tie
+
+put-i16-requires : tie.Need-put-i16-requires
+put-i16-requires c κs = search needs
+
+add-put-i16 : tie.Need-add-put-i16
+add-put-i16 c = search needs
+
+put-i16-requires-2 : tie.Need-put-i16-requires-2
+put-i16-requires-2 c κs = search needs
+
+add-put-i16-2 : tie.Need-add-put-i16-2
+add-put-i16-2 c = search needs
+
+put-i16-requires-3 : tie.Need-put-i16-requires-3
+put-i16-requires-3 c κs = search needs
+
+same-length : tie.Need-same-length
+same-length c = search needs
+
+returns : tie.Need-returns
+unfolding dayBytes i16Bytes u16Bytes
+returns c =
+    let s = c .before .before .before .before .before .before .before .before .before .before .before .before .before in
+    let l = s .args .out .now in
+    let floor = i16Bytes (s .args .floor) in
+    let ceiling = i16Bytes (s .args .ceiling) in
+    stored-after l (s .args .at) 4 (floor ++ ceiling) (i16Bytes (s .args .rise)) refl
+    (stored-after l (s .args .at) 2 floor ceiling refl (rw (toZ-ofZ (s .fits .floor)) at (c .before .before .before .before .before .before .before .before .before .before .put-i16 .ensures)) (rw (toZ-ofZ (s .fits .ceiling)) at (c .before .before .before .before .before .before .put-i162 .ensures)))
+    (rw (toZ-ofZ (s .fits .rise)) at (c .before .before .put-i163 .ensures))
+
+pub put-day-spec : {M : Type 1} → statement M
+put-day-spec =
+    tie.close
+    (tie.spec
+    put-i16-requires
+    add-put-i16
+    put-i16-requires-2
+    add-put-i16-2
+    put-i16-requires-3
+    same-length
+    returns)

@@ -1,0 +1,53 @@
+use mathlib.Core.List.{_++_}
+use mathlib.Core.Path.{refl}
+use mir.Facts.{toZ-ofZ}
+use Rattle.little_endian.specs.Fields.{u16Bytes, i32Bytes}
+use Rattle.file_writer.proofs.Laws.{stored-after}
+use borrow.Author.Needs.{needs}
+use Rattle.file_writer.proofs.put_fields.Statement.{statement}
+use Rattle.file_writer.proofs.put_fields.Tie as tie
+
+put-u16-requires : tie.Need-put-u16-requires
+put-u16-requires c κs = search needs
+
+add-put-u16 : tie.Need-add-put-u16
+add-put-u16 c = search needs
+
+cast-put-u16 : tie.Need-cast-put-u16
+cast-put-u16 c = search needs
+
+put-u16-requires-2 : tie.Need-put-u16-requires-2
+put-u16-requires-2 c κs = search needs
+
+add-put-i32 : tie.Need-add-put-i32
+add-put-i32 c = search needs
+
+put-i32-requires : tie.Need-put-i32-requires
+put-i32-requires c κs = search needs
+
+same-length : tie.Need-same-length
+same-length c = search needs
+
+returns : tie.Need-returns
+unfolding u16Bytes
+returns c =
+    let s = c .before .before .before .before .before .before .before .before .before .before .before .before .before in
+    let l = s .args .out .now in
+    let kind = u16Bytes (s .args .kind) in
+    let day = u16Bytes (s .args .day) in
+    stored-after l (s .args .at) 4 (kind ++ day) (i32Bytes (s .args .value)) refl
+    (stored-after l (s .args .at) 2 kind day refl (c .before .before .before .before .before .before .before .before .before .before .put-u16 .ensures) (c .before .before .before .before .before .before .put-u162 .ensures))
+    (rw (toZ-ofZ (s .fits .value)) at (c .before .before .put-i32 .ensures))
+
+pub put-fields-spec : {M : Type 1} → statement M
+put-fields-spec =
+    tie.close
+    (tie.spec
+    put-u16-requires
+    add-put-u16
+    cast-put-u16
+    put-u16-requires-2
+    add-put-i32
+    put-i32-requires
+    same-length
+    returns)

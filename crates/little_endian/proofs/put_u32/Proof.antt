@@ -1,0 +1,46 @@
+use mathlib.Core.Path.{ap, _∙_}
+use lib.Seq.{sets}
+use Prim.Native.Nat.{_+_, _%_, _/_}
+use Rattle.little_endian.specs.Fields.{u16Bytes, u32Bytes}
+use Rattle.series.specs.Rows.{sets-append}
+use borrow.Author.Needs.{needs}
+use Rattle.little_endian.proofs.put_u32.Statement.{statement}
+use Rattle.little_endian.proofs.put_u32.Tie as tie
+
+cast-put-u16 : tie.Need-cast-put-u16
+cast-put-u16 c = search needs
+
+put-u16-requires : tie.Need-put-u16-requires
+put-u16-requires c κs = search needs
+
+add-put-u16 : tie.Need-add-put-u16
+add-put-u16 c = search needs
+
+cast-put-u16-2 : tie.Need-cast-put-u16-2
+cast-put-u16-2 c = search needs
+
+put-u16-requires-2 : tie.Need-put-u16-requires-2
+put-u16-requires-2 c κs = search needs
+
+same-length : tie.Need-same-length
+same-length c = search needs
+
+returns : tie.Need-returns
+unfolding u16Bytes u32Bytes
+returns c =
+    let s = c .before .before .before .before .before .before .before .before .before .args in
+    c .before .before .put-u162 .ensures
+    ∙ ap (λ l. sets l (s .at + 2) (u16Bytes (s .x / 65536))) (c .before .before .before .before .before .before .put-u16 .ensures)
+    ∙ sets-append (u16Bytes (s .x % 65536)) (u16Bytes (s .x / 65536)) (s .out .now) (s .at)
+
+pub put-u32-spec : {M : Type 1} → statement M
+put-u32-spec =
+    tie.close
+    (tie.spec
+    cast-put-u16
+    put-u16-requires
+    add-put-u16
+    cast-put-u16-2
+    put-u16-requires-2
+    same-length
+    returns)

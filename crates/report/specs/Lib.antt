@@ -1,0 +1,4 @@
+pub mod Printing
+pub mod Stages
+pub mod Laws
+pub mod Longer

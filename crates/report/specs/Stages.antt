@@ -1,0 +1,9 @@
+-- Whether a stage has refused. A reader may pass this page over.
+use mathlib.Core.Bool.{cond}
+use Prim.Native.Nat.{ℕ}
+use lib.Dec.{eqb}
+use Rattle.report.specs.declared.Stage.{Stage}
+use Rattle.report.specs.declared.Stage.the-variants.{Passed, Refused}
+
+abbrev pub stageOf : ℕ → Stage
+stageOf refusal = cond (eqb refusal 0) Passed Refused

@@ -1,0 +1,22 @@
+-- A list with others at its front.
+use Prim.Native.Nat.{ℕ, _+_, _-_, _≤_, _<_}
+use mathlib.Core.Path.{_≡_, _∙_}
+use mathlib.Core.List.{List, _++_}
+use native.Mathlib.Omega.{arith}
+use lib.ListN.{length, drop, getD, List·getD-append}
+use lib.Seq.{getD-append-add, getD-drop}
+
+-- a list with xs written at its front, and its rest as before
+unfoldable pub inFront : {A : Type 0} → List A → List A → List A
+inFront xs l = xs ++ drop (length xs) l
+
+module _ {A : Type 0} (xs l : List A) (i : ℕ) (d : A) where
+  pub front-at : i < length xs → getD (inFront xs l) i d ≡ getD xs i d
+  unfolding inFront
+  front-at h = List·getD-append xs (drop (length xs) l) d i h
+
+  pub front-past : length xs ≤ i → getD (inFront xs l) i d ≡ getD l i d
+  unfolding inFront
+  front-past h =
+      let e : length xs + (i - length xs) ≡ i = omega arith in
+      rw e at (getD-append-add xs (drop (length xs) l) (i - length xs) d ∙ getD-drop (length xs) l (i - length xs) d)
