@@ -1,6 +1,6 @@
+-- `report::open_read` meets its contract: the parts that are lent are as long as they say. Assumes nothing.
 use Prim.Native.Nat.{_-_}
 use mir.Facts.{toZ-ofZ}
--- `report::open_read` meets its contract: the parts that are lent are as long as they say. Assumes nothing.
 use mathlib.Core.Path.{sym}
 use lib.Seq.{length-take-le}
 use borrow.Author.Needs.{needs}

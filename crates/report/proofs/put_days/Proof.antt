@@ -1,7 +1,7 @@
+-- `report::put_days` meets its contract: the loop of `Stored`. The measure is the days left. Assumes nothing.
 use mir.Syntax.{w16}
 use mir.Facts.{toZ-ofZ}
 use borrow.Author.Needs.{sfits-of}
--- `report::put_days` meets its contract: the loop of `Stored`. The measure is the days left. Assumes nothing.
 use Prim.Native.Nat.{_-_}
 use Rattle.levels.specs.Code.{on}
 use Rattle.report.specs.Printing.{dayLine}

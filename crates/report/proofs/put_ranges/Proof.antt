@@ -1,3 +1,4 @@
+-- `report::put_ranges` meets its contract: the total's line, then the days' lines, by what is shown. Assumes nothing.
 use Prim.Native.Nat.{ℕ}
 use mathlib.Core.Path.{_≡_, _∙_}
 use mathlib.Core.List.{List}
@@ -13,7 +14,6 @@ use Rattle.session.specs.declared.Session.{Session}
 use Rattle.report.specs.Printing.{dayLine, totalLine, rangesText}
 use Rattle.report.specs.Laws.{ranges-parts, total-line, day-line, ranges-fit}
 use Rattle.report.proofs.Laws.{Left, left-all, left-more, left-none}
--- `report::put_ranges` meets its contract: the total's line, then the days' lines, by what is shown. Assumes nothing.
 use lib.IntN.{pos}
 use lib.ListN.{length-replicate}
 use Rattle.report.proofs.Laws.{Showed, showed}
