@@ -9,21 +9,12 @@ use lib.Dec.{eqb}
 use lib.ListN.{length, take, set}
 use Rattle.series.specs.Sum.{at}
 use Rattle.series.specs.First.{firstWhere}
-use Rattle.little_endian.specs.Fields.{u16At}
+use Rattle.little_endian.specs.Fields.{u16At, i16At}
 use Rattle.cuts.specs.Told.{told}
+use Rattle.profile_file.specs.Example.{doc01}
 use Rattle.profile_file.specs.Reading.{earlier}
 
 -- ---- the files
-
--- document 01's example
-abbrev pub doc01 : List ℕ
-doc01 =
-    3 ∷ 0 ∷ 2 ∷ 0 ∷ 16 ∷ 0 ∷ 34 ∷ 0 ∷ 10 ∷ 0 ∷ 0 ∷ 0 ∷ 12 ∷ 0 ∷ 0 ∷ 0
-    ∷ 2 ∷ 0 ∷ 6 ∷ 0 ∷ 0 ∷ 0
-    ∷ 4 ∷ 0 ∷ 7 ∷ 0 ∷ 0 ∷ 0
-    ∷ 4 ∷ 0 ∷ 7 ∷ 0 ∷ 0 ∷ 0
-    ∷ 0 ∷ 0 ∷ 0 ∷ 0 ∷ 3 ∷ 0 ∷ 0 ∷ 0
-    ∷ 3 ∷ 0 ∷ 0 ∷ 0 ∷ 11 ∷ 0 ∷ 0 ∷ 0 ∷ []
 
 -- examples/too_warm.profile
 abbrev pub tooWarm : List ℕ
@@ -102,43 +93,44 @@ two-parts b i m n p q = sum-parts (byteChanges b) i m n ∙ rw (p, q) refl
 -- ---- by computation; the changes part by part, which takes less memory
 
 pub doc01-truncated : truncations doc01 ≡ tally 0 0 50 0
-unfolding sum judged earlier u16At told firstWhere
+unfolding doc01 sum judged earlier u16At i16At told firstWhere
 doc01-truncated = refl
 
 doc01-header : changes doc01 0 16 ≡ tally 2040 509 1531 0
-unfolding sum judged earlier u16At told firstWhere
+unfolding doc01 sum judged earlier u16At i16At told firstWhere
 doc01-header = refl
 
 doc01-days : changes doc01 16 18 ≡ tally 4080 0 0 510
-unfolding sum judged earlier u16At told firstWhere
+unfolding doc01 sum judged earlier u16At i16At told firstWhere
 doc01-days = refl
 
 doc01-cuts : changes doc01 34 16 ≡ tally 2556 0 0 1524
-unfolding sum judged earlier u16At told firstWhere
+unfolding doc01 sum judged earlier u16At i16At told firstWhere
 doc01-cuts = refl
 
 pub doc01-changed : changes doc01 0 (length doc01) ≡ tally 8676 509 1531 2034
+unfolding doc01
 doc01-changed = two-parts doc01 0 34 16 (two-parts doc01 0 16 18 doc01-header doc01-days) doc01-cuts
 
 pub too-warm-truncated : truncations tooWarm ≡ tally 0 0 76 0
-unfolding sum judged earlier u16At told firstWhere
+unfolding sum judged earlier u16At i16At told firstWhere
 too-warm-truncated = refl
 
 too-warm-header : changes tooWarm 0 16 ≡ tally 2040 508 1532 0
-unfolding sum judged earlier u16At told firstWhere
+unfolding sum judged earlier u16At i16At told firstWhere
 too-warm-header = refl
 
 -- days 0 to 2, 3 to 5, 6 to 9
 too-warm-first : changes tooWarm 16 18 ≡ tally 4590 0 0 0
-unfolding sum judged earlier u16At told firstWhere
+unfolding sum judged earlier u16At i16At told firstWhere
 too-warm-first = refl
 
 too-warm-next : changes tooWarm 34 18 ≡ tally 4590 0 0 0
-unfolding sum judged earlier u16At told firstWhere
+unfolding sum judged earlier u16At i16At told firstWhere
 too-warm-next = refl
 
 too-warm-last : changes tooWarm 52 24 ≡ tally 5610 0 0 510
-unfolding sum judged earlier u16At told firstWhere
+unfolding sum judged earlier u16At i16At told firstWhere
 too-warm-last = refl
 
 pub too-warm-changed : changes tooWarm 0 (length tooWarm) ≡ tally 16830 508 1532 510

@@ -14,6 +14,7 @@ use Rattle.series.specs.First.{firstWhere}
 use Rattle.series.specs.Checks.{cond-zero}
 use Rattle.series.specs.Lent.{lentList, list-left, list-filled}
 use Rattle.little_endian.specs.Fields.{u16At}
+use Rattle.little_endian.specs.Laws.{zero-field}
 use Rattle.profile_file.specs.Format.{dayOffset, fileLength, dayCount, cutCount, daysOffset, cutsOffset, floorAt, ceilingAt, riseAt, toldAt}
 use Rattle.profile_file.specs.Reading.{badCounts, badLayout, badFields, badCut, earlier, refusal}
 use Rattle.profile_file.specs.Taken.{counted, laid}
@@ -81,10 +82,10 @@ module _ (b : List ℕ) {n : ℕ} (en : n ≡ dayCount b) where
     last-rise = let q : dayOffset n - 2 ≡ dayOffset (n - 1) + 4 = omega arith in rw q at er
 
     pub rise-left : (r ≡ 0 → ⊥) → 12 ≡ fields b
-    rise-left h = rw (← en, ← last-rise, ne-eqb r 0 h)
+    rise-left h = rw (← en, zero-field b (dayOffset (n - 1) + 4), ← last-rise, ne-eqb r 0 h)
 
     pub fields-taken : r ≡ 0 → {m f : ℕ} → m ≡ cutCount b → f ≡ firstWhere (λ j. badCut (toldAt b (dayOffset n + j * 8))) m → m ≤ f → 0 ≡ fields b
-    fields-taken hr {m} {f} em ef h = rw (← en, ← em, ← ef, ← last-rise, eq-eqb r 0 hr, le-ltb f m h)
+    fields-taken hr {m} {f} em ef h = rw (← en, ← em, ← ef, zero-field b (dayOffset (n - 1) + 4), ← last-rise, eq-eqb r 0 hr, le-ltb f m h)
 
 -- ---- file_refusal
 

@@ -71,21 +71,25 @@ pub after-append : (s : Session) (xs ys : List Handed) → after s (xs ++ ys) �
 after-append s [] ys = refl
 after-append s (h ∷ hs) ys = after-append (afterTold s (h .told) (h .room) .session) hs ys
 
-module _ (f : ℕ → Cut) where
-  -- the first m cuts, as they are handed over
-  abbrev pub handed : ℕ → List Handed
-  handed m = rows (λ j. record { told = Known (f j); room = 512 } ∷ []) m
+-- a cut of a file as it is handed over
+abbrev pub hand : Cut → Handed
+hand c = record { told = Known c; room = 512 }
 
-  pub mem-handed : (m j : ℕ) → j < m → List·Memᴰ (record { told = Known (f j); room = 512 }) (handed m)
+module _ (f : ℕ → Cut) where
+  -- the first m cuts
+  abbrev pub handed : ℕ → List Handed
+  handed m = rows (λ j. hand (f j) ∷ []) m
+
+  pub mem-handed : (m j : ℕ) → j < m → List·Memᴰ (hand (f j)) (handed m)
   unfolding rows
   mem-handed zero j h = absurd (omega arith)
   mem-handed (suc m) j h = go (decLt j m) (mem-handed m j)
     where
-      go : Dec (j < m) → (j < m → List·Memᴰ (record { told = Known (f j); room = 512 }) (handed m)) → List·Memᴰ (record { told = Known (f j); room = 512 }) (handed (suc m))
+      go : Dec (j < m) → (j < m → List·Memᴰ (hand (f j)) (handed m)) → List·Memᴰ (hand (f j)) (handed (suc m))
       go (yes l) ih = Memᴰ·append-left _ (ih l)
-      go (no l) ih = let e : j ≡ m = omega arith in Memᴰ·append-right (handed m) (List·Memᴰ·head (ap (λ k. record { told = Known (f k); room = 512 }) e))
+      go (no l) ih = let e : j ≡ m = omega arith in Memᴰ·append-right (handed m) (List·Memᴰ·head (ap (λ k. hand (f k)) e))
 
-  pub handed-mem : (m : ℕ) (h : Handed) → List·Memᴰ h (handed m) → (j : ℕ) × (j < m) × (h ≡ record { told = Known (f j); room = 512 })
+  pub handed-mem : (m : ℕ) (h : Handed) → List·Memᴰ h (handed m) → (j : ℕ) × (j < m) × (h ≡ hand (f j))
   unfolding rows
   handed-mem zero h q = absurd (List·Memᴰ·not-nil q)
   handed-mem (suc m) h q =
@@ -101,7 +105,7 @@ module _ (f : ℕ → Cut) where
     -- the session after one cut more
     pub after-more : (m : ℕ) → Reached m → after (opened p .session) (handed (suc m)) ≡ afterCut (cutAll (opened p) f m .session) (f m) 512 .session
     unfolding rows afterTold
-    after-more m w = after-append (opened p .session) (handed m) (record { told = Known (f m); room = 512 } ∷ []) ∙ rw (sym (w .session)) refl
+    after-more m w = after-append (opened p .session) (handed m) (hand (f m) ∷ []) ∙ rw (sym (w .session)) refl
 
     one-more : (m : ℕ) → Reached m → cutAll (opened p) f m .refusal ≡ 0 → afterCut (cutAll (opened p) f m .session) (f m) 512 .answer .refusal ≡ 0 → Reached (suc m)
     unfolding cutAll

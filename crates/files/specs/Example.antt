@@ -1,4 +1,4 @@
--- Document 01's example: the file, and what is printed for it.
+-- What is printed for document 01's example.
 use mathlib.Core.Path.{_≡_, refl}
 use mathlib.Core.List.{List, [], _∷_, _++_}
 use Prim.Native.Nat.{ℕ}
@@ -15,19 +15,11 @@ use Rattle.session.specs.Opening.{opened, earlier as earlierOpening}
 use Rattle.cuts.specs.Told.{told}
 use Rattle.changes.specs.Changes.{daysWhere}
 use Rattle.cutting.specs.Cutting.{afterCut, earlier as earlierCut, clipped}
+use Rattle.profile_file.specs.Example.{doc01}
 use Rattle.profile_file.specs.Format.{profileIn, cutsIn}
 use Rattle.profile_file.specs.Reading.{earlier}
 use Rattle.text.specs.Numbers.{number, decimal, digits}
 use Rattle.report.specs.Printing.{cutOnce, cutAll, fileOpened, totalLine, dayLine, refusedLine, rangesText, answerText, printed}
-
-header : List ℕ
-header = 3 ∷ 0 ∷ 2 ∷ 0 ∷ 16 ∷ 0 ∷ 34 ∷ 0 ∷ 10 ∷ 0 ∷ 0 ∷ 0 ∷ 12 ∷ 0 ∷ 0 ∷ 0 ∷ []
-
-days : List ℕ
-days = 2 ∷ 0 ∷ 6 ∷ 0 ∷ 0 ∷ 0 ∷ 4 ∷ 0 ∷ 7 ∷ 0 ∷ 0 ∷ 0 ∷ 4 ∷ 0 ∷ 7 ∷ 0 ∷ 0 ∷ 0 ∷ []
-
-cuts : List ℕ
-cuts = 0 ∷ 0 ∷ 0 ∷ 0 ∷ 3 ∷ 0 ∷ 0 ∷ 0 ∷ 3 ∷ 0 ∷ 0 ∷ 0 ∷ 11 ∷ 0 ∷ 0 ∷ 0 ∷ []
 
 -- total 11 11, day 0 3 3, day 1 4 4, day 2 4 4
 lines : List ℕ
@@ -37,6 +29,6 @@ lines =
     ++ (100 ∷ 97 ∷ 121 ∷ 32 ∷ 49 ∷ 32 ∷ 52 ∷ 32 ∷ 52 ∷ 10 ∷ [])
     ++ (100 ∷ 97 ∷ 121 ∷ 32 ∷ 50 ∷ 32 ∷ 52 ∷ 32 ∷ 52 ∷ 10 ∷ [])
 
-example : printed (header ++ days ++ cuts) ≡ lines
-unfolding header days cuts lines printed answerText rangesText totalLine dayLine refusedLine number decimal digits rows fileOpened cutAll cutOnce profileIn cutsIn listOf earlier u16At u32At i16At i32At told opened earlierOpening tightened tightCeilings tightFloors raised loweredFrom firstWhere carried written sumFor fitFrom shiftFrom afterCut earlierCut clipped daysWhere
+example : printed doc01 ≡ lines
+unfolding doc01 lines printed answerText rangesText totalLine dayLine refusedLine number decimal digits rows fileOpened cutAll cutOnce profileIn cutsIn listOf earlier u16At u32At i16At i32At told opened earlierOpening tightened tightCeilings tightFloors raised loweredFrom firstWhere carried written sumFor fitFrom shiftFrom afterCut earlierCut clipped daysWhere
 example = refl

@@ -16,7 +16,6 @@ use Rattle.session.specs.Entered.{entered}
 use Rattle.session.specs.Sanity.{opened-refusal}
 use Rattle.session.specs.declared.Opened.{Opened}
 use Rattle.cuts.specs.declared.Cut.{Cut}
-use Rattle.cuts.specs.declared.Told.the-variants.{Known}
 use Rattle.cuts.specs.Sheet.{cutOn}
 use Rattle.cutting.specs.Cutting.{malformed}
 use Rattle.profile_file.specs.Format.{known, profileIn, cutsIn}
@@ -32,7 +31,7 @@ use Rattle.demands.specs.Demands.{Exact}
 use Rattle.demands.specs.Demand2.{unrefused, demand-2}
 use Rattle.demands.specs.Demand3.{demand-3}
 use Rattle.files.specs.Printing.{FileSchedule, RangesPrinted}
-use Rattle.files.specs.CutAll.{handed, mem-handed, handed-mem, reached, eight-at, else-eight}
+use Rattle.files.specs.CutAll.{hand, handed, mem-handed, handed-mem, reached, eight-at, else-eight}
 
 spans-same : {S T : List ℤ → Type 0} {f : List ℤ → ℤ} {lo hi : ℤ} → ((x : List ℤ) → T x → S x) → ((x : List ℤ) → S x → T x) → Spans S f lo hi → Spans T f lo hi
 spans-same of to s = record { some = s .some; inside = λ x t. s .inside x (of x t); taken = λ v l u. let w = s .taken v l u in (w .0, to (w .0) (w .1), w .2) }
@@ -64,7 +63,7 @@ module _ (b : List ℕ) where
         schedule = k .schedule;
         keeps = λ j h.
             k .keeps (f j) (record {
-              handed = record { told = Known (f j); room = 512 };
+              handed = hand (f j);
               member = mem-handed f m j h;
               valid = record { known = refl; formed = well-formed p (f j) .0 (formed j h); roomy = few };
             });

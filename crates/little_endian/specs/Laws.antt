@@ -1,12 +1,15 @@
 -- Fields and their bytes: what was stored is read, and what is read has those bytes.
-use Prim.Native.Nat.{ℕ, zero, suc, _+_, _/_, _%_, _<_}
+use Prim.Native.Nat.{ℕ, zero, suc, _+_, _-_, _/_, _%_, _<_}
 use mathlib.Core.Path.{_≡_, refl}
 use mathlib.Core.List.{List, [], _∷_}
 use native.Mathlib.Omega.{arith}
-use lib.IntN.{ℤ, pos}
+use native.Mathlib.Decide.{decLt}
+use lib.IntN.{ℤ, pos, natAbs}
+use lib.Dec.{eqb}
 use lib.ListN.{length}
+use borrow.Author.Tests.{lt-ltb, le-ltb, ne-eqb}
 use mir.Syntax.{w16, w32}
-use mir.Val.{SFits, ofZ}
+use mir.Val.{SFits, toZ, ofZ}
 use mir.Facts.{toZ-ofZ, ofZ-toZ}
 use Rattle.series.specs.Sum.{at}
 use Rattle.series.specs.Part.{Part, part-left, part-right, part-both}
@@ -27,6 +30,15 @@ i16-length z = u16-length (ofZ w16 z)
 pub i32-length : (z : ℤ) → length (i32Bytes z) ≡ 4
 unfolding i32Bytes
 i32-length z = u32-length (ofZ w32 z)
+
+-- a signed field is 0 where its bits are
+pub zero-field : (b : List ℕ) (i : ℕ) → eqb (natAbs (i16At b i)) 0 ≡ eqb (u16At b i) 0
+unfolding i16At
+zero-field b i = go (decLt (u16At b i) 32768)
+  where
+    go : Dec (u16At b i < 32768) → eqb (natAbs (toZ w16 (u16At b i))) 0 ≡ eqb (u16At b i) 0
+    go (yes h) = rw (lt-ltb (u16At b i) 32768 h) refl
+    go (no h) = rw (le-ltb (u16At b i) 32768 (omega arith), ne-eqb (u16At b i) 0 (λ z. omega arith)) (ne-eqb (suc (65536 - suc (u16At b i))) 0 (λ z. omega arith))
 
 -- ---- read back
 

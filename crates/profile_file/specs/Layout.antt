@@ -107,58 +107,42 @@ pub record CutFields (b : List ℕ) (i : ℕ) (c : Cut) : Type 0 where
   pub value : Part b (i + 4) (i32Bytes (valueOf c))
 
 module _ (n m : ℕ) (low high : ℤ) where
-  two : List ℕ
+  abbrev two : List ℕ
   two = u16Bytes n ++ u16Bytes m
 
-  three : List ℕ
+  abbrev three : List ℕ
   three = two ++ u16Bytes 16
 
-  four : List ℕ
+  abbrev four : List ℕ
   four = three ++ u16Bytes (dayOffset n)
 
-  five : List ℕ
+  abbrev five : List ℕ
   five = four ++ i32Bytes low
-
-  length-two : length two ≡ 4
-  unfolding two u16Bytes
-  length-two = refl
-
-  length-three : length three ≡ 6
-  unfolding three two u16Bytes
-  length-three = refl
-
-  length-four : length four ≡ 8
-  unfolding four three two u16Bytes
-  length-four = refl
-
-  length-five : length five ≡ 12
-  unfolding five four three two u16Bytes u32Bytes i32Bytes
-  length-five = refl
 
   module _ {b : List ℕ} where
     pub header-fields : Part b 0 (header n m low high) → Header b n m low high
-    unfolding header five four three two
+    unfolding header u16Bytes u32Bytes i32Bytes
     header-fields p =
-        let p5 : Part b 0 five = part-left five (i32Bytes high) length-five p in
-        let p4 : Part b 0 four = part-left four (i32Bytes low) length-four p5 in
-        let p3 : Part b 0 three = part-left three (u16Bytes (dayOffset n)) length-three p4 in
-        let p2 : Part b 0 two = part-left two (u16Bytes 16) length-two p3 in
+        let p5 : Part b 0 five = part-left five (i32Bytes high) refl p in
+        let p4 : Part b 0 four = part-left four (i32Bytes low) refl p5 in
+        let p3 : Part b 0 three = part-left three (u16Bytes (dayOffset n)) refl p4 in
+        let p2 : Part b 0 two = part-left two (u16Bytes 16) refl p3 in
         record {
           days = part-left (u16Bytes n) (u16Bytes m) (u16-length n) p2;
           cuts = part-right (u16Bytes n) (u16Bytes m) (u16-length n) p2;
-          daysOffset = part-right two (u16Bytes 16) length-two p3;
-          cutsOffset = part-right three (u16Bytes (dayOffset n)) length-three p4;
-          lowest = part-right four (i32Bytes low) length-four p5;
-          highest = part-right five (i32Bytes high) length-five p;
+          daysOffset = part-right two (u16Bytes 16) refl p3;
+          cutsOffset = part-right three (u16Bytes (dayOffset n)) refl p4;
+          lowest = part-right four (i32Bytes low) refl p5;
+          highest = part-right five (i32Bytes high) refl p;
         }
 
     pub header-part : Header b n m low high → Part b 0 (header n m low high)
-    unfolding header five four three two
+    unfolding header u16Bytes u32Bytes i32Bytes
     header-part h =
-        part-both five (i32Bytes high) length-five
-        (part-both four (i32Bytes low) length-four
-        (part-both three (u16Bytes (dayOffset n)) length-three
-        (part-both two (u16Bytes 16) length-two (part-both (u16Bytes n) (u16Bytes m) (u16-length n) (h .days) (h .cuts)) (h .daysOffset))
+        part-both five (i32Bytes high) refl
+        (part-both four (i32Bytes low) refl
+        (part-both three (u16Bytes (dayOffset n)) refl
+        (part-both two (u16Bytes 16) refl (part-both (u16Bytes n) (u16Bytes m) (u16-length n) (h .days) (h .cuts)) (h .daysOffset))
         (h .cutsOffset))
         (h .lowest))
         (h .highest)

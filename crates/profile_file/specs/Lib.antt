@@ -6,3 +6,4 @@ pub mod Layout
 pub mod WrittenBack
 pub mod ReadAgain
 pub mod RoundTrip
+pub mod Example

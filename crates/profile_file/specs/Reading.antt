@@ -1,16 +1,16 @@
 -- Document 01: what the file's reader refuses, in its order. It leaves values to opening and cutting.
 use mathlib.Core.Bool.{Bool, true, false, cond, not, _&&_, _||_}
 use mathlib.Core.List.{List}
-use Prim.Native.Nat.{ℕ, _+_, _-_}
+use Prim.Native.Nat.{ℕ, _-_}
+use lib.IntN.{natAbs}
 use lib.Dec.{eqb, ltb}
 use lib.ListN.{length}
 use Rattle.series.specs.First.{firstWhere}
-use Rattle.little_endian.specs.Fields.{u16At}
 use Rattle.cuts.specs.declared.Cut.{Cut}
 use Rattle.cuts.specs.declared.Cut.the-variants.{DayFloor, DayCeiling, TotalFloor, TotalCeiling}
 use Rattle.cuts.specs.declared.Told.{Told}
 use Rattle.cuts.specs.declared.Told.the-variants.{Known, Unknown}
-use Rattle.profile_file.specs.Format.{dayOffset, fileLength, dayCount, cutCount, daysOffset, cutsOffset, cutAt}
+use Rattle.profile_file.specs.Format.{dayOffset, fileLength, dayCount, cutCount, daysOffset, cutsOffset, riseAt, cutAt}
 
 -- 11: under 16 bytes
 abbrev pub noHeader : List ℕ → Bool
@@ -40,7 +40,7 @@ badCut Unknown = true
 -- 12: the last rise is not 0, or some cut is bad
 abbrev pub badFields : List ℕ → Bool
 badFields b =
-    not (eqb (u16At b (dayOffset (dayCount b - 1) + 4)) 0) || ltb (firstWhere (λ j. badCut (cutAt b j)) (cutCount b)) (cutCount b)
+    not (eqb (natAbs (riseAt b (dayCount b - 1))) 0) || ltb (firstWhere (λ j. badCut (cutAt b j)) (cutCount b)) (cutCount b)
 
 -- the first refusal of reading before 2 that applies, or 0
 unfoldable pub earlier : List ℕ → ℕ

@@ -1,17 +1,19 @@
 -- What the reader's checks before 2 let pass.
-use mathlib.Core.Path.{_≡_, refl}
+use mathlib.Core.Path.{_≡_, refl, sym, _∙_}
 use mathlib.Core.Bool.{Bool, false, not, _&&_, _||_, and-eq-true-iff}
 use mathlib.Core.List.{List}
 use Prim.Native.Nat.{ℕ, _+_, _-_, _≤_, _<_}
 use native.Mathlib.Nat.{le-refl}
 use native.Mathlib.Omega.{arith}
+use lib.IntN.{natAbs}
 use lib.Dec.{eqb, ltb}
 use lib.ListN.{length}
 use borrow.Author.Tests.{not-false, ltb-false, le-ltb, eqb-true, eqb-false, eq-eqb, ne-eqb}
 use Rattle.series.specs.Checks.{cond-zero, or-false}
 use Rattle.series.specs.First.{firstWhere, first, first-only}
 use Rattle.little_endian.specs.Fields.{u16At}
-use Rattle.profile_file.specs.Format.{dayOffset, fileLength, dayCount, cutCount, daysOffset, cutsOffset, cutAt}
+use Rattle.little_endian.specs.Laws.{zero-field}
+use Rattle.profile_file.specs.Format.{dayOffset, fileLength, dayCount, cutCount, daysOffset, cutsOffset, riseAt, cutAt}
 use Rattle.profile_file.specs.Reading.{noHeader, badCounts, badLayout, badCut, badFields, earlier}
 
 pub record Taken (b : List ℕ) : Type 0 where
@@ -52,7 +54,7 @@ taken b e =
     let counts = counted b (c2 .0) in
     let layout = laid b (c3 .0) in
     let bad : ℕ = firstWhere (λ j. badCut (cutAt b j)) (cutCount b) in
-    let fields = or-false (not (eqb (u16At b (dayOffset (dayCount b - 1) + 4)) 0)) (ltb bad (cutCount b)) (c4 .0) in
+    let fields = or-false (not (eqb (natAbs (riseAt b (dayCount b - 1))) 0)) (ltb bad (cutCount b)) (c4 .0) in
     let none : cutCount b ≤ bad = ltb-false bad (cutCount b) (fields .1) in
     let bads = first (λ j. badCut (cutAt b j)) (cutCount b) in
     record {
@@ -62,7 +64,7 @@ taken b e =
       days = layout .0;
       cuts = layout .1;
       whole = layout .2;
-      last = eqb-true _ _ (not-false _ (fields .0));
+      last = eqb-true _ _ (sym (zero-field b (dayOffset (dayCount b - 1) + 4)) ∙ not-false _ (fields .0));
       good = λ j h. bads .before j (omega (arith, none));
     }
 
@@ -79,6 +81,7 @@ not-refused b t =
       eq-eqb (daysOffset b) 16 (t .days),
       eq-eqb (cutsOffset b) (dayOffset (dayCount b)) (t .cuts),
       eq-eqb (length b) (fileLength (dayCount b) (cutCount b)) (t .whole),
+      zero-field b (dayOffset (dayCount b - 1) + 4),
       eq-eqb (u16At b (dayOffset (dayCount b - 1) + 4)) 0 (t .last),
       le-ltb bad (cutCount b) (omega (arith, none)),
     ) refl

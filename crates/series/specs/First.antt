@@ -1,14 +1,13 @@
 -- The first of the numbers below n at which a test holds.
 use Prim.Native.Nat.{ℕ, zero, suc, _+_, _≤_, _<_}
-use mathlib.Core.Path.{_≡_, refl, sym, _∙_}
-use mathlib.Core.Bool.{Bool, true, false, cond, true≢false}
+use mathlib.Core.Path.{_≡_, refl, ap, sym, _∙_}
+use mathlib.Core.Bool.{Bool, true, false, cond, not, true≢false}
 use native.Mathlib.Nat.{le-refl}
 use native.Mathlib.Omega.{arith}
 use native.Mathlib.Decide.{decLt, ℕ-discrete}
 use borrow.Author.Count.{below-none, below-more}
-use borrow.Author.Tests.{ltb-true, ltb-false, ne-eqb}
+use borrow.Author.Tests.{not-false, ltb-true, ltb-false, lt-ltb, le-ltb, eqb-true, eq-eqb, ne-eqb}
 use lib.Dec.{ltb, eqb}
-use Rattle.series.specs.Checks.{then-zero}
 
 -- the first k below n with t k, or n
 unfoldable pub firstWhere : (ℕ → Bool) → ℕ → ℕ
@@ -78,55 +77,43 @@ module _ {t : ℕ → Bool} {n : ℕ} where
 
 -- ---- the first value that is not 0
 
+abbrev pub nonzero : (ℕ → ℕ) → ℕ → Bool
+nonzero f k = not (eqb (f k) 0)
+
 -- the first of f 0, f 1, .. , n of them, that is not 0, or 0
 unfoldable pub firstNonzero : (ℕ → ℕ) → ℕ → ℕ
-firstNonzero f zero = 0
-firstNonzero f (suc n) = cond (eqb (firstNonzero f n) 0) (f n) (firstNonzero f n)
+firstNonzero f n = let r : ℕ = firstWhere (nonzero f) n in cond (ltb r n) (f r) 0
+
+pub zero-fails : (v : ℕ) → v ≡ 0 → not (eqb v 0) ≡ false
+zero-fails v h = rw (eq-eqb v 0 h) refl
 
 -- functions that agree below n
 pub nonzero-same : (f g : ℕ → ℕ) (n : ℕ) → ((k : ℕ) → k < n → f k ≡ g k) → firstNonzero f n ≡ firstNonzero g n
 unfolding firstNonzero
-nonzero-same f g zero h = refl
-nonzero-same f g (suc m) h = rw (nonzero-same f g m (λ k l. h k (omega arith)), h m (omega arith)) refl
+nonzero-same f g n h = rw (first-same (nonzero f) (nonzero g) n (λ k l. ap (λ v. not (eqb v 0)) (h k l))) (go (decLt (firstWhere (nonzero g) n) n))
+  where
+    go : Dec (firstWhere (nonzero g) n < n) → cond (ltb (firstWhere (nonzero g) n) n) (f (firstWhere (nonzero g) n)) 0 ≡ cond (ltb (firstWhere (nonzero g) n) n) (g (firstWhere (nonzero g) n)) 0
+    go (yes l) = rw (h (firstWhere (nonzero g) n) l) refl
+    go (no l) = rw (le-ltb (firstWhere (nonzero g) n) n (omega arith)) refl
 
 -- none: every value below n is 0
 pub nonzero-none : (f : ℕ → ℕ) (n : ℕ) → firstNonzero f n ≡ 0 → (k : ℕ) → k < n → f k ≡ 0
 unfolding firstNonzero
-nonzero-none f zero e k h = absurd (omega arith)
-nonzero-none f (suc m) e k h =
-    let z = then-zero (firstNonzero f m) (f m) e in
-    below-more _ m (nonzero-none f m (z .0)) (z .1) k (omega arith)
+nonzero-none f n e k h = go (decLt (firstWhere (nonzero f) n) n)
+  where
+    c : First (nonzero f) n (firstWhere (nonzero f) n)
+    c = first (nonzero f) n
 
--- ---- a loop that looks for it: every value below i is 0
+    go : Dec (firstWhere (nonzero f) n < n) → f k ≡ 0
+    go (yes l) = absurd (true≢false (sym (c .here l) ∙ zero-fails (f (firstWhere (nonzero f) n)) (rw (lt-ltb (firstWhere (nonzero f) n) n l) at e)))
+    go (no l) = eqb-true (f k) 0 (not-false (eqb (f k) 0) (c .before k (omega arith)))
 
-pub record ZeroBelow (f : ℕ → ℕ) (n i : ℕ) : Type 0 where
-  pub most : i ≤ n
-  pub before : (k : ℕ) → k < i → f k ≡ 0
-
-module _ {f : ℕ → ℕ} where
-  all-zero : (n : ℕ) → ((k : ℕ) → k < n → f k ≡ 0) → firstNonzero f n ≡ 0
+-- a loop that looks for it
+module _ (f : ℕ → ℕ) {n i : ℕ} (h : Nowhere (nonzero f) n i) where
+  pub nonzero-here : i < n → (f i ≡ 0 → ⊥) → f i ≡ firstNonzero f n
   unfolding firstNonzero
-  all-zero zero h = refl
-  all-zero (suc m) h = rw (all-zero m (λ k l. h k (omega arith)), h m (omega arith)) refl
+  nonzero-here l x = rw (← nowhere-here h l (rw (ne-eqb (f i) 0 x) refl), lt-ltb i n l) refl
 
-  past-zeros : {i : ℕ} (n : ℕ) → ((k : ℕ) → k < i → f k ≡ 0) → i < n → (f i ≡ 0 → ⊥) → firstNonzero f n ≡ f i
+  pub nonzero-all : n ≤ i → 0 ≡ firstNonzero f n
   unfolding firstNonzero
-  past-zeros zero h l x = absurd (omega arith)
-  past-zeros {i} (suc m) h l x = go (ℕ-discrete i m) (past-zeros m h)
-    where
-      go : Dec (i ≡ m) → (i < m → (f i ≡ 0 → ⊥) → firstNonzero f m ≡ f i) → cond (eqb (firstNonzero f m) 0) (f m) (firstNonzero f m) ≡ f i
-      go (yes e) ih = rw (all-zero m (λ k u. h k (omega arith)), e) refl
-      go (no e) ih = rw (ih (omega arith) x, ne-eqb (f i) 0 x) refl
-
-module _ {f : ℕ → ℕ} {n : ℕ} where
-  pub zero-none : ZeroBelow f n 0
-  zero-none = record { most = omega arith; before = below-none _ }
-
-  pub zero-more : {i : ℕ} → ZeroBelow f n i → i < n → f i ≡ 0 → ZeroBelow f n (i + 1)
-  zero-more {i} h l e = record { most = omega arith; before = below-more _ i (h .before) e }
-
-  pub zero-here : {i : ℕ} → ZeroBelow f n i → i < n → (f i ≡ 0 → ⊥) → f i ≡ firstNonzero f n
-  zero-here h l x = sym (past-zeros n (h .before) l x)
-
-  pub zero-all : {i : ℕ} → ZeroBelow f n i → n ≤ i → 0 ≡ firstNonzero f n
-  zero-all h l = sym (all-zero n (λ k u. h .before k (omega arith)))
+  nonzero-all l = rw (← nowhere-all h l, le-ltb n n (le-refl n)) refl

@@ -1,5 +1,5 @@
--- Rows one after another, a list stored from a place on, and the part of a list that begins at a place.
-use Prim.Native.Nat.{ℕ, zero, suc, _+_, _-_, _*_, _≤_, _<_}
+-- Rows one after another, and a list stored from a place on.
+use Prim.Native.Nat.{ℕ, zero, suc, _+_, _*_, _≤_, _<_}
 use mathlib.Core.Path.{_≡_, refl, ap, _∙_}
 use mathlib.Core.List.{List, [], _∷_, _++_}
 use native.Mathlib.Numerals.{add-one}
@@ -49,7 +49,7 @@ module _ {A : Type 0} where
       let e : 0 + length xs ≡ length xs = omega arith in
       rw e at (sets-eq xs l 0 (omega arith))
 
-  -- no rows stored, and one row more
+  -- one row more
   pub rows-more : (f : ℕ → List A) (l : List A) (i k : ℕ) → sets (sets l i (rows f k)) (i + length (rows f k)) (f k) ≡ sets l i (rows f (k + 1))
   rows-more f l i k = rw (rows-add f k) (sets-append (rows f k) (f k) l i)
 

@@ -1,7 +1,7 @@
 use Prim.Native.Nat.{_-_}
 use mathlib.Core.Path.{sym, _∙_}
 use lib.ListN.{getD}
-use Rattle.series.specs.First.{ZeroBelow, zero-none, zero-more, zero-here, zero-all}
+use Rattle.series.specs.First.{nonzero, zero-fails, nonzero-here, nonzero-all, Nowhere, nowhere-none, nowhere-more}
 use Rattle.cuts.specs.Sheet.{blank}
 use Rattle.cutting.specs.Cutting.{malformed}
 use borrow.Author.Needs.{needs}
@@ -9,13 +9,13 @@ use Rattle.file_writer.proofs.entries_refusal.Statement.{statement}
 use Rattle.file_writer.proofs.entries_refusal.Tie as tie
 
 abbrev Inv-loop : tie.InvT-loop
-Inv-loop count days entries j₀ j = ZeroBelow (λ k. malformed days (getD entries k blank .cut)) count j
+Inv-loop count days entries j₀ j = Nowhere (nonzero (λ k. malformed days (getD entries k blank .cut))) count j
 
 abbrev μ-loop : tie.MeasureT-loop
 μ-loop count days entries j₀ j = count - j
 
 loop-holds : tie.Need-loop-holds Inv-loop μ-loop
-loop-holds c = zero-none
+loop-holds c = nowhere-none
 
 mul-entry-refusal : tie.Need-mul-entry-refusal Inv-loop μ-loop
 mul-entry-refusal c = search needs
@@ -27,7 +27,7 @@ entry-refusal-requires : tie.Need-entry-refusal-requires Inv-loop μ-loop
 entry-refusal-requires c κs = search needs
 
 returns : tie.Need-returns Inv-loop μ-loop
-returns c = let e = c .before .entry-refusal .ensures in e ∙ zero-here (c .before .before .before .before .loop .inv) (c .before .before .before .loop-test .taken) (λ h. c .if1 .taken (e ∙ h))
+returns c = let e = c .before .entry-refusal .ensures in e ∙ nonzero-here _ (c .before .before .before .before .loop .inv) (c .before .before .before .loop-test .taken) (λ h. c .if1 .taken (e ∙ h))
 
 add-j : tie.Need-add-j Inv-loop μ-loop
 add-j c = search needs
@@ -36,10 +36,10 @@ loop-less : tie.Need-loop-less Inv-loop μ-loop
 loop-less c = search needs
 
 loop-again : tie.Need-loop-again Inv-loop μ-loop
-loop-again c = zero-more (c .before .before .before .before .loop .inv) (c .before .before .before .loop-test .taken) (sym (c .before .entry-refusal .ensures) ∙ c .if1 .left)
+loop-again c = nowhere-more (c .before .before .before .before .loop .inv) (c .before .before .before .loop-test .taken) (zero-fails _ (sym (c .before .entry-refusal .ensures) ∙ c .if1 .left))
 
 returns-2 : tie.Need-returns-2 Inv-loop μ-loop
-returns-2 c = zero-all (c .before .loop .inv) (c .loop-test .left)
+returns-2 c = nonzero-all _ (c .before .loop .inv) (c .loop-test .left)
 
 pub entries-refusal-spec : {M : Type 1} → statement M
 entries-refusal-spec =
