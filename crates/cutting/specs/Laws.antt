@@ -6,8 +6,8 @@ use Prim.Native.Nat.{ℕ, suc, _≤_, _<_, min, max}
 use native.Mathlib.Omega.{arith}
 use lib.IntN.{ℤ}
 use lib.Dec.{eqb, ltb}
-use lib.ListN.{length-set}
-use borrow.Author.Tests.{eqb-true, eqb-false, eq-eqb, ne-eqb, ltb-true}
+use lib.ListN.{length, length-set}
+use borrow.Author.Tests.{eqb-true, eqb-false, eq-eqb, ne-eqb, ltb-true, ltb-false}
 use Rattle.series.specs.Sum.{at}
 use Rattle.series.specs.Written.{by-cell}
 use Rattle.levels.specs.Code.{lowestPoint, highestPoint, lowestTotal, highestTotal, within, code}
@@ -23,6 +23,7 @@ use Rattle.cuts.specs.declared.Told.{Told}
 use Rattle.cuts.specs.declared.Told.the-variants.{Known, Unknown}
 use Rattle.cuts.specs.Sheet.{dayOf}
 use Rattle.series.specs.Front.{inFront}
+use Rattle.changes.specs.Laws.{days-few}
 use Rattle.cutting.specs.Cutting.{dayRefusal, totalRefusal, malformed, earlier, clipped, retightened, tightenedTo, refusing, changedDays, afterCut, afterTold, listAfter}
 use Rattle.cutting.specs.declared.AfterCut.{AfterCut}
 
@@ -85,6 +86,26 @@ refused-list s r l h = rw (ne-eqb (r .answer .refusal) 0 h) refl
 pub accepted-list : (s : Session) (r : AfterCut) (l : List ℕ) → r .answer .refusal ≡ 0 → listAfter s r l ≡ inFront (changedDays (s .days) (s .present) (r .session .present)) l
 unfolding listAfter
 accepted-list s r l z = rw (eq-eqb (r .answer .refusal) 0 z) refl
+
+-- an accepted cut had a list that is long enough, and its count is that of the changed days
+pub record Accepted (s : Session) (room : ℕ) (r : AfterCut) : Type 0 where
+  pub roomy : s .days ≤ room
+  pub counted : r .answer .changed ≡ length (changedDays (s .days) (s .present) (r .session .present))
+  pub few : r .answer .changed ≤ s .days
+
+cut-accepted : (s : Session) (c : Cut) (room : ℕ) → afterCut s c room .answer .refusal ≡ 0 → Accepted s room (afterCut s c room)
+cut-accepted s c room = go (eqb (earlier s c room) 0) (retightened s (clipped (s .present) c) .found) refl refl
+  where
+    go : (early found : Bool) → eqb (earlier s c room) 0 ≡ early → retightened s (clipped (s .present) c) .found ≡ found
+        → afterCut s c room .answer .refusal ≡ 0 → Accepted s room (afterCut s c room)
+    go true true e f z = rw (accepted s c room e, f) (record { roomy = ltb-false room (s .days) (passed s c room e .roomy); counted = refl; few = days-few _ (s .days) })
+    go true false e f z = absurd (omega (arith, rw (accepted s c room e, f) at z))
+    go false found e f z = absurd (eqb-false (earlier s c room) 0 e (rw (refused-same s c room e) at z))
+
+pub told-accepted : (s : Session) (t : Told) (room : ℕ) → afterTold s t room .answer .refusal ≡ 0 → Accepted s room (afterTold s t room)
+unfolding afterTold
+told-accepted s (Known c) room = cut-accepted s c room
+told-accepted s Unknown room = λ z. absurd (omega arith)
 
 -- ---- in bounds
 

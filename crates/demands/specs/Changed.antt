@@ -7,20 +7,18 @@ use Prim.Native.Nat.{ℕ, _<_}
 use native.Mathlib.Omega.{arith}
 use lib.Dec.{eqb}
 use lib.ListN.{length}
-use borrow.Author.Tests.{eqb-true, eqb-false, eq-eqb}
+use borrow.Author.Tests.{eqb-true, eq-eqb}
 use Rattle.series.specs.Sum.{at}
 use Rattle.levels.specs.Code.{lowestPoint, code, decoded}
 use Rattle.levels.specs.Laws.{code-decoded}
-use Rattle.method.specs.Filter.{Tight}
 use Rattle.session.specs.Showing.{floorOn, ceilingOn}
 use Rattle.session.specs.declared.Session.{Session}
 use Rattle.cuts.specs.declared.Told.{Told}
-use Rattle.cuts.specs.declared.Told.the-variants.{Known, Unknown}
 use Rattle.changes.specs.Changes.{differs, daysWhere}
 use Rattle.series.specs.Front.{front-at, front-past}
 use Rattle.changes.specs.Laws.{at-mem, mem-at, days-where, days-ascend}
-use Rattle.cutting.specs.Cutting.{earlier, clipped, retightened, tightenedTo, changedDays, afterCut, afterTold, listAfter}
-use Rattle.cutting.specs.Laws.{refused-same, accepted, accepted-list}
+use Rattle.cutting.specs.Cutting.{afterTold, listAfter}
+use Rattle.cutting.specs.Laws.{accepted-list, told-accepted}
 use Rattle.cutting.specs.declared.AfterCut.{AfterCut}
 use Rattle.demands.specs.Demands.{Changes}
 
@@ -42,27 +40,6 @@ differs-shown a b a′ b′ = (to, go (eqb a a′) (eqb b b′) refl refl)
     go true false e f h = refl
     go false y e f h = refl
 
-module _ (s : Session) where
-  -- the count is right
-  abbrev Counted : AfterCut → Type 0
-  Counted r = r .answer .refusal ≡ 0 → r .answer .changed ≡ length (changedDays (s .days) (s .present) (r .session .present))
-
-  tightened-counted : (t : Tight) → Counted (tightenedTo s t)
-  tightened-counted t = go (t .found) refl
-    where
-      go : (b : Bool) → t .found ≡ b → Counted (tightenedTo s t)
-      go true e = rw e (λ _. refl)
-      go false e = rw e (λ z. absurd (omega arith))
-
-  counted : (t : Told) (room : ℕ) → Counted (afterTold s t room)
-  unfolding afterTold
-  counted Unknown room = λ z. absurd (omega arith)
-  counted (Known c) room = go (eqb (earlier s c room) 0) refl
-    where
-      go : (b : Bool) → eqb (earlier s c room) 0 ≡ b → Counted (afterCut s c room)
-      go true e = rw (accepted s c room e) (tightened-counted (retightened s (clipped (s .present) c)))
-      go false e = rw (refused-same s c room e) (λ z. absurd (eqb-false (earlier s c room) 0 e z))
-
 module _ (s : Session) (l : List ℕ) (t : Told) (z : afterTold s t (length l) .answer .refusal ≡ 0) where
   abbrev r : AfterCut
   r = afterTold s t (length l)
@@ -73,8 +50,11 @@ module _ (s : Session) (l : List ℕ) (t : Told) (z : afterTold s t (length l) .
   abbrev days : List ℕ
   days = daysWhere test (s .days)
 
+  count : r .answer .changed ≡ length days
+  count = told-accepted s t (length l) z .counted
+
   front : (i : ℕ) → i < r .answer .changed → at (listAfter s r l) i ≡ at days i
-  front i h = rw (accepted-list s r l z) (front-at days l i 0 (omega (arith, counted s t (length l) z)))
+  front i h = rw (accepted-list s r l z) (front-at days l i 0 (omega (arith, count)))
 
   shown : (k : ℕ) → (test k ≡ true) ↔ ((floorOn s k ≡ floorOn (r .session) k) × (ceilingOn s k ≡ ceilingOn (r .session) k) → ⊥)
   shown k = differs-shown (at (s .present .floors) k) (at (s .present .ceilings) k) (at (r .session .present .floors) k) (at (r .session .present .ceilings) k)
@@ -82,11 +62,11 @@ module _ (s : Session) (l : List ℕ) (t : Told) (z : afterTold s t (length l) .
   pub changes : Changes s l r
   changes = record {
     listed = λ k. (
-      λ w. let d = days-where test (s .days) k .0 (rw (sym (front (w .0) (w .1)) ∙ w .2) at (at-mem days (w .0) (omega (arith, w .1, counted s t (length l) z)))) in (d .0, shown k .0 (d .1)),
+      λ w. let d = days-where test (s .days) k .0 (rw (sym (front (w .0) (w .1)) ∙ w .2) at (at-mem days (w .0) (omega (arith, w .1, count)))) in (d .0, shown k .0 (d .1)),
       λ w. let d = mem-at days k (days-where test (s .days) k .1 (w .0, shown k .1 (w .1))) in
-          let h : d .0 < r .answer .changed = omega (arith, d .1, counted s t (length l) z) in
+          let h : d .0 < r .answer .changed = omega (arith, d .1, count) in
           (d .0, h, front (d .0) h ∙ d .2),
     );
-    once = λ i j h m e. omega (arith, days-ascend test (s .days) i j h (omega (arith, counted s t (length l) z)), front i (omega arith), front j m);
-    rest = λ i h. rw (accepted-list s r l z) (front-past days l i 0 (omega (arith, counted s t (length l) z)));
+    once = λ i j h m e. omega (arith, days-ascend test (s .days) i j h (omega (arith, count)), front i (omega arith), front j m);
+    rest = λ i h. rw (accepted-list s r l z) (front-past days l i 0 (omega (arith, count)));
   }

@@ -4,6 +4,7 @@ use mathlib.Core.Bool.{cond, _||_}
 use mathlib.Core.List.{List}
 use Prim.Native.Nat.{ℕ, zero, suc, _+_, _-_, _*_, _≤_}
 use native.Mathlib.Omega.{arith}
+use native.Mathlib.Decide.{ℕ-discrete}
 use lib.Dec.{eqb, ltb}
 use lib.ListN.{replicate, length-replicate}
 use borrow.Author.Tests.{eq-eqb, ne-eqb, ltb-false, le-ltb}
@@ -59,3 +60,14 @@ module _ (b : List ℕ) (floors ceilings rises : ℕ) where
   unfolding refusal
   read-all e r =
       unrefused (rw (e, le-ltb floors (dayCount b) (r .floors-long), le-ltb ceilings (dayCount b) (r .ceilings-long), le-ltb rises (dayCount b - 1) (r .rises-long)) refl)
+
+  -- lists that are long enough for every file: what is refused is the file
+  pub read-number : 512 ≤ floors → 512 ≤ ceilings → 511 ≤ rises → readFrom b floors ceilings rises .refusal ≡ earlier b
+  unfolding refusal contents
+  read-number f c r = go (ℕ-discrete (earlier b) 0)
+    where
+      go : Dec (earlier b ≡ 0) → readFrom b floors ceilings rises .refusal ≡ earlier b
+      go (yes z) =
+          let few = taken b z .few in
+          ap (λ a. a .refusal) (read-all z (record { floors-long = omega arith; ceilings-long = omega arith; rises-long = omega arith })) ∙ sym z
+      go (no h) = read-refusal ∙ rw (ne-eqb (earlier b) 0 h) refl

@@ -141,7 +141,7 @@ fn store_days(
 
 // ---- the cuts
 
-fn told_at(bytes: &[u8], at: usize) -> Told
+pub fn told_at(bytes: &[u8], at: usize) -> Told
     requires { ⌜ at + 8 ≤ length (now bytes) ⌝ }
     ensures { λ r. ⌜ r ≡ toldAt (now (bytes .entry)) at ⌝ }
 {

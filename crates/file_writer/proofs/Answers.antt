@@ -1,14 +1,13 @@
 -- What `write` gives and leaves in its output, by the checks that refuse and by the bytes that it stores.
-use Prim.Native.Nat.{ℕ, _+_, _≤_, _<_}
+use Prim.Native.Nat.{ℕ, _≤_, _<_}
 use mathlib.Core.Path.{_≡_, refl, ap, sym, _∙_}
-use mathlib.Core.List.{List, _++_}
+use mathlib.Core.List.{List}
 use native.Mathlib.Omega.{arith}
-use lib.ListN.{length, getD, length-append}
+use lib.ListN.{length, getD}
 use lib.Seq.{sets}
 use borrow.Author.Tests.{lt-ltb, le-ltb, ne-eqb}
 use Rattle.series.specs.First.{firstNonzero, nonzero-same, nonzero-none}
-use Rattle.series.specs.Rows.{rows, rows-same, length-rows, front-sets}
-use Rattle.levels.specs.Code.{on}
+use Rattle.series.specs.Rows.{rows, rows-same, front-sets}
 use Rattle.session.specs.Profile.{Profile}
 use Rattle.session.specs.Opening as Opening
 use Rattle.session.specs.Entered.{entered}
@@ -18,11 +17,10 @@ use Rattle.cuts.specs.Laws.{length-cutsOf, cutOn-cutsOf}
 use Rattle.cutting.specs.Cutting.{malformed}
 use Rattle.cutting.specs.Laws.{formed-day}
 use Rattle.profile_file.specs.Format.{dayOffset, fileLength, header, cutBytes, dayRow, file}
-use Rattle.profile_file.specs.Layout.{header-length, day-length, length-file}
+use Rattle.profile_file.specs.Layout.{length-file, parts-stored}
 use Rattle.profile_file.specs.Writing.{earlier, refusal}
 use Rattle.file_writer.specs.declared.WriteAnswer.{WriteAnswer}
 use Rattle.file_writer.specs.Writing.{writeAnswer, output}
-use Rattle.file_writer.proofs.Laws.{stored-after}
 
 -- what is answered, and the output afterwards, where it was l
 abbrev pub Answers : Profile → Sheet → List ℕ → WriteAnswer → List ℕ → Type 0
@@ -90,18 +88,9 @@ module _ (p : Profile) (s : Sheet) (c : Checked p s) where
     -- the three parts of the file, stored one after another
     whole : {a b out : List ℕ} → a ≡ sets l 0 (header (p .days) (s .count) (p .lowest) (p .highest)) → b ≡ sets a 16 (rows (dayRow p) (p .days))
         → out ≡ sets b (dayOffset (p .days)) (rows (λ j. cutBytes (getD (s .entries) j blank .cut)) (s .count)) → out ≡ sets l 0 (file p (cutsOf s))
-    unfolding file
     whole e f g =
         let cuts = rows-same (λ j. cutBytes (cutOn (cutsOf s) j)) (λ j. cutBytes (getD (s .entries) j blank .cut)) (s .count) (λ j u. ap cutBytes (cutOn-cutsOf s j u)) in
-        let head = header (p .days) (s .count) (p .lowest) (p .highest) in
-        let days = rows (dayRow p) (p .days) in
-        let top = header-length (p .days) (s .count) (p .lowest) (p .highest) in
-        let rest = length-rows (dayRow p) 6 (p .days) (λ k u. day-length (on (p .floors) k) (on (p .ceilings) k) (on (p .rises) k)) in
-        let two : length (head ++ days) ≡ dayOffset (p .days) = omega (arith, length-append head days, top, rest) in
-        let z : 0 + dayOffset (p .days) ≡ dayOffset (p .days) = omega arith in
-        rw (length-cutsOf s, cuts)
-        (stored-after l 0 (dayOffset (p .days)) (head ++ days) (rows (λ j. cutBytes (getD (s .entries) j blank .cut)) (s .count)) two
-        (stored-after l 0 16 head days top e f) (rw z g))
+        parts-stored p (cutsOf s) l (rw (length-cutsOf s) e) f (rw (length-cutsOf s, cuts) g)
 
     pub written : {a b out : List ℕ} → a ≡ sets l 0 (header (p .days) (s .count) (p .lowest) (p .highest)) → b ≡ sets a 16 (rows (dayRow p) (p .days))
         → out ≡ sets b (dayOffset (p .days)) (rows (λ j. cutBytes (getD (s .entries) j blank .cut)) (s .count)) → Answers p s l (record { refusal = 0; length = fileLength (p .days) (s .count) }) out

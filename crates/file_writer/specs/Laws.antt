@@ -18,15 +18,15 @@ use Rattle.profile_file.specs.Writing.{earlier, refusal}
 use Rattle.file_writer.specs.declared.WriteAnswer.{WriteAnswer}
 use Rattle.file_writer.specs.Writing.{writeAnswer, output}
 
+-- the number that stands in an answer
+pub answered : (number long : ℕ) → cond {A = WriteAnswer} (eqb number 0) (record { refusal = 0; length = long }) (record { refusal = number; length = 0 }) .refusal ≡ number
+answered zero long = refl
+answered (suc number) long = rw (ne-eqb (suc number) 0 (λ e. omega arith)) refl
+
 module _ (p : Profile) (cs : List Cut) where
-  -- the number that stands in the answer
   pub answer-refusal : (room : ℕ) → writeAnswer p cs room .refusal ≡ refusal p cs room
   unfolding writeAnswer
-  answer-refusal room = go (refusal p cs room)
-    where
-      go : (r : ℕ) → cond {A = WriteAnswer} (eqb r 0) (record { refusal = 0; length = fileLength (p .days) (length cs) }) (record { refusal = r; length = 0 }) .refusal ≡ r
-      go zero = refl
-      go (suc r) = rw (ne-eqb (suc r) 0 (λ e. omega arith)) refl
+  answer-refusal room = answered (refusal p cs room) (fileLength (p .days) (length cs))
 
   module _ (out : List ℕ) (e : writeAnswer p cs (length out) .refusal ≡ 0) where
     none : refusal p cs (length out) ≡ 0

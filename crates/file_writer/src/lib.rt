@@ -30,7 +30,7 @@ pub struct WriteAnswer {
 // ---- the checks
 
 // 1, 2, 3, 4, 5, 6 as opening does; whether there is a schedule is not checked.
-fn profile_refusal(
+pub fn profile_refusal(
     days: usize,
     floors: &[i16],
     ceilings: &[i16],
@@ -72,7 +72,7 @@ fn entries_refusal(entries: [Entry; 512], count: usize, days: usize) -> u8
 
 // ---- the bytes
 
-fn put_header(days: usize, cuts: usize, lowest: i32, highest: i32, out: &mut [u8])
+pub fn put_header(days: usize, cuts: usize, lowest: i32, highest: i32, out: &mut [u8])
     requires { ⌜ (days ≤ 512) × (cuts ≤ 512) × (16 ≤ length (now out)) ⌝ }
     ensures { λ r. ⌜ now (out .exit) ≡ sets (now (out .entry)) 0 (header days cuts lowest highest) ⌝ }
 {
@@ -103,7 +103,7 @@ fn rise_on(rises: &[i16], k: usize) -> i16
     0
 }
 
-fn put_days(floors: &[i16], ceilings: &[i16], rises: &[i16], days: usize, out: &mut [u8])
+pub fn put_days(floors: &[i16], ceilings: &[i16], rises: &[i16], days: usize, out: &mut [u8])
     requires { ⌜ (days ≡ length (now floors)) × (days ≡ length (now ceilings)) × (days ≤ 512) × (dayOffset days ≤ length (now out)) ⌝ }
     ensures { λ r. ⌜ now (out .exit) ≡ sets (now (out .entry)) 16 (rows (λ k. dayBytes (on (now (floors .entry)) k) (on (now (ceilings .entry)) k) (on (now (rises .entry)) k)) days) ⌝ }
 {

@@ -4,8 +4,9 @@ use mathlib.Core.Path.{_≡_, refl}
 use mathlib.Core.List.{List, _++_}
 use native.Mathlib.Omega.{arith}
 use lib.IntN.{ℤ}
-use lib.ListN.{length, length-append}
-use Rattle.series.specs.Rows.{rows, length-rows}
+use lib.ListN.{length, length-append, drop}
+use lib.Seq.{sets, drop-append-seam}
+use Rattle.series.specs.Rows.{rows, length-rows, stored-after}
 use Rattle.series.specs.Part.{Part, part-left, part-right, part-both, part-rows, part-row}
 use Rattle.levels.specs.Code.{on}
 use Rattle.little_endian.specs.Fields.{u16Bytes, u32Bytes, i16Bytes, i32Bytes}
@@ -58,6 +59,21 @@ module _ (p : Profile) (cs : List Cut) where
   length-file =
       rw whole
       (omega (arith, length-append (head ++ rows (dayRow p) (p .days)) (rows cutRow (length cs)), front-length, length-rows cutRow 8 (length cs) cutRow-length))
+
+  -- its cuts stand behind its days
+  pub file-cuts : drop (dayOffset (p .days)) (file p cs) ≡ rows (λ j. cutBytes (cutOn cs j)) (length cs)
+  unfolding cutRow
+  file-cuts = rw (whole, ← front-length) (drop-append-seam (head ++ rows (dayRow p) (p .days)) (rows cutRow (length cs)))
+
+  -- the three parts, stored one after another
+  pub parts-stored : (l : List ℕ) {a b out : List ℕ} → a ≡ sets l 0 (header (p .days) (length cs) (p .lowest) (p .highest)) → b ≡ sets a 16 (rows (dayRow p) (p .days))
+      → out ≡ sets b (dayOffset (p .days)) (rows (λ j. cutBytes (cutOn cs j)) (length cs)) → out ≡ sets l 0 (file p cs)
+  unfolding head cutRow
+  parts-stored l e f g =
+      let z : 0 + dayOffset (p .days) ≡ dayOffset (p .days) = omega arith in
+      rw whole
+      (stored-after l 0 (dayOffset (p .days)) (head ++ rows (dayRow p) (p .days)) (rows cutRow (length cs)) front-length
+      (stored-after l 0 16 head (rows (dayRow p) (p .days)) head-length e f) (rw z g))
 
   -- b is laid out as the file of p and cs
   pub record Laid (b : List ℕ) : Type 0 where

@@ -1,6 +1,6 @@
 -- A file that the reader takes, written back byte for byte.
 use mathlib.Core.Path.{_≡_, refl, sym, _∙_}
-use mathlib.Core.Bool.{false, true≢false}
+use mathlib.Core.Bool.{true≢false}
 use mathlib.Core.List.{List}
 use Prim.Native.Nat.{ℕ, zero, suc, _+_, _-_, _<_}
 use native.Mathlib.Omega.{arith}
@@ -13,16 +13,12 @@ use Rattle.series.specs.Part.{Part, part-same}
 use Rattle.levels.specs.Code.{on}
 use Rattle.little_endian.specs.Fields.{u16At, i32At, i16Bytes}
 use Rattle.little_endian.specs.Laws.{Bytes, u16-part, i16-part, i32-part, zero-part}
-use Rattle.session.specs.Opening as Opening
 use Rattle.cuts.specs.declared.Cut.the-variants.{DayFloor}
 use Rattle.cuts.specs.declared.Told.the-variants.{Unknown}
 use Rattle.cuts.specs.Told.{told}
 use Rattle.cuts.specs.Sheet.{cutOn, kindOf, dayOf, valueOf}
-use Rattle.profile_file.specs.Format.{dayOffset, cutOffset, dayCount, cutCount, totalFloor, totalCeiling, floorAt, ceilingAt, riseAt, cutAt, known, profileIn, cutsIn, file}
-use Rattle.profile_file.specs.Reading as Reading
-use Rattle.profile_file.specs.Reading.{badCut}
-use Rattle.profile_file.specs.Writing as Writing
-use Rattle.profile_file.specs.Layout.{Laid, laid-part, length-file, Header, header-part, Day, day-part, CutFields, cut-part}
+use Rattle.profile_file.specs.Format.{dayOffset, cutOffset, dayCount, cutCount, totalFloor, totalCeiling, floorAt, ceilingAt, riseAt, toldAt, cutAt, known, profileIn, cutsIn, cutBytes, file}
+use Rattle.profile_file.specs.Layout.{Laid, laid-part, length-file, Header, header-part, Day, day-part, cut-part}
 use Rattle.profile_file.specs.Taken.{Taken}
 
 told-far : (kind day : ℕ) (value : ℤ) → 3 < kind → told kind day value ≡ Unknown
@@ -30,14 +26,25 @@ unfolding told
 told-far kind day value h =
     rw (ne-eqb kind 0 (λ e. omega arith), ne-eqb kind 1 (λ e. omega arith), ne-eqb kind 2 (λ e. omega arith), ne-eqb kind 3 (λ e. omega arith)) refl
 
-told-kind : (kind day : ℕ) (value : ℤ) → badCut (told kind day value) ≡ false
+told-kind : (kind day : ℕ) (value : ℤ) → (told kind day value ≡ Unknown → ⊥)
     → (kindOf (known (told kind day value)) ≡ kind) × (dayOf (known (told kind day value)) ≡ day) × (valueOf (known (told kind day value)) ≡ value)
 unfolding told
-told-kind zero day value e = (refl, refl, refl)
-told-kind (suc zero) day value e = (refl, refl, refl)
-told-kind (suc (suc zero)) day value e = (refl, refl, refl)
-told-kind (suc (suc (suc zero))) day value e = (refl, refl, refl)
-told-kind (suc (suc (suc (suc k)))) day value e = absurd (true≢false (rw (told-far (suc (suc (suc (suc k)))) day value (omega arith)) at e))
+told-kind zero day value h = (refl, refl, refl)
+told-kind (suc zero) day value h = (refl, refl, refl)
+told-kind (suc (suc zero)) day value h = (refl, refl, refl)
+told-kind (suc (suc (suc zero))) day value h = (refl, refl, refl)
+told-kind (suc (suc (suc (suc k)))) day value h = absurd (h (told-far (suc (suc (suc (suc k)))) day value (omega arith)))
+
+-- a cut of a known kind has the bytes that it is read from
+pub cut-back : {b : List ℕ} → Bytes b → (i : ℕ) → (toldAt b i ≡ Unknown → ⊥) → Part b i (cutBytes (known (toldAt b i)))
+cut-back {b} bytes i h =
+    let told-so = told-kind (u16At b i) (u16At b (i + 2)) (i32At b (i + 4)) h in
+    cut-part (known (toldAt b i))
+    (record {
+      kind = rw (told-so .0) (u16-part bytes i);
+      day = rw (told-so .1) (u16-part bytes (i + 2));
+      value = rw (told-so .2) (i32-part bytes (i + 4));
+    })
 
 module _ (b : List ℕ) (bytes : Bytes b) (t : Taken b) where
   n : ℕ
@@ -78,17 +85,11 @@ module _ (b : List ℕ) (bytes : Bytes b) (t : Taken b) where
         rise = rise k h;
       }
 
-  cut : (j : ℕ) → j < cutCount b → CutFields b (cutOffset (dayCount b) j) (cutOn (cutsIn b) j)
+  cut : (j : ℕ) → j < cutCount b → Part b (cutOffset (dayCount b) j) (cutBytes (cutOn (cutsIn b) j))
   unfolding cutsIn
   cut j h =
-      let i : ℕ = cutOffset (dayCount b) j in
-      let told-so = told-kind (u16At b i) (u16At b (i + 2)) (i32At b (i + 4)) (t .good j h) in
       rw (get-listOf (λ k. known (cutAt b k)) (DayFloor 0 (pos 0)) (cutCount b) j h)
-      (record {
-        kind = rw (told-so .0) (u16-part bytes i);
-        day = rw (told-so .1) (u16-part bytes (i + 2));
-        value = rw (told-so .2) (i32-part bytes (i + 4));
-      })
+      (cut-back bytes (cutOffset (dayCount b) j) (λ u. true≢false (rw u at (t .good j h))))
 
   all : Laid (profileIn b) (cutsIn b) b
   unfolding profileIn
@@ -96,7 +97,7 @@ module _ (b : List ℕ) (bytes : Bytes b) (t : Taken b) where
       record {
         top = header-part (dayCount b) (length (cutsIn b)) (totalFloor b) (totalCeiling b) top;
         day = λ k h. day-part (on (profileIn b .floors) k) (on (profileIn b .ceilings) k) (on (profileIn b .rises) k) (day k h);
-        cut = λ j h. cut-part (cutOn (cutsIn b) j) (cut j (omega (arith, count)));
+        cut = λ j h. cut j (omega (arith, count));
       }
 
   pub written-back : file (profileIn b) (cutsIn b) ≡ b

@@ -3,38 +3,18 @@ use Prim.Native.Nat.{ℕ, _-_, _≤_, _<_}
 use mathlib.Core.Path.{_≡_, refl, ap, sym, _∙_}
 use mathlib.Core.List.{List}
 use native.Mathlib.Omega.{arith}
-use native.Mathlib.Decide.{ℕ-discrete}
 use lib.IntN.{ℤ, pos}
 use lib.ListN.{take, replicate, length-replicate}
-use borrow.Author.Tests.{ne-eqb}
 use Rattle.series.specs.Lent.{lentList, list-filled}
 use Rattle.series.specs.ListOf.{listOf, take-written}
 use Rattle.session.specs.Opening.{profile}
 use Rattle.cuts.specs.Sheet.{cutsOf}
 use Rattle.profile_file.specs.Format.{dayCount, cutCount, floorAt, ceilingAt, riseAt, profileIn, cutsIn}
-use Rattle.profile_file.specs.Reading.{earlier, refusal}
-use Rattle.profile_file.specs.Taken.{taken}
+use Rattle.profile_file.specs.Reading.{earlier}
+use Rattle.profile_file.specs.Taken.{not-refused}
 use Rattle.file_reader.specs.Reading.{sheetFrom, contents, readFrom}
-use Rattle.file_reader.specs.Laws.{read-refusal, read-all, sheet-cuts}
+use Rattle.file_reader.specs.Laws.{read-taken, sheet-cuts}
 use Rattle.file_reader.specs.declared.ReadAnswer.{ReadAnswer}
-
-module _ (b : List ℕ) where
-  all-read : earlier b ≡ 0 → readFrom b 512 512 511 ≡ contents b
-  all-read z =
-      let t = taken b z in
-      read-all b 512 512 511 z (record { floors-long = t .few; ceilings-long = t .few; rises-long = omega (arith, t .few) })
-
-  -- no list is too short
-  roomy : readFrom b 512 512 511 .refusal ≡ earlier b
-  unfolding refusal contents
-  roomy = go (ℕ-discrete (earlier b) 0)
-    where
-      go : Dec (earlier b ≡ 0) → readFrom b 512 512 511 .refusal ≡ earlier b
-      go (yes z) = ap (λ r. r .refusal) (all-read z) ∙ sym z
-      go (no h) = read-refusal b 512 512 511 ∙ rw (ne-eqb (earlier b) 0 h) refl
-
-  pub read-number : {r : ReadAnswer} → r ≡ readFrom b 512 512 511 → r .refusal ≡ earlier b
-  read-number e = ap (λ a. a .refusal) e ∙ roomy
 
 -- what is handed on of a file that is not refused: its profile and its cuts
 pub record Got (b : List ℕ) (r : ReadAnswer) (fs cs rs : List ℤ) : Type 0 where
@@ -49,12 +29,6 @@ module _ (b : List ℕ) {r : ReadAnswer} {fs cs rs : List ℤ} (e : r ≡ readFr
     (f : fs ≡ lentList (r .refusal) (floorAt b) (dayCount b) (replicate 512 (pos 0)))
     (c : cs ≡ lentList (r .refusal) (ceilingAt b) (dayCount b) (replicate 512 (pos 0)))
     (s : rs ≡ lentList (r .refusal) (riseAt b) (dayCount b - 1) (replicate 511 (pos 0))) where
-  none : earlier b ≡ 0
-  none = sym (read-number b e) ∙ z
-
-  all : r ≡ contents b
-  all = e ∙ all-read b none
-
   lent : {l : List ℤ} (g : ℕ → ℤ) (n m : ℕ) → l ≡ lentList (r .refusal) g n (replicate m (pos 0)) → n ≤ m → take n l ≡ listOf g n
   lent g n m q h =
       ap (take n) (q ∙ list-filled (r .refusal) g n (replicate m (pos 0)) z) ∙ take-written g n (replicate m (pos 0)) (omega (arith, length-replicate m (pos 0)))
@@ -62,14 +36,16 @@ module _ (b : List ℕ) {r : ReadAnswer} {fs cs rs : List ℤ} (e : r ≡ readFr
   pub got : Got b r fs cs rs
   unfolding contents sheetFrom profileIn
   got =
-      let t = taken b none in
+      let whole = read-taken b 512 512 511 (sym (ap (λ a. a .refusal) e) ∙ z) in
+      let all : r ≡ contents b = e ∙ whole .0 in
+      let t = whole .1 in
       let d : r .days ≡ dayCount b = ap (λ a. a .days) all in
       let count : r .sheet .count ≡ cutCount b = ap (λ a. a .sheet .count) all in
       let low = lent (floorAt b) (dayCount b) 512 f (t .few) in
       let high = lent (ceilingAt b) (dayCount b) 512 c (t .few) in
       let steps = lent (riseAt b) (dayCount b - 1) 511 s (omega (arith, t .few)) in
       record {
-        none = none;
+        none = not-refused b t;
         some = omega (arith, t .some);
         few = omega (arith, t .few);
         entered = rw (d, low, high, steps, ap (λ a. a .lowest) all, ap (λ a. a .highest) all) refl;

@@ -10,6 +10,10 @@ pub cond-zero : (b : Bool) (m k : ℕ) → cond b (suc m) k ≡ 0 → (b ≡ fal
 cond-zero true m k e = absurd (omega arith)
 cond-zero false m k e = (refl, e)
 
+pub cond-first : (b : Bool) (m : ℕ) → cond b 0 (suc m) ≡ 0 → b ≡ true
+cond-first true m e = refl
+cond-first false m e = absurd (omega arith)
+
 -- the first number, or the second where the first is 0
 pub then-zero : (m k : ℕ) → cond (eqb m 0) k m ≡ 0 → (m ≡ 0) × (k ≡ 0)
 then-zero zero k e = (refl, e)

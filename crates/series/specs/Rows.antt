@@ -5,8 +5,8 @@ use mathlib.Core.List.{List, [], _∷_, _++_}
 use native.Mathlib.Numerals.{add-one}
 use native.Mathlib.Omega.{arith}
 use native.Mathlib.Nat.{add-zero, mul-le-mul-right}
-use lib.ListN.{length, set, length-append}
-use lib.Seq.{sets, sets-eq, length-sets}
+use lib.ListN.{length, getD, take, set, length-set, length-append}
+use lib.Seq.{sets, sets-eq, length-sets, take-suc, length-take-le, take-all}
 use Rattle.series.specs.Front.{inFront}
 
 -- f 0, f 1, .. , n of them, one after another
@@ -41,6 +41,10 @@ module _ {A : Type 0} where
   sets-append (a ∷ xs) ys l i =
       let e : i + suc (length xs) ≡ suc i + length xs = omega arith in
       rw e (sets-append xs ys (set l i a) (suc i))
+
+  -- ys stored after the w elements of xs
+  pub stored-after : (l : List A) (i w : ℕ) (xs ys : List A) {m out : List A} → length xs ≡ w → m ≡ sets l i xs → out ≡ sets m (i + w) ys → out ≡ sets l i (xs ++ ys)
+  stored-after l i w xs ys e p q = rw (q, p, ← e) (sets-append xs ys l i)
 
   -- a list stored from the start on
   pub front-sets : (xs l : List A) → length xs ≤ length l → sets l 0 xs ≡ inFront xs l
@@ -92,3 +96,27 @@ module _ {A : Type 0} {f : ℕ → List A} {n place : ℕ} {l : List A} (w : ℕ
   pub even-more : {k : ℕ} {out after : List A} → ((j : ℕ) → length (f j) ≡ w) → Stored f n place l k (place + k * w) out → k < n → after ≡ sets out (place + k * w) (f k)
       → Stored f n place l (k + 1) (place + (k + 1) * w) after
   even-more {k} wide h u e = stored-more h u (e, omega (arith, wide k))
+
+-- ---- a loop that stores a list from a place on, one element after another: the first i are stored
+
+pub record Copied {A : Type 0} (xs : List A) (place i : ℕ) (l out : List A) : Type 0 where
+  pub most : i ≤ length xs
+  pub kept : length out ≡ length l
+  pub made : out ≡ sets l place (take i xs)
+
+module _ {A : Type 0} {xs l : List A} {place : ℕ} where
+  pub copied-none : Copied xs place 0 l l
+  copied-none = record { most = omega arith; kept = refl; made = refl }
+
+  pub copied-more : {i : ℕ} {v : A} {out : List A} (d : A) → Copied xs place i l out → i < length xs → v ≡ getD xs i d → Copied xs place (i + 1) l (set out (place + i) v)
+  copied-more {i} {v} {out} d h u e =
+      let n = length-take-le i xs (omega arith) in
+      let t : take (i + 1) xs ≡ take i xs ++ getD xs i d ∷ [] = rw (add-one i) (take-suc xs i d u) in
+      record {
+        most = omega arith;
+        kept = length-set out (place + i) v ∙ h .kept;
+        made = rw (h .made, t, e) (rw n at (sets-append (take i xs) (getD xs i d ∷ []) l place));
+      }
+
+  pub copied-all : {i : ℕ} {out : List A} → Copied xs place i l out → length xs ≤ i → out ≡ sets l place xs
+  copied-all {i} h u = rw (take-all i xs u) at (h .made)

@@ -1,13 +1,12 @@
--- A text stored from a place on, by one element after another; and how far a negative number is below 0.
-use Prim.Native.Nat.{ℕ, suc, _+_, _-_, _/_, _%_, _≤_, _<_}
+-- A number stored digit by digit, and how far a negative number is below 0.
+use Prim.Native.Nat.{ℕ, suc, _+_, _-_, _/_, _%_, _<_}
 use mathlib.Core.Path.{_≡_, refl, ap, _∙_, subst}
 use mathlib.Core.Bool.{true, false}
-use mathlib.Core.List.{List, [], _∷_, _++_}
-use native.Mathlib.Numerals.{add-one}
+use mathlib.Core.List.{List, [], _∷_}
 use native.Mathlib.Nat.{mod-eq-of-lt}
 use native.Mathlib.Omega.{arith}
-use lib.ListN.{length, getD, take, set, length-set, length-append}
-use lib.Seq.{sets, take-suc, length-take-le, take-all, length-sets}
+use lib.ListN.{length, set, length-append}
+use lib.Seq.{sets, length-sets}
 use lib.IntN.{ℤ, pos, negsuc, natAbs, _-ℤ_}
 use lib.Dec.{T, ltb→lt}
 use lib.Signed.{_<ℤ_, mag, nonNeg, ltZ, ltZ-yes, ltZ-no, yes-nonNeg, natAbs-le}
@@ -19,29 +18,6 @@ use borrow.Author.Tests.{le-ltb}
 use Rattle.series.specs.Rows.{sets-append}
 use Rattle.text.specs.Numbers.{decimal, number}
 use Rattle.text.specs.Laws.{decimal-small, decimal-large}
-
--- `out` is l with the first i of xs stored from a place on
-pub record Copied (xs : List ℕ) (place i : ℕ) (l out : List ℕ) : Type 0 where
-  pub most : i ≤ length xs
-  pub kept : length out ≡ length l
-  pub made : out ≡ sets l place (take i xs)
-
-module _ {xs l : List ℕ} {place : ℕ} where
-  pub copied-none : Copied xs place 0 l l
-  copied-none = record { most = omega arith; kept = refl; made = refl }
-
-  pub copied-more : {i : ℕ} {out : List ℕ} → Copied xs place i l out → i < length xs → Copied xs place (i + 1) l (set out (place + i) (getD xs i 0))
-  copied-more {i} {out} h u =
-      let n = length-take-le i xs (omega arith) in
-      let t : take (i + 1) xs ≡ take i xs ++ getD xs i 0 ∷ [] = rw (add-one i) (take-suc xs i 0 u) in
-      record {
-        most = omega arith;
-        kept = length-set out (place + i) (getD xs i 0) ∙ h .kept;
-        made = rw (h .made, t) (rw n at (sets-append (take i xs) (getD xs i 0 ∷ []) l place));
-      }
-
-  pub copied-all : {i : ℕ} {out : List ℕ} → Copied xs place i l out → length xs ≤ i → out ≡ sets l place xs
-  copied-all {i} h u = rw (take-all i xs u) at (h .made)
 
 -- what stands before the last digit of n is stored: with that digit stored too all of n is
 pub record Led (n place : ℕ) (l : List ℕ) (next : ℕ) (out : List ℕ) : Type 0 where

@@ -3,7 +3,7 @@ use mathlib.Core.Path.{refl}
 use mir.Facts.{toZ-ofZ}
 use Rattle.little_endian.specs.Fields.{u16Bytes, i16Bytes}
 use Rattle.profile_file.specs.Format.{dayBytes}
-use Rattle.file_writer.proofs.Laws.{stored-after}
+use Rattle.series.specs.Rows.{stored-after}
 use borrow.Author.Needs.{needs}
 use Rattle.file_writer.proofs.put_day.Statement.{statement}
 use Rattle.file_writer.proofs.put_day.Tie as tie

@@ -2,7 +2,7 @@ use mathlib.Core.List.{_++_}
 use mathlib.Core.Path.{refl}
 use mir.Facts.{toZ-ofZ}
 use Rattle.little_endian.specs.Fields.{u16Bytes, i32Bytes}
-use Rattle.file_writer.proofs.Laws.{stored-after}
+use Rattle.series.specs.Rows.{stored-after}
 use borrow.Author.Needs.{needs}
 use Rattle.file_writer.proofs.put_fields.Statement.{statement}
 use Rattle.file_writer.proofs.put_fields.Tie as tie

@@ -3,7 +3,7 @@ use mathlib.Core.Path.{refl}
 use mir.Facts.{toZ-ofZ}
 use Rattle.little_endian.specs.Fields.{u16Bytes, u32Bytes, i32Bytes}
 use Rattle.profile_file.specs.Format.{header, dayOffset}
-use Rattle.file_writer.proofs.Laws.{stored-after}
+use Rattle.series.specs.Rows.{stored-after}
 use borrow.Author.Needs.{needs}
 use Rattle.file_writer.proofs.put_header.Statement.{statement}
 use Rattle.file_writer.proofs.put_header.Tie as tie

@@ -2,16 +2,18 @@
 use Prim.Native.Nat.{ℕ}
 use mathlib.Core.Path.{_≡_, ap, sym, _∙_}
 use mathlib.Core.List.{List}
+use native.Mathlib.Omega.{arith}
 use mir.Syntax.{w32}
 use mir.Facts.{toZ-ofZ}
 use borrow.Author.Needs.{sfits-of}
 use Rattle.session.specs.Opening.{opened}
 use Rattle.session.specs.Sanity.{opened-sane}
 use Rattle.profile_file.specs.Format.{profileIn}
+use Rattle.file_reader.specs.Laws.{read-number}
 use Rattle.report.specs.Printing.{printed, answerText, refusedLine}
 use Rattle.report.specs.Laws.{answer-refused, answer-ranges, read-refused, open-refused, sheet-applied}
 use Rattle.report.proofs.Laws.{stage-passed, stage-refused}
-use Rattle.report.proofs.Reading.{Got, got, read-number}
+use Rattle.report.proofs.Reading.{Got, got}
 use borrow.Author.Needs.{needs}
 use Rattle.report.proofs.print_ranges.Statement.{statement}
 use Rattle.report.proofs.print_ranges.Tie as tie
@@ -64,7 +66,7 @@ put-refusal-requires : tie.Need-put-refusal-requires
 put-refusal-requires c κs = search needs
 
 returns : tie.Need-returns
-returns c = let b = bytes (c .before .before .before .before .before .before .before .before .before .before .before .before .before) in let number = read-number b (c .before .before .before .before .before .before .before .before .read .ensures .0) in let e = read-refused b (λ z. stage-refused (c .before .before .before .before .before .before .before .before .read .result .refusal) (c .before .before .before .before .stage-of .ensures) (c .before .before .enum-told2 .given .1) (number ∙ z)) ∙ ap refusedLine (sym number) in rw e (c .put-refusal .ensures)
+returns c = let b = bytes (c .before .before .before .before .before .before .before .before .before .before .before .before .before) in let number = ap (λ a. a .refusal) (c .before .before .before .before .before .before .before .before .read .ensures .0) ∙ read-number b 512 512 511 (omega arith) (omega arith) (omega arith) in let e = read-refused b (λ z. stage-refused (c .before .before .before .before .before .before .before .before .read .result .refusal) (c .before .before .before .before .stage-of .ensures) (c .before .before .enum-told2 .given .1) (number ∙ z)) ∙ ap refusedLine (sym number) in rw e (c .put-refusal .ensures)
 
 open-read-requires : tie.Need-open-read-requires
 open-read-requires c κs = (got-file (c .before .before .before .before .before) .some, got-file (c .before .before .before .before .before) .few)

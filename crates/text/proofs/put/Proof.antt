@@ -1,9 +1,10 @@
--- `text::put` meets its contract: the loop of Laws, `Copied`. The measure is what is left of the text. Assumes nothing.
+-- `text::put` meets its contract: the loop of series' `Copied`. The measure is what is left of the text. Assumes nothing.
 use Prim.Native.Nat.{_-_}
+use mathlib.Core.Path.{refl}
 use lib.ListN.{length}
 use borrow.Author.Needs.{needs}
 use native.Mathlib.Omega.{arith}
-use Rattle.text.proofs.Laws.{Copied, copied-none, copied-more, copied-all}
+use Rattle.series.specs.Rows.{Copied, copied-none, copied-more, copied-all}
 use Rattle.text.proofs.put.Statement.{statement}
 use Rattle.text.proofs.put.Tie as tie
 
@@ -32,7 +33,7 @@ loop-less : tie.Need-loop-less Inv-loop μ-loop
 loop-less c = search needs
 
 loop-again : tie.Need-loop-again Inv-loop μ-loop
-loop-again c = copied-more (c .before .before .loop .inv) (c .before .loop-test .taken)
+loop-again c = copied-more 0 (c .before .before .loop .inv) (c .before .loop-test .taken) refl
 
 add-result : tie.Need-add-result Inv-loop μ-loop
 add-result c = search needs

@@ -1,0 +1,58 @@
+use Prim.Native.Nat.{_-_}
+use mathlib.Core.Path.{_∙_}
+use mir.Facts.{toZ-ofZ}
+use mir.Syntax.{w16}
+use Rattle.byte_lists.specs.Lists.{pointAt}
+use Rattle.series.specs.Filled.{Filled, filled-none, filled-more, filled-all}
+use borrow.Author.Needs.{needs, sfits-of}
+use Rattle.byte_lists.proofs.points.Statement.{statement}
+use Rattle.byte_lists.proofs.points.Tie as tie
+
+abbrev Inv-loop : tie.InvT-loop
+Inv-loop bytes n out₀ k₀ out k = Filled (pointAt bytes) n k out₀ out
+
+abbrev μ-loop : tie.MeasureT-loop
+μ-loop bytes n out₀ k₀ out k = n - k
+
+loop-holds : tie.Need-loop-holds Inv-loop μ-loop
+loop-holds c = filled-none
+
+mul-i16-at : tie.Need-mul-i16-at Inv-loop μ-loop
+mul-i16-at c = search needs
+
+i16-at-requires : tie.Need-i16-at-requires Inv-loop μ-loop
+i16-at-requires c κs = search needs
+
+mul-t8 : tie.Need-mul-t8 Inv-loop μ-loop
+mul-t8 c = search needs
+
+element-set-from-out : tie.Need-element-set-from-out Inv-loop μ-loop
+element-set-from-out c = search needs
+
+add-k : tie.Need-add-k Inv-loop μ-loop
+add-k c = search needs
+
+loop-less : tie.Need-loop-less Inv-loop μ-loop
+loop-less c = search needs
+
+loop-again : tie.Need-loop-again Inv-loop μ-loop
+loop-again c = filled-more (c .before .before .loop .inv) (c .before .loop-test .taken) (toZ-ofZ {w = w16} (sfits-of (c .i16-at .ok)) ∙ c .i16-at .ensures)
+
+returns : tie.Need-returns Inv-loop μ-loop
+returns c = filled-all (c .before .loop .inv) (c .loop-test .left)
+
+pub points-spec : {M : Type 1} → statement M
+points-spec =
+    tie.close
+    (tie.spec
+    Inv-loop
+    μ-loop
+    loop-holds
+    mul-i16-at
+    i16-at-requires
+    mul-t8
+    element-set-from-out
+    add-k
+    loop-less
+    loop-again
+    returns)

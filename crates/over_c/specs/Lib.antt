@@ -1,0 +1,5 @@
+pub mod InBytes
+pub mod FilesInBytes
+pub mod Storable
+pub mod Bytes
+pub mod Files

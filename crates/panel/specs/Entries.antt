@@ -1,0 +1,79 @@
+-- What the entries for C give: what the functions on sessions by value give for the session that the bytes hold. A session's bytes of another length are
+-- refused with 2 before all else. Lists are given as they are, or by their counts of bytes.
+use mathlib.Core.Bool.{Bool, cond, _&&_, _||_}
+use mathlib.Core.List.{List}
+use Prim.Native.Nat.{ℕ, _/_}
+use lib.IntN.{ℤ}
+use lib.Dec.{eqb}
+use lib.ListN.{length}
+use Rattle.series.specs.Sum.{at}
+use Rattle.series.specs.Front.{inFront}
+use Rattle.levels.specs.Code.{lowestPoint, decoded}
+use Rattle.session.specs.Opening.{opened}
+use Rattle.session.specs.Showing.{shown, listTooShort}
+use Rattle.session.specs.declared.Session.{Session}
+use Rattle.session.specs.declared.Shown.{Shown}
+use Rattle.cuts.specs.declared.Told.{Told}
+use Rattle.cutting.specs.Cutting.{afterTold, changedDays}
+use Rattle.cutting.specs.declared.CutAnswer.{CutAnswer}
+use Rattle.schedules.specs.Writing.{dayRefusal, totalRefusal, dayLevels, totalLevels}
+use Rattle.inspection.specs.Inspecting.{Finding, refused, inspected}
+use Rattle.byte_lists.specs.Lists.{isLong, pointsIn, cellBytes}
+use Rattle.byte_lists.specs.Profiles.{lengthRefusal, profileOf}
+use Rattle.session_bytes.specs.Layout.{sessionBytes, encoding, decoding}
+use Rattle.panel.specs.declared.Subject.{Subject}
+use Rattle.panel.specs.declared.Subject.the-variants.{Day, Total}
+
+abbrev pub isSession : List ℕ → Bool
+isSession b = eqb (length b) sessionBytes
+
+-- ---- opening
+
+unfoldable pub openRefusal : List ℕ → ℕ → List ℕ → List ℕ → List ℕ → ℤ → ℤ → ℕ
+openRefusal b n fs cs rs lo hi =
+    let lengths : ℕ = lengthRefusal n (length fs) (length cs) (length rs) in
+    cond (isSession b) (cond (eqb lengths 0) (opened (profileOf n fs cs rs lo hi) .refusal) lengths) 2
+
+-- the session's bytes afterwards: as they were beside a refusal
+unfoldable pub openBytes : List ℕ → ℕ → List ℕ → List ℕ → List ℕ → ℤ → ℤ → List ℕ
+openBytes b n fs cs rs lo hi = cond (eqb (openRefusal b n fs cs rs lo hi) 0) (encoding (opened (profileOf n fs cs rs lo hi) .session)) b
+
+-- ---- cutting, where the list for changed days has that many bytes
+
+unfoldable pub cutAnswer : List ℕ → Told → ℕ → CutAnswer
+cutAnswer b t list = cond (isSession b) (afterTold (decoding b) t (list / 2) .answer) (record { refusal = 2; changed = 0 })
+
+-- the session's bytes afterwards: as they were beside a refusal other than 8
+unfoldable pub cutBytes : List ℕ → Told → ℕ → List ℕ
+cutBytes b t list =
+    let refusal : ℕ = cutAnswer b t list .refusal in
+    cond (eqb refusal 0 || eqb refusal 8) (encoding (afterTold (decoding b) t (list / 2) .session)) b
+
+-- the list afterwards: as it was beside a refusal, else with the changed days at its front
+unfoldable pub changedBytes : List ℕ → Told → List ℕ → List ℕ
+changedBytes b t l =
+    let days : List ℕ = changedDays (decoding b .days) (decoding b .present) (afterTold (decoding b) t (length l / 2) .session .present) in
+    cond (eqb (cutAnswer b t (length l) .refusal) 0) (inFront (cellBytes (at days) (length days)) l) l
+
+-- ---- showing, with lists of that many bytes
+
+unfoldable pub shownOver : List ℕ → ℕ → ℕ → Shown
+shownOver b floors ceilings = cond (isSession b) (shown (decoding b) (floors / 2) (ceilings / 2)) listTooShort
+
+-- ---- schedules
+
+-- the first refusal of writing a schedule for a day, or for the total, into a list that is n long
+abbrev pub refusalFor : Session → Subject → ℤ → ℕ
+refusalFor s (Day day) value = dayRefusal s day value (s .days)
+refusalFor s Total value = totalRefusal s value (s .days)
+
+-- the schedule's setpoint on each day
+abbrev pub setpointFor : Session → Subject → ℤ → ℕ → ℤ
+setpointFor s (Day day) value k = decoded lowestPoint (dayLevels s day value k)
+setpointFor s Total value k = decoded lowestPoint (totalLevels s value k)
+
+unfoldable pub writeRefusal : List ℕ → Subject → ℤ → List ℕ → ℕ
+writeRefusal b subject value l = cond (isSession b && isLong l (decoding b .days)) (refusalFor (decoding b) subject value) 2
+
+unfoldable pub inspectedOver : List ℕ → List ℕ → Finding
+inspectedOver b l = cond (isSession b && isLong l (decoding b .days)) (inspected (decoding b) (pointsIn l (decoding b .days))) (refused 2)

@@ -1,0 +1,63 @@
+use Prim.Native.Nat.{_+_, _-_, _*_, min}
+use Rattle.little_endian.specs.Fields.{u16At}
+use Rattle.series.specs.Filled.{Filled, filled-none, filled-more, filled-all}
+use borrow.Author.Needs.{needs}
+use Rattle.session_bytes.proofs.cells.Statement.{statement}
+use Rattle.session_bytes.proofs.cells.Tie as tie
+
+abbrev Inv-loop : tie.InvT-loop
+Inv-loop bytes place n most out₀ k₀ out k = Filled (λ j. min (u16At bytes (place + j * 2)) most) n k out₀ out
+
+abbrev μ-loop : tie.MeasureT-loop
+μ-loop bytes place n most out₀ k₀ out k = n - k
+
+loop-holds : tie.Need-loop-holds Inv-loop μ-loop
+loop-holds c = filled-none
+
+mul-u16-at : tie.Need-mul-u16-at Inv-loop μ-loop
+mul-u16-at c = search needs
+
+add-u16-at : tie.Need-add-u16-at Inv-loop μ-loop
+add-u16-at c = search needs
+
+u16-at-requires : tie.Need-u16-at-requires Inv-loop μ-loop
+u16-at-requires c κs = search needs
+
+at-most-requires : tie.Need-at-most-requires Inv-loop μ-loop
+at-most-requires c κs = search needs
+
+mul-out : tie.Need-mul-out Inv-loop μ-loop
+mul-out c = search needs
+
+element-write-out : tie.Need-element-write-out Inv-loop μ-loop
+element-write-out c = search needs
+
+add-k : tie.Need-add-k Inv-loop μ-loop
+add-k c = search needs
+
+loop-less : tie.Need-loop-less Inv-loop μ-loop
+loop-less c = search needs
+
+loop-again : tie.Need-loop-again Inv-loop μ-loop
+loop-again c = filled-more (c .before .before .before .loop .inv) (c .before .before .loop-test .taken) (rw (c .before .u16-at .ensures) at (c .at-most .ensures))
+
+returns : tie.Need-returns Inv-loop μ-loop
+returns c = filled-all (c .before .loop .inv) (c .loop-test .left)
+
+pub cells-spec : {M : Type 1} → statement M
+cells-spec =
+    tie.close
+    (tie.spec
+    Inv-loop
+    μ-loop
+    loop-holds
+    mul-u16-at
+    add-u16-at
+    u16-at-requires
+    at-most-requires
+    mul-out
+    element-write-out
+    add-k
+    loop-less
+    loop-again
+    returns)

@@ -1,0 +1,50 @@
+use Prim.Native.Nat.{_+_, _-_, _*_}
+use mathlib.Core.Path.{_≡_}
+use lib.ListN.{replicate}
+use Rattle.series.specs.Sum.{at}
+use Rattle.byte_lists.specs.Lists.{cellBytes}
+use Rattle.session_bytes.specs.Layout.{blockBytes}
+use Rattle.session_bytes.specs.Lengths.{cells-length}
+use Rattle.session_bytes.proofs.Laws.{laid, laid-last}
+use borrow.Author.Needs.{needs}
+use native.Mathlib.Omega.{arith}
+use Rattle.session_bytes.proofs.put_block.Statement.{statement}
+use Rattle.session_bytes.proofs.put_block.Tie as tie
+
+put-cells-requires : tie.Need-put-cells-requires
+put-cells-requires c κs = search needs
+
+mul-put-zeros : tie.Need-mul-put-zeros
+mul-put-zeros c = search needs
+
+add-put-zeros : tie.Need-add-put-zeros
+add-put-zeros c = search needs
+
+add-put-zeros-2 : tie.Need-add-put-zeros-2
+add-put-zeros-2 c = search needs
+
+put-zeros-requires : tie.Need-put-zeros-requires
+put-zeros-requires c κs = search needs
+
+same-length : tie.Need-same-length
+same-length c = search needs
+
+returns : tie.Need-returns
+unfolding blockBytes
+returns c =
+    let a = c .before .before .before .before .before .before .before .before .before .args in
+    let q : a .place + 1024 - (a .place + a .n * 2) ≡ (512 - a .n) * 2 = omega arith in
+    laid-last (laid (a .out .now) (a .place) (cellBytes (at (a .cells .now)) (a .n)) (c .before .before .before .before .before .before .put-cells .ensures) (cells-length _ (a .n)))
+    (replicate ((512 - a .n) * 2) 0) (rw q at (c .before .before .put-zeros .ensures))
+
+pub put-block-spec : {M : Type 1} → statement M
+put-block-spec =
+    tie.close
+    (tie.spec
+    put-cells-requires
+    mul-put-zeros
+    add-put-zeros
+    add-put-zeros-2
+    put-zeros-requires
+    same-length
+    returns)

@@ -1,0 +1,49 @@
+use mir.Facts.{toZ-ofZ}
+use mir.Syntax.{w32}
+use Rattle.levels.specs.Code.{lowestTotal, decoded}
+use Rattle.little_endian.specs.Fields.{i32Bytes}
+use Rattle.little_endian.specs.Laws.{i32-length}
+use Rattle.session_bytes.specs.Layout.{totalBytes}
+use Rattle.session_bytes.proofs.Laws.{laid, laid-last}
+use borrow.Author.Needs.{needs, sfits-of}
+use Rattle.session_bytes.proofs.put_totals.Statement.{statement}
+use Rattle.session_bytes.proofs.put_totals.Tie as tie
+
+show-total-requires : tie.Need-show-total-requires
+show-total-requires c κs = search needs
+
+put-i32-requires : tie.Need-put-i32-requires
+put-i32-requires c κs = search needs
+
+add-put-i32 : tie.Need-add-put-i32
+add-put-i32 c = search needs
+
+show-total-requires-2 : tie.Need-show-total-requires-2
+show-total-requires-2 c κs = search needs
+
+put-i32-requires-2 : tie.Need-put-i32-requires-2
+put-i32-requires-2 c κs = search needs
+
+same-length : tie.Need-same-length
+same-length c = search needs
+
+returns : tie.Need-returns
+unfolding totalBytes
+returns c =
+    let a = c .before .before .before .before .before .before .before .before .before .before .before .args in
+    let low = c .before .before .before .before .before .before .before .before .show-total in
+    let high = c .before .before .before .show-total2 in
+    laid-last (laid (a .out .now) (a .place) (i32Bytes (decoded lowestTotal (a .least))) (rw (toZ-ofZ (sfits-of {w = w32} (low .ok)), low .ensures) at (c .before .before .before .before .before .before .before .put-i32 .ensures)) (i32-length _))
+    (i32Bytes (decoded lowestTotal (a .most))) (rw (toZ-ofZ (sfits-of {w = w32} (high .ok)), high .ensures) at (c .before .before .put-i322 .ensures))
+
+pub put-totals-spec : {M : Type 1} → statement M
+put-totals-spec =
+    tie.close
+    (tie.spec
+    show-total-requires
+    put-i32-requires
+    add-put-i32
+    show-total-requires-2
+    put-i32-requires-2
+    same-length
+    returns)

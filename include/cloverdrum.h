@@ -1,0 +1,183 @@
+/* Cloverdrum: the ranges of a tank profile, for the panel's firmware.
+ *
+ * A profile has 1 to 512 days. Each day has a floor and a ceiling for its setpoint, in points (hundredths of a degree Celsius); from each day to the next
+ * there is a least rise, which may be negative; and the sum of all setpoints, the total, has a floor and a ceiling. A schedule gives each day one setpoint
+ * and keeps all of this. A session holds an opened profile; for each day and for the total it has the exact range of the values that some schedule takes.
+ * Cuts narrow ranges, and after each cut every range is exact again.
+ *
+ * Sessions. A session is a byte string of CLOVERDRUM_SESSION_BYTES bytes that the caller keeps, anywhere, at any alignment. Its bytes come from
+ * cloverdrum_open and are changed by cloverdrum_cut alone. They may be copied, stored and compared: two sessions are equal exactly when their bytes are.
+ * What is promised below is for such bytes. On other bytes of that length a call still ends and stays within its lists, and its answer means nothing.
+ *
+ * Lists. A list is a byte string, given by its address and its count of bytes. Its elements have 2 bytes each, the low byte first: points and rises are
+ * signed, days are unsigned. A list of cuts has 8 bytes for each cut, as in a profile file: kind (2 bytes), day (2), value (4, signed).
+ *     "n long"          exactly 2n bytes
+ *     "at least n long" 2n bytes or more; an odd last byte counts for nothing
+ * What lies past the elements that an entry writes is left as it is. An address may be anything where its count is 0, else it must not be null. No two of
+ * the byte strings and numbers of one call may overlap, unless the call only reads both.
+ *
+ * Results. An entry returns 0, or the number of the first refusal that applies, in the order in which the entry names them. Other results are stored
+ * through pointers; beside a refusal they are 0. A refusal changes no list and no session, but for 8 at a cut, which marks the session spent.
+ *
+ * No entry allocates, keeps anything between calls, or calls anything outside itself but memcpy and memset. Two threads may call at once on
+ * different sessions. docs/PERFORMANCE.md has the stack that each entry takes.
+ */
+#ifndef CLOVERDRUM_H
+#define CLOVERDRUM_H
+
+#include <stddef.h>
+#include <stdint.h>
+
+#ifdef __cplusplus
+extern "C" {
+#endif
+
+/* Bounds of an entry. */
+#define CLOVERDRUM_MOST_DAYS 512
+#define CLOVERDRUM_MOST_CUTS 512 /* in a file */
+#define CLOVERDRUM_LOWEST_POINT (-1000)
+#define CLOVERDRUM_HIGHEST_POINT 4000
+#define CLOVERDRUM_LOWEST_RISE (-2000)
+#define CLOVERDRUM_HIGHEST_RISE 2000
+#define CLOVERDRUM_LOWEST_TOTAL (-512000)
+#define CLOVERDRUM_HIGHEST_TOTAL 2048000
+
+/* Bytes of a session, of a list for any profile, of a list for any file's cuts, and of the longest file. */
+#define CLOVERDRUM_SESSION_BYTES 5140
+#define CLOVERDRUM_LIST_BYTES (2 * CLOVERDRUM_MOST_DAYS)
+#define CLOVERDRUM_CUTS_BYTES (8 * CLOVERDRUM_MOST_CUTS)
+#define CLOVERDRUM_FILE_BYTES (16 + 6 * CLOVERDRUM_MOST_DAYS + 8 * CLOVERDRUM_MOST_CUTS)
+
+/* Refusals. */
+enum cloverdrum_refusal {
+    CLOVERDRUM_OK = 0,
+    CLOVERDRUM_BAD_COUNT = 1,         /* the day count is 0 or over 512; more than 512 cuts in a file */
+    CLOVERDRUM_BAD_LENGTH = 2,        /* a list is too short or of the wrong length; a session of another length */
+    CLOVERDRUM_BAD_POINT = 3,         /* a point outside -1,000 to 4,000 */
+    CLOVERDRUM_BAD_RISE = 4,          /* a rise outside -2,000 to 2,000 */
+    CLOVERDRUM_BAD_TOTAL = 5,         /* a total bound outside -512,000 to 2,048,000 */
+    CLOVERDRUM_BAD_RANGE = 6,         /* a floor above its ceiling, of a day or of the total */
+    CLOVERDRUM_BAD_DAY = 7,           /* a day that is not in the profile */
+    CLOVERDRUM_NO_SCHEDULE = 8,       /* no schedule exists */
+    CLOVERDRUM_SPENT = 9,             /* the session is spent: an earlier cut left no schedule */
+    CLOVERDRUM_OUTSIDE_RANGE = 10,    /* the value is outside the present range of the day or the total */
+    CLOVERDRUM_BAD_FILE = 11,         /* the file's length or an offset in it is wrong */
+    CLOVERDRUM_BAD_KIND = 12          /* an unknown kind of cut, a last rise in a file that is not 0, or a total cut whose day is not 0 */
+};
+
+/* Kinds of cut. */
+enum cloverdrum_kind {
+    CLOVERDRUM_DAY_FLOOR = 0,
+    CLOVERDRUM_DAY_CEILING = 1,
+    CLOVERDRUM_TOTAL_FLOOR = 2,
+    CLOVERDRUM_TOTAL_CEILING = 3
+};
+
+/* Rules that a schedule may break. */
+enum cloverdrum_rule {
+    CLOVERDRUM_KEPT = 0,
+    CLOVERDRUM_BROKEN_DAY = 1,
+    CLOVERDRUM_BROKEN_RISE = 2,
+    CLOVERDRUM_BROKEN_TOTAL = 3
+};
+
+/* CLOVERDRUM_SESSION_BYTES, as the library has it. */
+size_t cloverdrum_session_bytes(void);
+
+/* Opens a profile: on 0 all bytes of the session are written, with every range tightened. `rises` has the least rise from day i to day i + 1 at place i.
+ *   2   session_length is not CLOVERDRUM_SESSION_BYTES
+ *   1   days is 0 or over 512
+ *   2   floors or ceilings is not n long, or rises is not n - 1 long (n = days)
+ *   3   a floor or a ceiling is outside the bounds of a point
+ *   4   a rise is outside its bounds
+ *   5   total_floor or total_ceiling is outside its bounds
+ *   6   a day's floor is above its ceiling, or total_floor above total_ceiling
+ *   8   no schedule keeps the profile
+ * A refusal leaves every byte of the session. */
+uint8_t cloverdrum_open(uint8_t *session, size_t session_length, size_t days, const uint8_t *floors, size_t floors_length, const uint8_t *ceilings,
+                        size_t ceilings_length, const uint8_t *rises, size_t rises_length, int32_t total_floor, int32_t total_ceiling);
+
+/* Cuts one range of a session, and tightens every other: the day's setpoint, or the total, is to be at least (floors) or at most (ceilings) the value.
+ * `day` is 0 for the total's kinds. A cut that is looser than the present range is accepted and changes nothing. On 0 *changed_days is the number of days
+ * whose floor or ceiling differs from before, and the list `changed` begins with these days, each one time, in any order.
+ *   2   session_length is not CLOVERDRUM_SESSION_BYTES
+ *   12  the kind is unknown, or a total's cut has a day other than 0
+ *   7   a day's cut has a day that is not in the profile
+ *   3   the value of a day's cut is outside the bounds of a point
+ *   5   the value of a total's cut is outside the bounds of a total
+ *   2   changed is not at least n long
+ *   9   the session is spent
+ *   8   no schedule keeps the cut: the session is now spent, and shows the ranges that it had when opened
+ * A refusal leaves the list, and all but 8 leave every byte of the session. */
+uint8_t cloverdrum_cut(uint8_t *session, size_t session_length, size_t kind, size_t day, int32_t value, uint8_t *changed, size_t changed_length,
+                       size_t *changed_days);
+
+/* Reads the ranges of a session: the floor and the ceiling of each day into the lists, those of the total, and whether the session is spent (1) or not (0).
+ * A spent session shows the ranges that it had when opened.
+ *   2   session_length is not CLOVERDRUM_SESSION_BYTES
+ *   2   floors or ceilings is not at least n long
+ * A refusal leaves both lists. */
+uint8_t cloverdrum_read(const uint8_t *session, size_t session_length, uint8_t *floors, size_t floors_length, uint8_t *ceilings, size_t ceilings_length,
+                        int32_t *total_floor, int32_t *total_ceiling, uint8_t *spent);
+
+/* Writes a schedule that keeps every range and rise of the session and has this value on this day. Which one it is, is not said.
+ *   2   session_length is not CLOVERDRUM_SESSION_BYTES
+ *   2   schedule is not n long
+ *   7   the day is not in the profile
+ *   9   the session is spent
+ *   10  the value is outside the day's present range
+ * A refusal leaves the list. */
+uint8_t cloverdrum_write_day(const uint8_t *session, size_t session_length, size_t day, int32_t value, uint8_t *schedule, size_t schedule_length);
+
+/* Writes a schedule that keeps every range and rise of the session and has this sum.
+ *   2   session_length is not CLOVERDRUM_SESSION_BYTES
+ *   2   schedule is not n long
+ *   9   the session is spent
+ *   10  the value is outside the total's present range
+ * A refusal leaves the list. */
+uint8_t cloverdrum_write_total(const uint8_t *session, size_t session_length, int32_t value, uint8_t *schedule, size_t schedule_length);
+
+/* Inspects a schedule that somebody wrote. On 0 *rule says whether it is kept (CLOVERDRUM_KEPT) or which rule it breaks first: days in order, then rises in
+ * order, then the total; *place is the number of the day, or of the rise (from day *place to the next), and else 0. Days and the total are judged by the
+ * session's present ranges. Setpoints may be any numbers of 2 bytes.
+ *   2   session_length is not CLOVERDRUM_SESSION_BYTES
+ *   2   schedule is not n long
+ *   9   the session is spent */
+uint8_t cloverdrum_inspect(const uint8_t *session, size_t session_length, const uint8_t *schedule, size_t schedule_length, size_t *rule, size_t *place);
+
+/* Reads a profile file into lists that cloverdrum_open and cloverdrum_cut take: n = *days floors and ceilings, n - 1 rises, and *cuts_count cuts of 8 bytes.
+ * Values are not judged: opening and cutting do that.
+ *   11  the file has under 16 bytes
+ *   1   the day count is 0 or over 512, or there are more than 512 cuts
+ *   11  an offset in the header, or the file's length, is wrong
+ *   12  the last day's rise is not 0, a cut's kind is unknown, or a total's cut has a day other than 0
+ *   2   floors or ceilings is not at least n long, rises not at least n - 1 long, or cuts shorter than 8 bytes for each cut
+ * A refusal leaves all lists. */
+uint8_t cloverdrum_read_file(const uint8_t *file, size_t file_length, uint8_t *floors, size_t floors_length, uint8_t *ceilings, size_t ceilings_length,
+                             uint8_t *rises, size_t rises_length, uint8_t *cuts, size_t cuts_length, size_t *days, size_t *cuts_count,
+                             int32_t *total_floor, int32_t *total_ceiling);
+
+/* Writes a profile and its cuts, cuts_length / 8 of them, as a profile file. On 0 *file_bytes is the file's length. Whether a schedule exists is not judged.
+ *   1   days is 0 or over 512, or there are more than 512 cuts
+ *   2   floors or ceilings is not n long, rises is not n - 1 long (n = days), or cuts_length is no multiple of 8
+ *   3   a floor or a ceiling is outside the bounds of a point
+ *   4   a rise is outside its bounds
+ *   5   total_floor or total_ceiling is outside its bounds
+ *   6   a day's floor is above its ceiling, or total_floor above total_ceiling
+ *   then for each cut in order:
+ *   12  the kind is unknown, or a total's cut has a day other than 0
+ *   7   a day's cut has a day that is not in the profile
+ *   3   the value of a day's cut is outside the bounds of a point
+ *   5   the value of a total's cut is outside the bounds of a total
+ *   and at last:
+ *   2   file is shorter than what is to be written
+ * A refusal leaves every byte of the file. */
+uint8_t cloverdrum_write_file(size_t days, const uint8_t *floors, size_t floors_length, const uint8_t *ceilings, size_t ceilings_length,
+                              const uint8_t *rises, size_t rises_length, int32_t total_floor, int32_t total_ceiling, const uint8_t *cuts,
+                              size_t cuts_length, uint8_t *file, size_t file_length, size_t *file_bytes);
+
+#ifdef __cplusplus
+}
+#endif
+
+#endif
