@@ -157,7 +157,8 @@ uint8_t cloverdrum_read_file(const uint8_t *file, size_t file_length, uint8_t *f
                              uint8_t *rises, size_t rises_length, uint8_t *cuts, size_t cuts_length, size_t *days, size_t *cuts_count,
                              int32_t *total_floor, int32_t *total_ceiling);
 
-/* Writes a profile and its cuts, cuts_length / 8 of them, as a profile file. On 0 *file_bytes is the file's length. Whether a schedule exists is not judged.
+/* Writes a profile and its cuts, cuts_length / 8 (rounded down) of them, as a profile file. On 0 *file_bytes is the file's length. Whether a
+ * schedule exists is not judged.
  *   1   days is 0 or over 512, or there are more than 512 cuts
  *   2   floors or ceilings is not n long, rises is not n - 1 long (n = days), or cuts_length is no multiple of 8
  *   3   a floor or a ceiling is outside the bounds of a point

@@ -1,5 +1,5 @@
 -- The bytes of a session after cuts.
-use mathlib.Core.Path.{_≡_, refl, sym, ap}
+use mathlib.Core.Path.{_≡_, refl, sym, ap, _∙_}
 use mathlib.Core.Bool.{Bool, true, false, cond, _||_}
 use mathlib.Core.List.{List, [], _∷_}
 use Prim.Native.Nat.{ℕ, _/_}
@@ -12,7 +12,7 @@ use Rattle.cuts.specs.declared.Told.{Told}
 use Rattle.cutting.specs.Cutting.{afterTold}
 use Rattle.demands.specs.Cuts.{after}
 use Rattle.demands.specs.Demand1.{demand-1}
-use Rattle.session_bytes.specs.Layout.{sessionBytes, encoding}
+use Rattle.session_bytes.specs.Layout.{sessionBytes, encoding, decoding}
 use Rattle.session_bytes.specs.Lengths.{encoding-length}
 use Rattle.session_bytes.specs.Inverse.{Storable, decoding-encoding}
 use Rattle.panel.specs.Entries.{cutAnswer, cutBytes}
@@ -47,4 +47,5 @@ follow s (c ∷ hs) h =
 pub sessions-in-bytes : SessionsInBytes
 sessions-in-bytes p z hs =
     let f = follow (opened p .session) hs (opened-storable p z) in
-    record { bytes = f .0; held = rw (f .0) (decoding-encoding (after (opened p .session) (byValue hs)) (f .1)) }
+    let held : decoding (bytesAfter (encoding (opened p .session)) hs) ≡ after (opened p .session) (byValue hs) = rw (f .0) (decoding-encoding (after (opened p .session) (byValue hs)) (f .1)) in
+    record { bytes = f .0; held = held; back = ap encoding held ∙ sym (f .0) }

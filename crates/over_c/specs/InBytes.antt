@@ -24,10 +24,12 @@ abbrev pub bytesAfter : List ℕ → List HandedBytes → List ℕ
 bytesAfter b [] = b
 bytesAfter b (h ∷ hs) = bytesAfter (cutBytes b (h .told) (h .bytes)) hs
 
--- the bytes that opening wrote, after the cuts, are the encoding of the session by value after the same cuts, and hold just that session
+-- the bytes that opening wrote, after the cuts, are the encoding of the session by value after the same cuts, and hold just that session; so
+-- encoding what they hold gives them again
 pub record InBytes (p : Profile) (hs : List HandedBytes) : Type 0 where
   pub bytes : bytesAfter (encoding (opened p .session)) hs ≡ encoding (after (opened p .session) (byValue hs))
   pub held : decoding (bytesAfter (encoding (opened p .session)) hs) ≡ after (opened p .session) (byValue hs)
+  pub back : encoding (decoding (bytesAfter (encoding (opened p .session)) hs)) ≡ bytesAfter (encoding (opened p .session)) hs
 
 abbrev pub SessionsInBytes : Type 0
 SessionsInBytes = (p : Profile) → opened p .refusal ≡ 0 → (hs : List HandedBytes) → InBytes p hs

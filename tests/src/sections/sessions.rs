@@ -12,6 +12,9 @@ use crate::oracle::profile::{Profile, Range};
 use crate::oracle::SESSION_BYTES;
 use crate::random::Random;
 
+/// All lists of setpoints near a session's ranges are inspected if they are at most this many.
+const MOST_LISTS: usize = 150;
+
 struct Effort {
     operations: usize,
     /// Cuts that nearly always leave a schedule.
@@ -61,6 +64,7 @@ fn session(
         show(caller, random, &held)?;
     }
     write_schedules(caller, random, &held, effort.days_written)?;
+    inspect_box(caller, &held)?;
     other_order(caller, random, &held)
 }
 
@@ -202,6 +206,29 @@ fn inspect_written(
         let call = InspectCall {
             session_length: SESSION_BYTES,
             schedule: bytes_of(setpoints),
+        };
+        caller.inspect(held, &call)?;
+    }
+    Ok(())
+}
+
+/// Every list whose setpoints are within the shown ranges or one past them, where these are few.
+fn inspect_box(caller: &mut Caller, held: &Held) -> Checked {
+    let days = &held.oracle.shown().days;
+    let choices = |day: &Range| (day.width() + 3) as usize;
+    let lists = days.iter().map(choices).fold(1, usize::saturating_mul);
+    if lists > MOST_LISTS {
+        return Ok(());
+    }
+    for mut number in 0..lists {
+        let mut setpoints = Vec::new();
+        for day in days {
+            setpoints.push(day.floor - 1 + (number % choices(day)) as i64);
+            number /= choices(day);
+        }
+        let call = InspectCall {
+            session_length: SESSION_BYTES,
+            schedule: bytes_of(&setpoints),
         };
         caller.inspect(held, &call)?;
     }
