@@ -1,7 +1,7 @@
 -- Over C a list is a byte string of 2-byte little-endian elements, as in the file: points and rises signed, days unsigned.
 use mathlib.Core.Bool.{Bool, cond}
 use mathlib.Core.List.{List}
-use Prim.Native.Nat.{ℕ, _*_, _/_}
+use Prim.Native.Nat.{ℕ, _*_}
 use lib.IntN.{ℤ}
 use lib.Dec.{eqb}
 use lib.ListN.{length}
@@ -13,10 +13,6 @@ use Rattle.little_endian.specs.Fields.{i16At, u16Bytes, i16Bytes}
 -- n long: exactly 2n bytes
 abbrev pub isLong : List ℕ → ℕ → Bool
 isLong b n = eqb (length b) (n * 2)
-
--- how many elements there is room for: an odd last byte counts for nothing
-abbrev pub room : List ℕ → ℕ
-room b = length b / 2
 
 abbrev pub pointAt : List ℕ → ℕ → ℤ
 pointAt b k = i16At b (k * 2)

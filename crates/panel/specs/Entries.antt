@@ -1,5 +1,6 @@
 -- What the entries for C give: what the functions on sessions by value give for the session that the bytes hold. A session's bytes of another length are
--- refused with 2 before all else. Lists are given as they are, or by their counts of bytes.
+-- refused with 2 before all else. Lists are given as they are, or by their counts of bytes, of which an odd last one counts for nothing where a list may be
+-- longer than its elements ask.
 use mathlib.Core.Bool.{Bool, cond, _&&_, _||_}
 use mathlib.Core.List.{List}
 use Prim.Native.Nat.{ℕ, _/_}
