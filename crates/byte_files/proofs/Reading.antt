@@ -14,13 +14,13 @@ use Rattle.series.specs.Lent.{lentList}
 use Rattle.series.specs.Rows.{front-sets}
 use Rattle.levels.specs.Code.{on}
 use Rattle.byte_lists.specs.Lists.{pointBytes, lentPoints}
-use Rattle.byte_lists.specs.Laws.{points-stored}
+use Rattle.byte_lists.proofs.Laws.{points-stored}
 use Rattle.profile_file.specs.Format.{dayOffset, dayCount, cutCount, floorAt, ceilingAt, riseAt}
 use Rattle.profile_file.specs.Reading.{earlier}
-use Rattle.profile_file.specs.Taken.{Taken, not-refused}
+use Rattle.profile_file.proofs.Taken.{Taken, not-refused}
 use Rattle.file_reader.specs.declared.ReadAnswer.{ReadAnswer}
 use Rattle.file_reader.specs.Reading.{contents, readFrom}
-use Rattle.file_reader.specs.Laws.{read-number, read-taken}
+use Rattle.file_reader.proofs.Laws.{read-number, read-taken}
 use Rattle.byte_files.specs.declared.Contents.{Contents}
 use Rattle.byte_files.specs.Reading.{noRoom, readRefusal, refusedContents, readInto, cutsLent}
 

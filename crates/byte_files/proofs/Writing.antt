@@ -14,18 +14,18 @@ use Rattle.series.specs.ListOf.{length-listOf, get-listOf}
 use Rattle.series.specs.Part.{Part, part-rows, part-same}
 use Rattle.series.specs.Rows.{rows, length-rows, front-sets}
 use Rattle.levels.specs.Code.{on}
-use Rattle.little_endian.specs.Laws.{Bytes}
+use Rattle.little_endian.specs.Fields.{Bytes}
 use Rattle.session.specs.Profile.{Profile}
 use Rattle.session.specs.Opening.{earlier}
 use Rattle.cuts.specs.declared.Cut.the-variants.{DayFloor}
 use Rattle.cuts.specs.Sheet.{cutOn}
 use Rattle.profile_file.specs.Format.{dayOffset, fileLength, toldAt, known, header, dayBytes, cutBytes, file}
-use Rattle.profile_file.specs.Layout.{cut-length, length-file, parts-stored}
-use Rattle.profile_file.specs.WrittenBack.{cut-back}
+use Rattle.profile_file.proofs.Parts.{cut-length, length-file, parts-stored}
+use Rattle.profile_file.proofs.WrittenBack.{cut-back}
 use Rattle.file_writer.specs.declared.WriteAnswer.{WriteAnswer}
 use Rattle.byte_lists.specs.Lists.{pointsIn}
 use Rattle.byte_lists.specs.Profiles.{lengthRefusal, profileOf}
-use Rattle.byte_lists.specs.Laws.{Long, long}
+use Rattle.byte_lists.proofs.Laws.{Long, long}
 use Rattle.byte_files.specs.Writing.{toldRefusal, cutsOf, lengthsRefusal, earlierOver, refusalOver, writeOver, outputOver}
 
 -- what 1 and 2 let pass

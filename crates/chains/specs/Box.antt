@@ -1,6 +1,5 @@
 -- Bounds as they are given, against settled ones: when there is a schedule within them, and the exact ranges then.
 use mathlib.Core.Path.{_≡_}
-use mathlib.Core.Logic.{_↔_}
 use mathlib.Core.Bool.{Bool}
 use Prim.Native.Nat.{ℕ, _≤_, _<_, min, max}
 use native.Mathlib.Nat.{le-refl}
@@ -19,13 +18,6 @@ high w n g a₀ b₀ U top = ceiling w n g (settled n g a₀) (capped n top g b�
 
 abbrev pub low : (w : ℕ → Bool) (n : ℕ) (g a₀ b₀ : ℕ → ℕ) (L U top k : ℕ) → ℕ
 low w n g a₀ b₀ L U top = floorOf w n g (settled n g a₀) (high w n g a₀ b₀ U top) L top
-
--- what the settled bounds obey exactly where there is a schedule
-pub record Possible (w : ℕ → Bool) (n : ℕ) (g a₀ b₀ : ℕ → ℕ) (L U top : ℕ) : Type 0 where
-  pub fits : Below n (settled n g a₀) b₀
-  pub room : sum w n (settled n g a₀) ≤ U
-  pub order : L ≤ U
-  pub reachable : L ≤ sum w n (capped n top g b₀)
 
 -- the exact ranges of the days and of the total
 pub record Ranges (w : ℕ → Bool) (n : ℕ) (g a b : ℕ → ℕ) (L U : ℕ) (lo hi : ℕ → ℕ) (least most : ℕ) : Type 0 where
@@ -66,16 +58,6 @@ module _ (w : ℕ → Bool) (n : ℕ) (g a₀ b₀ : ℕ → ℕ) (L U top : ℕ
         most = s .most;
       }
 
-  pub necessary : (y : ℕ → ℕ) → Sched w n g a₀ b₀ L U y → Possible w n g a₀ b₀ L U top
-  necessary y s =
-      let t = inward y s in
-      record {
-        fits = λ k h. omega (arith, t .above k h, s .below k h);
-        room = omega (arith, sum-le w n a y (t .above), s .most);
-        order = omega (arith, s .least, s .most);
-        reachable = omega (arith, sum-le w n y b (t .below), s .least);
-      }
-
   module _ (gaps : (k : ℕ) → 1 ≤ g k) (fits : Below n (settled n g a₀) b₀) (room : sum w n (settled n g a₀) ≤ U) where
     ca : Chain n g a
     ca = settled-chain n g a₀
@@ -99,9 +81,6 @@ module _ (w : ℕ → Bool) (n : ℕ) (g a₀ b₀ : ℕ → ℕ) (L U top : ℕ
         (omega arith) (omega arith) (omega (arith, ab-sum)) (omega arith) in
         let up = ceil-bounds w n g gaps a b ca cb ab 0 U (omega arith) room (omega arith) top bcap (t .at) (t .sched) in
         omega (arith, sum-le w n (t .at) hi up, t .adds, sum-le w n hi b (λ k h. best n g w a b ca cb ab U room k h .most))
-
-    pub reach-kept : L ≤ U → (L ≤ sum w n (capped n top g b₀)) ↔ (L ≤ sum w n (high w n g a₀ b₀ U top))
-    reach-kept order = omega (arith, total-kept)
 
     module _ (order : L ≤ U) (reachable : L ≤ sum w n (capped n top g b₀)) where
       totals : Spans (Sched w n g a₀ b₀ L U) (sum w n) (max L (sum w n a)) (min U (sum w n b))

@@ -1,4 +1,4 @@
--- The first tank: no largest rises. Floors are settled by carrying them forward, and each ceiling is worked out from the next day's.
+-- The first tank: no largest rises. Each ceiling is worked out from the next day's.
 use mathlib.Core.Path.{_≡_}
 use mathlib.Core.Bool.{Bool}
 use Prim.Native.Nat.{ℕ, suc, _+_, _-_, _≤_, _<_, min}
@@ -8,14 +8,8 @@ use Rattle.chains.specs.Sum.{sum}
 use Rattle.chains.specs.Chain.{Chain, Below}
 use Rattle.chains.specs.Fit.{Fitted}
 use Rattle.chains.specs.Ceilings.{through, cost, ceiling, best, ceiling-bounds, ceiling-chain, through-chain, through-above, through-at, chain-up}
-use Rattle.chains.specs.Settle.{forward, Greatest, settled, forward-above, settled-least, settled-over}
+use Rattle.chains.specs.Settle.{Greatest}
 use Rattle.chains.specs.Rounds.{free, overload, cost-overload, reach-free}
-
--- with no largest rises floors carried forward are settled
-pub settled-free : (n : ℕ) (a : ℕ → ℕ) → Below n (forward a) free → (k : ℕ) → k < n → settled n free a k ≡ forward a k
-settled-free n a small k h =
-    let chain : Chain n free (forward a) = record { up = λ j l. omega arith; near = λ j l. omega (arith, small (suc j) l) } in
-    omega (arith, settled-over n free a k h, settled-least n free a (forward a) chain (λ j l. forward-above n free a j) k h)
 
 module _ (w : ℕ → Bool) (n : ℕ) (a b₀ b : ℕ → ℕ) (small : Below n b₀ free) (ca : Chain n free a) (bs : Greatest n free b₀ b)
     (fits : Below n a b₀) (U : ℕ) (room : sum w n a ≤ U) where

@@ -8,12 +8,12 @@ use Rattle.chains.specs.Mirror.{mirror, flip, steps, mirror-below, mirro
 use Rattle.chains.specs.Floors.{unmirror}
 
 -- floors carried forward: each at least the one before
-abbrev pub forward : (ℕ → ℕ) → ℕ → ℕ
+abbrev forward : (ℕ → ℕ) → ℕ → ℕ
 forward a zero = a zero
 forward a (suc k) = max (a (suc k)) (forward a k)
 
 -- and back over d days: each no more than the largest rise below the next
-abbrev pub back : (g a : ℕ → ℕ) (d k : ℕ) → ℕ
+abbrev back : (g a : ℕ → ℕ) (d k : ℕ) → ℕ
 back g a zero k = a k
 back g a (suc d) k = max (a k) (back g a d (suc k) - g k)
 
@@ -25,7 +25,7 @@ module _ (n : ℕ) (g : ℕ → ℕ) where
   forward-least a y cy ay zero h = ay zero h
   forward-least a y cy ay (suc k) h = omega (arith, forward-least a y cy ay k (omega arith), cy .up k h, ay (suc k) h)
 
-  pub forward-above : (a : ℕ → ℕ) (k : ℕ) → a k ≤ forward a k
+  forward-above : (a : ℕ → ℕ) (k : ℕ) → a k ≤ forward a k
   forward-above a zero = le-refl (a zero)
   forward-above a (suc k) = omega arith
 
@@ -48,11 +48,6 @@ module _ (n : ℕ) (g : ℕ → ℕ) where
   pub settled-above : (a : ℕ → ℕ) → Below n a (settled n g a)
   unfolding settled
   settled-above a k h = omega (arith, forward-above a k, back-above (forward a) (n - suc k) k)
-
-  -- carried forward they are no higher
-  pub settled-over : (a : ℕ → ℕ) → Below n (forward a) (settled n g a)
-  unfolding settled
-  settled-over a k h = back-above (forward a) (n - suc k) k
 
   pub settled-chain : (a : ℕ → ℕ) → Chain n g (settled n g a)
   unfolding settled

@@ -9,7 +9,7 @@ use lib.ListN.{length, set, length-set, length-append}
 use lib.Seq.{drop-cons, set-append-seam}
 use Rattle.series.specs.Front.{inFront}
 use Rattle.changes.specs.Changes.{daysWhere}
-use Rattle.changes.specs.Laws.{days-few, days-more}
+use Rattle.changes.proofs.Days.{days-few, days-more}
 
 -- `out` is l with the days ds in front, `count` of them
 pub record Front (ds l : List ℕ) (count : ℕ) (out : List ℕ) : Type 0 where

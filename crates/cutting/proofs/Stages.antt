@@ -9,7 +9,7 @@ use lib.Dec.{eqb, ltb}
 use lib.ListN.{length}
 use borrow.Author.Tests.{eq-eqb, ne-eqb, lt-ltb, le-ltb}
 use Rattle.levels.specs.Code.{lowestPoint, highestPoint, lowestTotal, highestTotal, within, code, coded}
-use Rattle.levels.specs.Laws.{point-most}
+use Rattle.levels.proofs.Laws.{point-most}
 use Rattle.levels.specs.declared.Coded.the-variants.{Code, Outside}
 use Rattle.method.specs.Filter.{Tight, tightened}
 use Rattle.session.specs.Opening.{rangesOf}
@@ -25,7 +25,7 @@ use Rattle.cutting.specs.Cutting.{dayRefusal, totalRefusal, malformed, e
 use Rattle.cutting.specs.declared.AfterCut.{AfterCut}
 use Rattle.cutting.specs.declared.Checked.{Checked}
 use Rattle.cutting.specs.Stages.{checkedValue, checked, DayClips, Clips}
-use Rattle.cutting.specs.Laws.{day-formed, total-formed, earlier-none, refused-same, accepted, refused-list, accepted-list, clipped-in-bounds}
+use Rattle.cutting.proofs.Laws.{day-formed, total-formed, earlier-none, refused-same, accepted, refused-list, accepted-list, clipped-in-bounds}
 
 -- ---- check
 

@@ -1,15 +1,4 @@
 pub mod Cuts
 pub mod Demands
 pub mod Starred
-pub mod Bridge
-pub mod Clip
-pub mod Right
-pub mod Fold
-pub mod Changed
-pub mod Demand1
-pub mod Demand2
-pub mod Demand3
 pub mod Schedules
-pub mod Inspected
-pub mod Reached
-pub mod Written

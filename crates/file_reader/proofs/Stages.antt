@@ -14,13 +14,13 @@ use Rattle.series.specs.First.{firstWhere}
 use Rattle.series.specs.Checks.{cond-zero}
 use Rattle.series.specs.Lent.{lentList, list-left, list-filled}
 use Rattle.little_endian.specs.Fields.{u16At}
-use Rattle.little_endian.specs.Laws.{zero-field}
+use Rattle.little_endian.proofs.Laws.{zero-field}
 use Rattle.profile_file.specs.Format.{dayOffset, fileLength, dayCount, cutCount, daysOffset, cutsOffset, floorAt, ceilingAt, riseAt, toldAt}
 use Rattle.profile_file.specs.Reading.{badCounts, badLayout, badFields, badCut, earlier, refusal}
-use Rattle.profile_file.specs.Taken.{counted, laid}
+use Rattle.profile_file.proofs.Taken.{counted, laid}
 use Rattle.file_reader.specs.declared.ReadAnswer.{ReadAnswer}
 use Rattle.file_reader.specs.Reading.{refusedRead, contents, readFrom}
-use Rattle.file_reader.specs.Laws.{Room, read-all}
+use Rattle.file_reader.proofs.Laws.{Room, read-all}
 
 -- ---- store_days
 

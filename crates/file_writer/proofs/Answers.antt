@@ -10,14 +10,14 @@ use Rattle.series.specs.First.{firstNonzero, nonzero-same, nonzero-none}
 use Rattle.series.specs.Rows.{rows, rows-same, front-sets}
 use Rattle.session.specs.Profile.{Profile}
 use Rattle.session.specs.Opening as Opening
-use Rattle.session.specs.Entered.{entered}
+use Rattle.session.proofs.Entered.{entered}
 use Rattle.cuts.specs.declared.Sheet.{Sheet}
 use Rattle.cuts.specs.Sheet.{blank, cutOn, cutsOf, dayOf}
-use Rattle.cuts.specs.Laws.{length-cutsOf, cutOn-cutsOf}
+use Rattle.cuts.proofs.Laws.{length-cutsOf, cutOn-cutsOf}
 use Rattle.cutting.specs.Cutting.{malformed}
-use Rattle.cutting.specs.Laws.{formed-day}
+use Rattle.cutting.proofs.Laws.{formed-day}
 use Rattle.profile_file.specs.Format.{dayOffset, fileLength, header, cutBytes, dayRow, file}
-use Rattle.profile_file.specs.Layout.{length-file, parts-stored}
+use Rattle.profile_file.proofs.Parts.{length-file, parts-stored}
 use Rattle.profile_file.specs.Writing.{earlier, refusal}
 use Rattle.file_writer.specs.declared.WriteAnswer.{WriteAnswer}
 use Rattle.file_writer.specs.Writing.{writeAnswer, output}

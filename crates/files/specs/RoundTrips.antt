@@ -7,7 +7,7 @@ use lib.IntN.{ℤ}
 use lib.ListN.{length, take}
 use Rattle.series.specs.Front.{inFront}
 use Rattle.series.specs.Lent.{lentList}
-use Rattle.little_endian.specs.Laws.{Bytes}
+use Rattle.little_endian.specs.Fields.{Bytes}
 use Rattle.session.specs.Profile.{Profile}
 use Rattle.session.specs.Opening.{profile}
 use Rattle.cuts.specs.declared.Cut.{Cut}

@@ -13,13 +13,13 @@ use Rattle.series.specs.First.{first-same}
 use Rattle.chains.specs.Sum.{sum, all}
 use Rattle.method.specs.Filter.{zeros}
 use Rattle.levels.specs.Code.{lowestPoint, lowestRise, lowestTotal, lowestSetpoint, highestSetpoint, within, code, decoded, on, firstOutside}
-use Rattle.levels.specs.Offset.{Less, less-shift, less-add}
-use Rattle.levels.specs.Laws.{point-less, rise-less, total-less, setpoint-less, decoded-less, within-less, first-before}
-use Rattle.levels.specs.Order.{less-test, within-test}
+use Rattle.levels.proofs.Offset.{Less, less-shift, less-add}
+use Rattle.levels.proofs.Laws.{point-less, rise-less, total-less, setpoint-less, decoded-less, within-less, first-before}
+use Rattle.levels.proofs.Order.{less-test, within-test}
 use Rattle.session.specs.Profile.{total}
 use Rattle.session.specs.Opening.{codes}
-use Rattle.session.specs.Entered.{codes-at}
-use Rattle.session.specs.Lists as Lists
+use Rattle.session.proofs.Entered.{codes-at}
+use Rattle.session.proofs.Lists as Lists
 use Rattle.session.specs.Showing.{floorOn, ceilingOn, riseOn, totalFloor, totalCeiling}
 use Rattle.session.specs.declared.Session.{Session}
 use Rattle.inspection.specs.Inspecting.{brokenDay, brokenRise, brokenTotal, judged}

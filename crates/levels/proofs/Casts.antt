@@ -13,9 +13,9 @@ use mir.Syntax.{Width, w16, w32, w64}
 use mir.Val.{Fits, SFits, toZ, ofZ, hbits}
 use mir.Facts.{toZ-ofZ, toZ-pos, sfits-widen, not-T}
 use Rattle.levels.specs.declared.Coded.the-variants.{Code, Outside}
-use Rattle.levels.specs.Offset.{Less}
+use Rattle.levels.proofs.Offset.{Less}
 use Rattle.levels.specs.Code.{lowestPoint, lowestSetpoint, highestSetpoint, within, code, decoded, coded}
-use Rattle.levels.specs.Laws.{point-less, code-difference, code-most, decoded-less, within-yes}
+use Rattle.levels.proofs.Laws.{point-less, code-difference, code-most, decoded-less, within-yes}
 
 -- a number of 32 bits, read back from its bits
 abbrev pub seen : ℤ → ℤ

@@ -1,2 +1,5 @@
 pub mod Casts
 pub mod Loops
+pub mod Laws
+pub mod Offset
+pub mod Order

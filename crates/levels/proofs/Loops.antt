@@ -14,7 +14,7 @@ use Rattle.series.specs.First.{first-only, Nowhere, nowhere-none, nowhere-more}
 use Rattle.levels.specs.declared.Coded.{Coded}
 use Rattle.levels.specs.declared.Coded.the-variants.{Code, Outside}
 use Rattle.levels.specs.Code.{lowestPoint, lowestSetpoint, highestSetpoint, within, code, decoded, on, firstOutside, coded}
-use Rattle.levels.specs.Laws.{code-most, coded-code, coded-outside}
+use Rattle.levels.proofs.Laws.{code-most, coded-code, coded-outside}
 use Rattle.levels.proofs.Casts.{seen, recast, setpoint-within, point-fits}
 
 -- what `encode` ensures

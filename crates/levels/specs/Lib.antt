@@ -1,4 +1,1 @@
-pub mod Offset
 pub mod Code
-pub mod Laws
-pub mod Order

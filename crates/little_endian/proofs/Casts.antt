@@ -1,5 +1,5 @@
 -- A pattern of bits as a signed number, and a signed number's bits, at any width: the sums and casts of `signed_16`, `signed_32`, `bits_16` and `bits_32`.
-use Prim.Native.Nat.{ℕ, suc, _+_, _-_, _≤_, _<_, _^_}
+use Prim.Native.Nat.{ℕ, suc, _+_, _-_, _%_, _≤_, _<_, _^_}
 use mathlib.Core.Path.{_≡_, refl, _∙_}
 use mathlib.Core.Bool.{true, false}
 use native.Mathlib.Omega.{arith}
@@ -9,7 +9,7 @@ use lib.Dec.{T}
 use borrow.Author.Tests.{ltb-true, lt-ltb, le-ltb}
 use mir.Syntax.{Width, w8, w16, w32, w64, w128}
 use mir.Val.{Fits, SFits, toZ, ofZ, bits, hbits}
-use mir.Facts.{toZ-ofZ, toZ-pos, sfits-toZ, fits-ofZ}
+use mir.Facts.{toZ-ofZ, toZ-pos, sfits-toZ, fits-ofZ, sfits-widen}
 
 -- the bits of the lowest number: the highest bit alone
 abbrev half : Width → ℕ
@@ -94,3 +94,19 @@ module _ (w : Width) {z : ℤ} (f : SFits w z) where
 
     pub whole-fits : T (nonNeg seen) × Fits w (natAbs seen)
     whole-fits = (same-whole .0, rw whole-bits (fits-ofZ f))
+
+-- ---- a number of 16 bits, widened: its bits are the lowest of the wider ones
+
+low-bits : (z : ℤ) → SFits w16 z → ofZ w32 z % 65536 ≡ ofZ w16 z
+low-bits (pos a) f = omega (arith, f .sfits)
+low-bits (negsuc a) f = omega (arith, f .sfits)
+
+module _ {z : ℤ} (f : SFits w16 z) where
+  wide : SFits w32 z
+  wide = sfits-widen {w = w16} tt f
+
+  pub widened-fits : SFits w32 (toZ w16 (ofZ w16 z))
+  widened-fits = rw (toZ-ofZ f) wide
+
+  pub widened-bits : {r : ℕ} → r ≡ ofZ w32 (toZ w32 (ofZ w32 (toZ w16 (ofZ w16 z)))) → r % 65536 ≡ ofZ w16 z
+  widened-bits e = rw (e, toZ-ofZ f, toZ-ofZ wide) (low-bits z f)

@@ -1,10 +1,14 @@
 -- Document 01's fields of a file: little-endian, of 2 or 4 bytes, a signed one in two's complement.
 use mathlib.Core.List.{List, [], _∷_, _++_}
-use Prim.Native.Nat.{ℕ, _+_, _*_, _/_, _%_}
+use Prim.Native.Nat.{ℕ, _+_, _*_, _/_, _%_, _<_}
 use lib.IntN.{ℤ}
 use mir.Syntax.{w16, w32}
 use mir.Val.{toZ, ofZ}
 use Rattle.series.specs.Sum.{at}
+
+-- a list of bytes: numbers of 8 bits
+pub record Bytes (b : List ℕ) : Type 0 where
+  pub small : (k : ℕ) → at b k < 256
 
 -- the unsigned field that begins at a place of a file's bytes
 unfoldable pub u16At : List ℕ → ℕ → ℕ

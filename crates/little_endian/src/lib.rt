@@ -43,15 +43,6 @@ fn signed_32(x: u32) -> i32
 }
 
 // The number's bits.
-fn bits_16(z: i16) -> u16
-    ensures { λ r. ⌜ r ≡ ofZ w16 z ⌝ }
-{
-    if z < 0 {
-        return (z - LOWEST_I16) as u16 + 32768;
-    }
-    z as u16
-}
-
 fn bits_32(z: i32) -> u32
     ensures { λ r. ⌜ r ≡ ofZ w32 z ⌝ }
 {
@@ -59,6 +50,13 @@ fn bits_32(z: i32) -> u32
         return (z - LOWEST_I32) as u32 + 2147483648;
     }
     z as u32
+}
+
+// The lowest 16 bits of the same number at 32 bits.
+fn bits_16(z: i16) -> u16
+    ensures { λ r. ⌜ r ≡ ofZ w16 z ⌝ }
+{
+    (bits_32(z as i32) % 65536) as u16
 }
 
 // ---- read

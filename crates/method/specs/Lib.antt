@@ -2,5 +2,3 @@ pub mod Shift
 pub mod Filter
 pub mod Stages
 pub mod Levels
-pub mod Passes
-pub mod Exact

@@ -4,7 +4,7 @@ use mathlib.Core.List.{List}
 use Prim.Native.Nat.{ℕ, _-_, _/_}
 use lib.IntN.{ℤ}
 use lib.ListN.{length, take, drop}
-use Rattle.little_endian.specs.Laws.{Bytes}
+use Rattle.little_endian.specs.Fields.{Bytes}
 use Rattle.profile_file.specs.Format.{dayOffset, floorAt, ceilingAt, riseAt}
 use Rattle.profile_file.specs.Reading.{earlier}
 use Rattle.byte_lists.specs.Lists.{pointBytes}

@@ -1,5 +1,2 @@
 pub mod InBytes
 pub mod FilesInBytes
-pub mod Storable
-pub mod Bytes
-pub mod Files

@@ -18,19 +18,19 @@ use Rattle.levels.specs.Code.{on}
 use Rattle.session.specs.Showing.{Sane, shown, listTooShort, floorOn, ceilingOn}
 use Rattle.session.specs.declared.Session.{Session}
 use Rattle.session.specs.declared.Shown.{Shown}
-use Rattle.session.proofs.Shows.{first-short, second-short, both-long}
+use Rattle.session.proofs.Shows.{first-short, second-short}
 use Rattle.cuts.specs.declared.Told.{Told}
 use Rattle.cuts.specs.declared.Told.the-variants.{Known, Unknown}
 use Rattle.cutting.specs.Cutting.{earlier, afterCut, afterTold, changedDays, listAfter}
-use Rattle.cutting.specs.Laws.{accepted-list, told-accepted, told-sane, Accepted}
+use Rattle.cutting.proofs.Laws.{accepted-list, told-accepted, told-sane, Accepted}
 use Rattle.cutting.specs.declared.AfterCut.{AfterCut}
 use Rattle.cutting.specs.declared.CutAnswer.{CutAnswer}
 use Rattle.schedules.specs.Writing.{dayRefusal, totalRefusal, dayWritten, totalWritten}
 use Rattle.inspection.specs.Inspecting.{Finding, refused, inspected}
 use Rattle.byte_lists.specs.Lists.{isLong, pointAt, pointBytes, cellBytes, lentPoints}
-use Rattle.byte_lists.specs.Laws.{held, lent-at, points-front, cells-front, points-stored, points-left, points-filled}
+use Rattle.byte_lists.proofs.Laws.{held, lent-at, points-front, cells-front, points-left, points-filled}
 use Rattle.session_bytes.specs.Layout.{sessionBytes, encoding, decoding}
-use Rattle.session_bytes.specs.Inverse.{decoding-sane}
+use Rattle.session_bytes.proofs.Inverse.{decoding-sane}
 use Rattle.panel.specs.Entries.{isSession, cutAnswer, cutBytes, changedBytes, shownOver, refusalFor, setpointFor, writeRefusal, inspectedOver}
 use Rattle.panel.specs.declared.Subject.{Subject}
 use Rattle.panel.specs.declared.Subject.the-variants.{Day, Total}
@@ -120,7 +120,44 @@ module _ (b : List ℕ) (t : Told) (l : List ℕ) (h : length b ≡ sessionBytes
       rw (eq-eqb (length b) sessionBytes h, ← e, z)
       (refl, (g, cells-front (at days) (at (part ++ rest)) (length days) l (λ k u. rw q (front-still days front rest k u)) room (rw (a .counted) at f)))
 
+-- ---- points stored from a scratch array of which a part was lent
+
+-- what stands in the array, where m of its places were lent and n are filled
+lent-front : {refusal n m : ℕ} (f : ℕ → ℤ) {part : List ℤ} (rest : List ℤ) → refusal ≡ 0 → n ≤ m → m ≤ 512 → part ≡ lentList refusal f n (take m blanks)
+    → (k : ℕ) → k < n → on (part ++ rest) k ≡ f k
+lent-front {refusal} {n} {m} f {part} rest z few most e k u =
+    let long = length-take-le m blanks (omega (arith, length-replicate 512 (pos 0))) in
+    let whole : length part ≡ m = ap length (e ∙ list-filled refusal f n (take m blanks) z) ∙ length-written f n (take m blanks) ∙ long in
+    List·getD-append part rest (pos 0) k (omega arith) ∙ lent-at f (take m blanks) z (omega arith) e k u
+
+part-stored : {refusal n m : ℕ} (f : ℕ → ℤ) (l : List ℕ) {part : List ℤ} (rest : List ℤ) {out : List ℕ} → refusal ≡ 0 → n ≤ m → m ≤ 512 → n * 2 ≤ length l
+    → part ≡ lentList refusal f n (take m blanks) → out ≡ sets l 0 (pointBytes (on (part ++ rest)) n) → out ≡ lentPoints refusal f n l
+part-stored {refusal} {n} f l {part} rest z few most room e o =
+    rw (points-filled refusal f n l z) (points-front f (on (part ++ rest)) n l (lent-front f rest z few most e) room o)
+
 -- ---- showing
+
+-- of the lists' lengths only whether they are long enough matters
+pub show-room : (b : List ℕ) {s : Session} {r : Shown} {low high : ℕ} (floors ceilings : ℕ) → s ≡ decoding b → low ≡ min 512 floors → high ≡ min 512 ceilings
+    → r ≡ shown s (length (take low blanks)) (length (take high blanks)) → r ≡ shown (decoding b) floors ceilings
+unfolding shown
+show-room b {s} {r} {low} {high} floors ceilings d u v e =
+    let size = length-replicate 512 (pos 0) in
+    let few = held-few b refl in
+    rw (length-take-le low blanks (omega arith), length-take-le high blanks (omega arith), d, u, v, least-room (decoding b .days) floors few, least-room (decoding b .days) ceilings few) at e
+
+-- both lists are long enough where nothing is refused
+pub show-fits : (b : List ℕ) (floors ceilings : ℕ) {s : Session} {r : Shown} → s ≡ decoding b → r ≡ shown (decoding b) (floors / 2) (ceilings / 2) → r .refusal ≡ 0
+    → (s .days ≤ 512) × ((s .days * 2 ≤ floors) × (s .days * 2 ≤ ceilings))
+show-fits b floors ceilings {s} d e z = go (decLt (floors / 2) (s .days)) (decLt (ceilings / 2) (s .days))
+  where
+    short : listTooShort ≡ shown s (floors / 2) (ceilings / 2) → ⊥
+    short f = let x : _≡_ {A = ℕ} 2 0 = ap (λ (a : Shown). a .refusal) (f ∙ rw (← d) at (sym e)) ∙ z in absurd (omega arith)
+
+    go : Dec (floors / 2 < s .days) → Dec (ceilings / 2 < s .days) → (s .days ≤ 512) × ((s .days * 2 ≤ floors) × (s .days * 2 ≤ ceilings))
+    go (yes l) m = absurd (short (first-short s (floors / 2) (ceilings / 2) l))
+    go (no l) (yes m) = absurd (short (second-short s (floors / 2) (ceilings / 2) m))
+    go (no l) (no m) = (held-few b d, (omega arith, omega arith))
 
 module _ (b fs cs : List ℕ) where
   -- what is given, and both lists afterwards
@@ -130,35 +167,26 @@ module _ (b fs cs : List ℕ) where
       × ((floors ≡ lentPoints (r .refusal) (floorOn (decoding b)) (decoding b .days) fs)
       × (ceilings ≡ lentPoints (r .refusal) (ceilingOn (decoding b)) (decoding b .days) cs))
 
-  show-short : {r : Shown} → r ≡ listTooShort → listTooShort ≡ shownOver b (length fs) (length cs) → Shows r fs cs
-  show-short e f = rw (e, points-left 2 _ _ fs (λ z. absurd (omega arith)), points-left 2 _ _ cs (λ z. absurd (omega arith))) (f, (refl, refl))
-
-  pub show-unread : {r : Shown} → r ≡ listTooShort → (length b ≡ sessionBytes → ⊥) → Shows r fs cs
+  pub show-unread : (length b ≡ sessionBytes → ⊥) → Shows listTooShort fs cs
   unfolding shownOver
-  show-unread e h = show-short e (rw (ne-eqb (length b) sessionBytes h) refl)
+  show-unread h =
+      (rw (ne-eqb (length b) sessionBytes h) refl, (sym (points-left 2 _ _ fs (λ z. absurd (omega arith))), sym (points-left 2 _ _ cs (λ z. absurd (omega arith)))))
 
-module _ (b fs cs : List ℕ) (h : length b ≡ sessionBytes) {s : Session} (d : s ≡ decoding b) where
-  read : shownOver b (length fs) (length cs) ≡ shown s (length fs / 2) (length cs / 2)
+module _ (b fs cs : List ℕ) {r : Shown} (e : r ≡ shown (decoding b) (length fs / 2) (length cs / 2)) where
+  given : length b ≡ sessionBytes → r ≡ shownOver b (length fs) (length cs)
   unfolding shownOver
-  read = rw (eq-eqb (length b) sessionBytes h, d) refl
+  given h = rw (eq-eqb (length b) sessionBytes h) e
 
-  pub show-first-short : {r : Shown} → r ≡ listTooShort → length fs / 2 < s .days → Shows b fs cs r fs cs
-  show-first-short e l = show-short b fs cs e (first-short s (length fs / 2) (length cs / 2) l ∙ sym read)
+  pub show-refused : length b ≡ sessionBytes → (r .refusal ≡ 0 → ⊥) → Shows b fs cs r fs cs
+  show-refused h x = (given h, (sym (points-left (r .refusal) _ _ fs x), sym (points-left (r .refusal) _ _ cs x)))
 
-  pub show-second-short : {r : Shown} → r ≡ listTooShort → length cs / 2 < s .days → Shows b fs cs r fs cs
-  show-second-short e l = show-short b fs cs e (second-short s (length fs / 2) (length cs / 2) l ∙ sym read)
-
-  pub show-all : {r : Shown} {low high : List ℤ} {floors ceilings : List ℕ} → s .days ≤ length fs / 2 → s .days ≤ length cs / 2 → r ≡ shown s 512 512
-      → low ≡ lentList (r .refusal) (floorOn s) (s .days) blanks → high ≡ lentList (r .refusal) (ceilingOn s) (s .days) blanks
-      → floors ≡ sets fs 0 (pointBytes (on low) (s .days)) → ceilings ≡ sets cs 0 (pointBytes (on high) (s .days)) → Shows b fs cs r floors ceilings
-  show-all {r} u v e low high floors ceilings =
-      let most = held-few b d in
-      let f = e ∙ sym (both-long s 512 512 most most) in
-      let z : r .refusal ≡ 0 = ap (λ (x : Shown). x .refusal) f in
-      rw (← d, points-filled (r .refusal) (floorOn s) (s .days) fs z, points-filled (r .refusal) (ceilingOn s) (s .days) cs z) (
-        f ∙ both-long s (length fs / 2) (length cs / 2) u v ∙ sym read,
-        (points-stored (floorOn s) (s .days) fs z low most (omega arith) floors, points-stored (ceilingOn s) (s .days) cs z high most (omega arith) ceilings),
-      )
+  pub show-all : length b ≡ sessionBytes → r .refusal ≡ 0 → {s : Session} → s ≡ decoding b → {low high : ℕ} → low ≡ min 512 (length fs / 2) → high ≡ min 512 (length cs / 2)
+      → {first second : List ℤ} (rest more : List ℤ) → first ≡ lentList (r .refusal) (floorOn s) (s .days) (take low blanks) → second ≡ lentList (r .refusal) (ceilingOn s) (s .days) (take high blanks)
+      → {floors ceilings : List ℕ} → floors ≡ sets fs 0 (pointBytes (on (first ++ rest)) (s .days)) → ceilings ≡ sets cs 0 (pointBytes (on (second ++ more)) (s .days)) → Shows b fs cs r floors ceilings
+  show-all h z {s} d {low} {high} u v rest more first second floors ceilings =
+      let fits = show-fits b (length fs) (length cs) d e z in
+      rw (← d)
+      (given h, (part-stored {m = low} (floorOn s) fs rest z (omega arith) (omega arith) (fits .1 .0) first floors, part-stored {m = high} (ceilingOn s) cs more z (omega arith) (omega arith) (fits .1 .1) second ceilings))
 
 -- ---- schedules
 
@@ -190,14 +218,6 @@ module _ (b l : List ℕ) {s : Session} (h : length b ≡ sessionBytes) (d : s �
   unfolding both
   session-and-list e = rw (eq-eqb (length b) sessionBytes h, ← d) (eq-eqb (length l) (s .days * 2) e)
 
--- what stands in an array of which the first n places were lent
-lent-front : {refusal n : ℕ} (f : ℕ → ℤ) {part : List ℤ} (rest : List ℤ) → refusal ≡ 0 → n ≤ 512 → part ≡ lentList refusal f n (take n blanks)
-    → (k : ℕ) → k < n → on (part ++ rest) k ≡ f k
-lent-front {refusal} {n} f {part} rest z h e k u =
-    let long = length-take-le n blanks (omega (arith, length-replicate 512 (pos 0))) in
-    let whole : length part ≡ n = ap length (e ∙ list-filled refusal f n (take n blanks) z) ∙ length-written f n (take n blanks) ∙ long in
-    List·getD-append part rest (pos 0) k (omega arith) ∙ lent-at f (take n blanks) z (omega arith) e k u
-
 module _ (b : List ℕ) (subject : Subject) (value : ℤ) (l : List ℕ) where
   -- what is given, and the list afterwards
   abbrev Writes : ℕ → List ℕ → Type 0
@@ -217,9 +237,9 @@ module _ (b : List ℕ) (subject : Subject) (value : ℤ) (l : List ℕ) where
 
     pub write-all : {part : List ℤ} (rest : List ℤ) {out : List ℕ} → r ≡ 0 → length l ≡ s .days * 2
         → part ≡ lentList r (setpointFor s subject value) (s .days) (take (s .days) blanks) → out ≡ sets l 0 (pointBytes (on (part ++ rest)) (s .days)) → Writes 0 out
-    write-all {part} rest z n p o =
-        let f = setpointFor s subject value in
-        (sym z ∙ refusal, rw (← d, points-filled 0 f (s .days) l refl) (points-front f (on (part ++ rest)) (s .days) l (lent-front f rest z (held-few b d) p) (omega arith) o))
+    write-all rest z n p o =
+        let few = held-few b d in
+        (sym z ∙ refusal, rw (← d) (rw z at (part-stored {m = s .days} (setpointFor s subject value) l rest z (omega arith) few (omega arith) p o)))
 
 module _ (b l : List ℕ) where
   pub inspect-unread : both b l ≡ false → refused 2 ≡ inspectedOver b l

@@ -5,7 +5,7 @@ ghost use mathlib.Core.Bool.{cond};
 ghost use Prim.Native.Nat.{_-_};
 ghost use lib.ListN.{length};
 ghost use Rattle.cuts.specs.Told.{told};
-ghost use Rattle.session.specs.Showing.{floorOn, ceilingOn, listTooShort, Sane};
+ghost use Rattle.session.specs.Showing.{floorOn, ceilingOn, Sane};
 ghost use Rattle.session.specs.Opening.{opened};
 ghost use Rattle.series.specs.Lent.{lentList};
 ghost use Rattle.inspection.specs.Inspecting.{finding};
@@ -160,36 +160,29 @@ pub extern "C" fn cloverdrum_cut(
 
 // ---- showing
 
-fn too_short() -> Shown
-    ensures { λ r. ⌜ r ≡ listTooShort ⌝ }
-{
-    Shown {
-        refusal: 2,
-        least: 0,
-        most: 0,
-        spent: false,
-    }
-}
-
 fn show(session: &[u8], floors: &mut [u8], ceilings: &mut [u8]) -> Shown
     ensures { λ r. ⌜ r ≡ shownOver (now (session .entry)) (length (now (floors .entry))) (length (now (ceilings .entry))) ⌝ }
     ensures { λ r. ⌜ now (floors .exit) ≡ lentPoints (r .refusal) (floorOn (decoding (now (session .entry)))) (decoding (now (session .entry)) .days) (now (floors .entry)) ⌝ }
     ensures { λ r. ⌜ now (ceilings .exit) ≡ lentPoints (r .refusal) (ceilingOn (decoding (now (session .entry)))) (decoding (now (session .entry)) .days) (now (ceilings .entry)) ⌝ }
 {
     if session.len() != SESSION_BYTES {
-        return too_short();
+        return Shown {
+            refusal: 2,
+            least: 0,
+            most: 0,
+            spent: false,
+        };
     }
     let held = decode(session);
     let n = held.days;
-    if floors.len() / 2 < n {
-        return too_short();
-    }
-    if ceilings.len() / 2 < n {
-        return too_short();
-    }
     let mut low = [0i16; 512];
     let mut high = [0i16; 512];
-    let shown = held.show(&mut low, &mut high);
+    let low_room = least(512, floors.len() / 2);
+    let high_room = least(512, ceilings.len() / 2);
+    let shown = held.show(&mut low[..low_room], &mut high[..high_room]);
+    if shown.refusal != 0 {
+        return shown;
+    }
     put_points(&low, n, floors);
     put_points(&high, n, ceilings);
     shown

@@ -17,7 +17,7 @@ fn drop_rest() {
 }
 
 fn main() {
-    // One byte more than the longest file that is not refused for its length. Of a longer input these bytes are enough (`printed-long`, report's specs/Longer).
+    // One byte more than the longest file that is not refused for its length. Of a longer input these bytes are enough (`printed-long`, report's proofs/Longer).
     let mut file = [0u8; 7185];
     let length = io::read_full(STDIN_FILENO, &mut file);
     drop_rest();

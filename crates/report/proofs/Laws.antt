@@ -22,7 +22,7 @@ use Rattle.report.specs.declared.Stage.{Stage}
 use Rattle.report.specs.declared.Stage.the-variants.{Passed, Refused}
 use Rattle.report.specs.Stages.{stageOf}
 use Rattle.report.specs.Printing.{cutOnce, cutAll, dayLine}
-use Rattle.report.specs.Laws.{all-none, all-more}
+use Rattle.report.proofs.Lines.{all-none, all-more}
 
 -- ---- the cuts
 

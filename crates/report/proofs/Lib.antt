@@ -1,2 +1,4 @@
 pub mod Laws
 pub mod Reading
+pub mod Lines
+pub mod Longer

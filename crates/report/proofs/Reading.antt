@@ -11,9 +11,9 @@ use Rattle.session.specs.Opening.{profile}
 use Rattle.cuts.specs.Sheet.{cutsOf}
 use Rattle.profile_file.specs.Format.{dayCount, cutCount, floorAt, ceilingAt, riseAt, profileIn, cutsIn}
 use Rattle.profile_file.specs.Reading.{earlier}
-use Rattle.profile_file.specs.Taken.{not-refused}
+use Rattle.profile_file.proofs.Taken.{not-refused}
 use Rattle.file_reader.specs.Reading.{sheetFrom, contents, readFrom}
-use Rattle.file_reader.specs.Laws.{read-taken, sheet-cuts}
+use Rattle.file_reader.proofs.Laws.{read-taken, sheet-cuts}
 use Rattle.file_reader.specs.declared.ReadAnswer.{ReadAnswer}
 
 -- what is handed on of a file that is not refused: its profile and its cuts

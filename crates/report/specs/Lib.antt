@@ -1,4 +1,2 @@
 pub mod Printing
 pub mod Stages
-pub mod Laws
-pub mod Longer

@@ -1,2 +1,4 @@
 pub mod Laws
 pub mod Stages
+pub mod Raising
+pub mod Supported

@@ -13,9 +13,9 @@ use Rattle.series.specs.Sum.{at}
 use Rattle.series.specs.Written.{written, length-written, written-below, written-past}
 use Rattle.levels.specs.Code.{lowestPoint, highestPoint, lowestTotal, highestTotal, within, code, decoded, coded}
 use Rattle.levels.specs.declared.Coded.{Coded}
-use Rattle.levels.specs.Offset.{Less, less-le}
-use Rattle.levels.specs.Laws.{point-less, total-less, code-decoded, decoded-code, decoded-less, code-most, within-yes, within-no, within-less}
-use Rattle.levels.specs.Order.{≤ℤ-trans, within-test}
+use Rattle.levels.proofs.Offset.{Less, less-le}
+use Rattle.levels.proofs.Laws.{point-less, total-less, code-decoded, decoded-code, decoded-less, code-most, within-yes, within-no, within-less}
+use Rattle.levels.proofs.Order.{≤ℤ-trans, within-test}
 use Rattle.method.specs.Filter.{InBounds, carried, firstCrossed}
 use Rattle.method.specs.Levels.{refit, refit-day}
 use Rattle.method.specs.Stages.{crossing}

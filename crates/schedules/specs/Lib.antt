@@ -1,4 +1,2 @@
 pub mod Writing
-pub mod Raising
-pub mod Supported
 pub mod Stages

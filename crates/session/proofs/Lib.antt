@@ -1,3 +1,6 @@
 pub mod Stages
 pub mod Checks
 pub mod Shows
+pub mod Entered
+pub mod Lists
+pub mod Sanity

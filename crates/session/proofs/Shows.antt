@@ -9,7 +9,7 @@ use mir.Syntax.{w32}
 use mir.Val.{toZ, ofZ}
 use mir.Facts.{toZ-ofZ}
 use Rattle.levels.specs.Code.{lowestTotal, decoded}
-use Rattle.levels.specs.Laws.{decoded-less, total-less}
+use Rattle.levels.proofs.Laws.{decoded-less, total-less}
 use Rattle.levels.proofs.Casts.{less-fits}
 use lib.Dec.{ltb}
 use borrow.Author.Tests.{lt-ltb, le-ltb}
@@ -17,7 +17,7 @@ use Rattle.series.specs.Lent.{lentList, list-left}
 use Rattle.session.specs.Showing.{shown, listTooShort, totalFloor, totalCeiling}
 use Rattle.session.specs.declared.Session.{Session}
 use Rattle.session.specs.declared.Shown.{Shown}
-use Rattle.session.specs.Entered.{or-true}
+use Rattle.session.proofs.Entered.{or-true}
 
 module _ (s : Session) (a b : ℕ) where
   pub first-short : a < s .days → listTooShort ≡ shown s a b

@@ -9,7 +9,7 @@ use Rattle.series.specs.Sum.{at}
 use Rattle.method.specs.Filter.{Tight, tightened, firstCrossed}
 use Rattle.session.specs.Opening.{openedWith, refusedWith, fresh, rangesOf}
 use Rattle.session.specs.Stages.{openedCodes}
-use Rattle.session.specs.Entered.{or-true}
+use Rattle.session.proofs.Entered.{or-true}
 
 module _ (fs cs rs : List ℕ) (n L U : ℕ) {r : ℕ} (first : r ≡ firstCrossed (at fs) (at cs) n) where
   abbrev crossed-days : Bool

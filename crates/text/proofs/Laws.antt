@@ -17,7 +17,7 @@ use mir.Facts.{toZ-ofZ, not-T}
 use borrow.Author.Tests.{le-ltb}
 use Rattle.series.specs.Rows.{sets-append}
 use Rattle.text.specs.Numbers.{decimal, number}
-use Rattle.text.specs.Laws.{decimal-small, decimal-large}
+use Rattle.text.proofs.Digits.{decimal-small, decimal-large}
 
 -- what stands before the last digit of n is stored: with that digit stored too all of n is
 pub record Led (n place : ℕ) (l : List ℕ) (next : ℕ) (out : List ℕ) : Type 0 where

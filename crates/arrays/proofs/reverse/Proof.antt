@@ -17,33 +17,6 @@ abbrev μ-loop : tie.MeasureT-loop
 loop-holds : tie.Need-loop-holds Inv-loop μ-loop
 loop-holds c = filled-none
 
-add-loop : tie.Need-add-loop Inv-loop μ-loop
-add-loop c = search needs
-
-add-into : tie.Need-add-into Inv-loop μ-loop
-add-into c = search needs
-
-sub-into : tie.Need-sub-into Inv-loop μ-loop
-sub-into c = search needs
-
-mul-into : tie.Need-mul-into Inv-loop μ-loop
-mul-into c = search needs
-
-element-copy-out-into : tie.Need-element-copy-out-into Inv-loop μ-loop
-element-copy-out-into c = search needs
-
-mul-into-2 : tie.Need-mul-into-2 Inv-loop μ-loop
-mul-into-2 c = search needs
-
-element-write-into : tie.Need-element-write-into Inv-loop μ-loop
-element-write-into c = search needs
-
-add-k : tie.Need-add-k Inv-loop μ-loop
-add-k c = search needs
-
-loop-less : tie.Need-loop-less Inv-loop μ-loop
-loop-less c = search needs
-
 loop-again : tie.Need-loop-again Inv-loop μ-loop
 loop-again c = filled-more (c .before .before .loop .inv) (omega arith) refl
 
@@ -57,14 +30,14 @@ reverse-spec =
     Inv-loop
     μ-loop
     loop-holds
-    add-loop
-    add-into
-    sub-into
-    mul-into
-    element-copy-out-into
-    mul-into-2
-    element-write-into
-    add-k
-    loop-less
+    (search needs)
+    (search needs)
+    (search needs)
+    (search needs)
+    (search needs)
+    (search needs)
+    (search needs)
+    (search needs)
+    (search needs)
     loop-again
     returns)

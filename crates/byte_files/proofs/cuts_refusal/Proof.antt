@@ -19,23 +19,8 @@ by-told c = c .told-refusal .ensures ∙ ap (toldRefusal _) (c .before .told-at 
 loop-holds : tie.Need-loop-holds Inv-loop μ-loop
 loop-holds c = nowhere-none
 
-mul-told-at : tie.Need-mul-told-at Inv-loop μ-loop
-mul-told-at c = search needs
-
-told-at-requires : tie.Need-told-at-requires Inv-loop μ-loop
-told-at-requires c κs = search needs
-
-told-refusal-requires : tie.Need-told-refusal-requires Inv-loop μ-loop
-told-refusal-requires c κs = search needs
-
 returns : tie.Need-returns Inv-loop μ-loop
 returns c = let e = by-told (c .before) in e ∙ nonzero-here _ (c .before .before .before .before .loop .inv) (c .before .before .before .loop-test .taken) (λ h. c .if1 .taken (e ∙ h))
-
-add-j : tie.Need-add-j Inv-loop μ-loop
-add-j c = search needs
-
-loop-less : tie.Need-loop-less Inv-loop μ-loop
-loop-less c = search needs
 
 loop-again : tie.Need-loop-again Inv-loop μ-loop
 loop-again c = nowhere-more (c .before .before .before .before .loop .inv) (c .before .before .before .loop-test .taken) (zero-fails _ (sym (by-told (c .before)) ∙ c .if1 .left))
@@ -50,11 +35,11 @@ cuts-refusal-spec =
     Inv-loop
     μ-loop
     loop-holds
-    mul-told-at
-    told-at-requires
-    told-refusal-requires
+    (search needs)
+    (search needs)
+    (search needs)
     returns
-    add-j
-    loop-less
+    (search needs)
+    (search needs)
     loop-again
     returns-2)

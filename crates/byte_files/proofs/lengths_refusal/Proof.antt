@@ -9,9 +9,6 @@ returns : tie.Need-returns
 unfolding lengthsRefusal
 returns c = simp (lt-ltb _ _ (c .if1 .taken))
 
-length-refusal-requires : tie.Need-length-refusal-requires
-length-refusal-requires c κs = search needs
-
 returns-2 : tie.Need-returns-2
 unfolding lengthsRefusal
 returns-2 c = rw (le-ltb _ _ (c .before .before .if1 .left), ← c .before .length-refusal .ensures, ne-eqb _ _ (c .if2 .taken)) refl
@@ -25,4 +22,4 @@ unfolding lengthsRefusal
 returns-4 c = rw (le-ltb _ _ (c .before .before .before .if1 .left), ← c .before .before .length-refusal .ensures, eq-eqb _ _ (c .before .if2 .left), eq-eqb _ _ (c .if3 .left)) refl
 
 pub lengths-refusal-spec : {M : Type 1} → statement M
-lengths-refusal-spec = tie.close (tie.spec returns length-refusal-requires returns-2 returns-3 returns-4)
+lengths-refusal-spec = tie.close (tie.spec returns (search needs) returns-2 returns-3 returns-4)

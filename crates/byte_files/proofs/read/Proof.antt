@@ -28,35 +28,14 @@ count c = c .wide .ensures .0 ∙ c .before .u16-at .ensures
 room : (c : tie.Else2) → Room (c .before .before .before .before .before .before .before .before .before .read .result .days) (c .before .before .wide .result) (length (c .before .before .before .before .before .before .before .before .before .before .before .before .before .before .before .before .before .before .args .floors .now)) (length (c .before .before .before .before .before .before .before .before .before .before .before .before .before .before .before .before .before .before .args .ceilings .now)) (length (c .before .before .before .before .before .before .before .before .before .before .before .before .before .before .before .before .before .before .args .rises .now)) (length (c .before .before .before .before .before .before .before .before .before .before .before .before .before .before .before .before .before .before .args .cuts .now))
 room c = roomy _ _ _ _ _ _ (sym (c .before .has-no-room .ensures) ∙ c .if2 .left)
 
-slice-aggregate-read : tie.Need-slice-aggregate-read
-slice-aggregate-read c = search needs
-
-slice-aggregate-read-2 : tie.Need-slice-aggregate-read-2
-slice-aggregate-read-2 c = search needs
-
-slice-aggregate-read-3 : tie.Need-slice-aggregate-read-3
-slice-aggregate-read-3 c = search needs
-
-read-requires : tie.Need-read-requires
-read-requires c κs = search needs
-
-refused-requires : tie.Need-refused-requires
-refused-requires c κs = search needs
-
 returns : tie.Need-returns
 returns c = bad-file _ _ _ _ _ (c .before .before .before .before .before .before .read .ensures .0) (c .before .if1 .taken) (c .refused .ensures)
 
 u16-at-requires : tie.Need-u16-at-requires
 u16-at-requires c κs = omega (arith, here c .taken .whole)
 
-wide-requires : tie.Need-wide-requires
-wide-requires c κs = search needs
-
 has-no-room-requires : tie.Need-has-no-room-requires
 has-no-room-requires c κs = (omega (arith, here (c .before .before) .days, here (c .before .before) .taken .some), omega (arith, count c, here (c .before .before) .taken .fewCuts))
-
-refused-requires-2 : tie.Need-refused-requires-2
-refused-requires-2 c κs = search needs
 
 returns-2 : tie.Need-returns-2
 returns-2 c = too-short _ _ _ _ _ (here (c .before .before .before .before .before)) (count (c .before .before .before)) (sym (c .before .before .has-no-room .ensures) ∙ c .before .if2 .taken) (c .refused2 .ensures)
@@ -82,18 +61,6 @@ add-put-rest c = omega (arith, few (c .before .before .before .before .before .b
 put-rest-requires : tie.Need-put-rest-requires
 put-rest-requires c κs = let w = here (c .before .before .before .before .before .before .before .before .before .before .before .before .before .before .before .before .before .before .before .before) .taken .whole in let d = here (c .before .before .before .before .before .before .before .before .before .before .before .before .before .before .before .before .before .before .before .before) .days in (omega arith, omega (arith, count (c .before .before .before .before .before .before .before .before .before .before .before .before .before .before .before .before .before .before), room (c .before .before .before .before .before .before .before .before .before .before .before .before .before .before .before .before) .cuts-long))
 
-same-length : tie.Need-same-length
-same-length c = search needs
-
-same-length-2 : tie.Need-same-length-2
-same-length-2 c = search needs
-
-same-length-3 : tie.Need-same-length-3
-same-length-3 c = search needs
-
-same-length-4 : tie.Need-same-length-4
-same-length-4 c = search needs
-
 returns-3 : tie.Need-returns-3
 returns-3 c = read-all _ _ _ _ _ (here (c .before .before .before .before .before .before .before .before .before .before .before .before .before .before .before .before .before .before .before .before .before .before .before .before .before)) (count (c .before .before .before .before .before .before .before .before .before .before .before .before .before .before .before .before .before .before .before .before .before .before .before)) (sym (c .before .before .before .before .before .before .before .before .before .before .before .before .before .before .before .before .before .before .before .before .before .before .has-no-room .ensures) ∙ c .before .before .before .before .before .before .before .before .before .before .before .before .before .before .before .before .before .before .before .before .before .if2 .left) (toZ-ofZ (sfits-of {w = w32} (c .struct-told2 .given .1 .1 .0 .1))) (toZ-ofZ (sfits-of {w = w32} (c .struct-told2 .given .1 .1 .1 .0 .1))) (c .before .before .before .before .before .before .before .before .before .before .before .before .before .before .before .before .before .before .before .before .before .before .before .before .before .before .before .before .before .before .read .ensures .1 .0) (c .before .before .before .before .before .before .before .before .before .before .before .before .before .before .before .before .before .before .put-points .ensures) (c .before .before .before .before .before .before .before .before .before .before .before .before .before .before .before .before .before .before .before .before .before .before .before .before .before .before .before .before .before .before .read .ensures .1 .1 .0) (c .before .before .before .before .before .before .before .before .before .before .before .before .before .put-points2 .ensures) (c .before .before .before .before .before .before .before .before .before .before .before .before .before .before .before .before .before .before .before .before .before .before .before .before .before .before .before .before .before .before .read .ensures .1 .1 .1) (c .before .before .before .before .before .before .before .before .put-points3 .ensures) (c .before .before .before .before .put-rest .ensures)
 
@@ -101,16 +68,16 @@ pub read-spec : {M : Type 1} → statement M
 read-spec =
     tie.close
     (tie.spec
-    slice-aggregate-read
-    slice-aggregate-read-2
-    slice-aggregate-read-3
-    read-requires
-    refused-requires
+    (search needs)
+    (search needs)
+    (search needs)
+    (search needs)
+    (search needs)
     returns
     u16-at-requires
-    wide-requires
+    (search needs)
     has-no-room-requires
-    refused-requires-2
+    (search needs)
     returns-2
     put-points-requires
     put-points-requires-2
@@ -119,8 +86,8 @@ read-spec =
     mul-put-rest
     add-put-rest
     put-rest-requires
-    same-length
-    same-length-2
-    same-length-3
-    same-length-4
+    (search needs)
+    (search needs)
+    (search needs)
+    (search needs)
     returns-3)

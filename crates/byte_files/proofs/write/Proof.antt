@@ -6,7 +6,7 @@ use mir.Facts.{toZ-ofZ}
 use borrow.Author.Needs.{needs}
 use Rattle.session.specs.Opening.{earlier}
 use Rattle.byte_lists.specs.Profiles.{profileOf}
-use Rattle.byte_lists.specs.Laws.{Held, held}
+use Rattle.byte_lists.proofs.Laws.{Held, held}
 use Rattle.byte_files.proofs.Writing.{Sized, sized, Checked, bad-lengths, bad-profile, bad-cut, too-short, written}
 use Rattle.byte_files.proofs.write.Statement.{statement}
 use Rattle.byte_files.proofs.write.Tie as tie
@@ -36,12 +36,6 @@ checked c = record {
   profile = sym (by-opening (c .before .before .before)) ∙ c .before .before .if2 .left;
   formed = sym (c .before .cuts-refusal .ensures) ∙ c .if3 .left;
 }
-
-lengths-refusal-requires : tie.Need-lengths-refusal-requires
-lengths-refusal-requires c κs = search needs
-
-refuse-requires : tie.Need-refuse-requires
-refuse-requires c κs = search needs
 
 returns : tie.Need-returns
 returns c = bad-lengths _ _ _ _ _ _ _ _ (c .before .if1 .taken) (c .refuse .ensures) (c .before .before .lengths-refusal .ensures)
@@ -79,20 +73,11 @@ array-share-prefix-steps c = steps (c .before .before) .room
 slice-aggregate-profile-refusal-3 : tie.Need-slice-aggregate-profile-refusal-3
 slice-aggregate-profile-refusal-3 c = steps (c .before .before .before) .long
 
-profile-refusal-requires : tie.Need-profile-refusal-requires
-profile-refusal-requires c κs = search needs
-
-refuse-requires-2 : tie.Need-refuse-requires-2
-refuse-requires-2 c κs = search needs
-
 returns-2 : tie.Need-returns-2
 returns-2 c = bad-profile _ _ _ _ _ _ _ _ (c .before .if2 .taken) (c .refuse2 .ensures) (sym (c .before .before .before .before .before .before .before .before .before .before .before .before .before .lengths-refusal .ensures) ∙ c .before .before .before .before .before .before .before .before .before .before .before .before .if1 .left) (by-opening (c .before .before))
 
 cuts-refusal-requires : tie.Need-cuts-refusal-requires
 cuts-refusal-requires c κs = (sizes (c .before .before .before .before .before .before .before .before .before .before .before) .few, omega arith)
-
-refuse-requires-3 : tie.Need-refuse-requires-3
-refuse-requires-3 c κs = search needs
 
 returns-3 : tie.Need-returns-3
 returns-3 c = bad-cut _ _ _ _ _ _ _ _ (c .before .if3 .taken) (c .refuse3 .ensures) (sym (c .before .before .before .before .before .before .before .before .before .before .before .before .before .before .before .lengths-refusal .ensures) ∙ c .before .before .before .before .before .before .before .before .before .before .before .before .before .before .if1 .left) (sym (by-opening (c .before .before .before .before)) ∙ c .before .before .before .if2 .left) (c .before .before .cuts-refusal .ensures)
@@ -108,9 +93,6 @@ mul-length c = omega (arith, sizes (c .before .before .before .before .before .b
 
 add-length : tie.Need-add-length
 add-length c = let s = sizes (c .before .before .before .before .before .before .before .before .before .before .before .before .before) in omega (arith, s .lists .few, s .few)
-
-refuse-requires-4 : tie.Need-refuse-requires-4
-refuse-requires-4 c κs = search needs
 
 returns-4 : tie.Need-returns-4
 returns-4 c = too-short _ _ _ _ _ _ _ _ (checked (c .before .before)) (omega (arith, c .before .if4 .taken)) (c .refuse4 .ensures)
@@ -145,9 +127,6 @@ put-days-requires c κs = (low (c .before .before .before .before .before .befor
 put-rest-requires : tie.Need-put-rest-requires
 put-rest-requires c κs = (omega arith, omega (arith, sizes (c .before .before .before .before .before .before .before .before .before .before .before .before .before .before .before .before .before .before .before .before .before .before .before .before .before .before) .whole, c .before .before .before .put-days .kept, c .before .before .before .before .before .before .before .before .before .before .put-header .kept, c .before .before .before .before .before .before .before .before .before .before .before .before .if4 .left))
 
-same-length : tie.Need-same-length
-same-length c = search needs
-
 returns-5 : tie.Need-returns-5
 returns-5 c = written _ _ _ _ _ _ _ _ (checked (c .before .before .before .before .before .before .before .before .before .before .before .before .before .before .before .before)) (record { small = λ k. omega (arith, c .before .before .before .before .before .before .before .before .before .before .before .before .before .before .before .before .before .before .before .before .before .before .before .before .before .before .before .before .before .before .before .before .shared-slice-known4 .given k) }) (c .before .before .before .before .before .before .before .before .before .before .before .before .before .before .before .if4 .left) (low (c .before .before .before .before .before .before .before .before .before .before .before .before .before .before .before .before .before .before .before .before .before .before .before .before .before .before .before) .same) (high (c .before .before .before .before .before .before .before .before .before .before .before .before .before .before .before .before .before .before .before .before .before .before .before .before .before) .same) (steps (c .before .before .before .before .before .before .before .before .before .before .before .before .before .before .before .before .before .before .before .before .before .before .before) .same) (rw (toZ-ofZ (c .before .before .before .before .before .before .before .before .before .before .before .before .before .before .before .before .before .before .before .before .before .before .before .before .before .before .before .before .before .before .before .before .before .before .before .before .fits .lowest), toZ-ofZ (c .before .before .before .before .before .before .before .before .before .before .before .before .before .before .before .before .before .before .before .before .before .before .before .before .before .before .before .before .before .before .before .before .before .before .before .before .fits .highest)) at (c .before .before .before .before .before .before .before .before .before .before .before .before .before .put-header .ensures)) (c .before .before .before .before .before .before .put-days .ensures) (c .before .before .put-rest .ensures)
 
@@ -155,8 +134,8 @@ pub write-spec : {M : Type 1} → statement M
 write-spec =
     tie.close
     (tie.spec
-    lengths-refusal-requires
-    refuse-requires
+    (search needs)
+    (search needs)
     returns
     points-requires
     points-requires-2
@@ -169,17 +148,17 @@ write-spec =
     sub-steps
     array-share-prefix-steps
     slice-aggregate-profile-refusal-3
-    profile-refusal-requires
-    refuse-requires-2
+    (search needs)
+    (search needs)
     returns-2
     cuts-refusal-requires
-    refuse-requires-3
+    (search needs)
     returns-3
     mul-from
     add-from
     mul-length
     add-length
-    refuse-requires-4
+    (search needs)
     returns-4
     put-header-requires
     array-share-prefix-low-2
@@ -191,5 +170,5 @@ write-spec =
     slice-aggregate-put-days-3
     put-days-requires
     put-rest-requires
-    same-length
+    (search needs)
     returns-5)

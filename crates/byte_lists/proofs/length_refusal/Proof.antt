@@ -13,9 +13,6 @@ returns-2 : tie.Need-returns-2
 unfolding lengthRefusal
 returns-2 c = simp (ne-eqb _ _ (c .before .if1 .left), lt-ltb _ _ (c .if2 .taken))
 
-have-lengths-requires : tie.Need-have-lengths-requires
-have-lengths-requires c κs = search needs
-
 returns-3 : tie.Need-returns-3
 unfolding lengthRefusal
 returns-3 c = simp (ne-eqb _ _ (c .before .before .before .if1 .left), le-ltb _ _ (c .before .before .if2 .left), sym (c .before .have-lengths .ensures) ∙ not-true _ (c .if3 .taken))
@@ -25,4 +22,4 @@ unfolding lengthRefusal
 returns-4 c = simp (ne-eqb _ _ (c .before .before .before .if1 .left), le-ltb _ _ (c .before .before .if2 .left), sym (c .before .have-lengths .ensures) ∙ not-false _ (c .if3 .left))
 
 pub length-refusal-spec : {M : Type 1} → statement M
-length-refusal-spec = tie.close (tie.spec returns returns-2 have-lengths-requires returns-3 returns-4)
+length-refusal-spec = tie.close (tie.spec returns returns-2 (search needs) returns-3 returns-4)

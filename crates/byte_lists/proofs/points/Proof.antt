@@ -17,24 +17,6 @@ abbrev μ-loop : tie.MeasureT-loop
 loop-holds : tie.Need-loop-holds Inv-loop μ-loop
 loop-holds c = filled-none
 
-mul-i16-at : tie.Need-mul-i16-at Inv-loop μ-loop
-mul-i16-at c = search needs
-
-i16-at-requires : tie.Need-i16-at-requires Inv-loop μ-loop
-i16-at-requires c κs = search needs
-
-mul-t8 : tie.Need-mul-t8 Inv-loop μ-loop
-mul-t8 c = search needs
-
-element-set-from-out : tie.Need-element-set-from-out Inv-loop μ-loop
-element-set-from-out c = search needs
-
-add-k : tie.Need-add-k Inv-loop μ-loop
-add-k c = search needs
-
-loop-less : tie.Need-loop-less Inv-loop μ-loop
-loop-less c = search needs
-
 loop-again : tie.Need-loop-again Inv-loop μ-loop
 loop-again c = filled-more (c .before .before .loop .inv) (c .before .loop-test .taken) (toZ-ofZ {w = w16} (sfits-of (c .i16-at .ok)) ∙ c .i16-at .ensures)
 
@@ -48,11 +30,11 @@ points-spec =
     Inv-loop
     μ-loop
     loop-holds
-    mul-i16-at
-    i16-at-requires
-    mul-t8
-    element-set-from-out
-    add-k
-    loop-less
+    (search needs)
+    (search needs)
+    (search needs)
+    (search needs)
+    (search needs)
+    (search needs)
     loop-again
     returns)

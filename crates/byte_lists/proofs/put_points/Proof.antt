@@ -3,7 +3,7 @@ use mir.Facts.{toZ-ofZ}
 use mir.Syntax.{w16}
 use Rattle.levels.specs.Code.{on}
 use Rattle.little_endian.specs.Fields.{i16Bytes}
-use Rattle.little_endian.specs.Laws.{i16-length}
+use Rattle.little_endian.proofs.Laws.{i16-length}
 use Rattle.byte_lists.specs.Lists.{pointBytes}
 use Rattle.series.specs.Rows.{Stored, stored-none, stored-more, stored-all}
 use borrow.Author.Needs.{needs, sfits-of}
@@ -20,29 +20,8 @@ abbrev μ-loop : tie.MeasureT-loop
 loop-holds : tie.Need-loop-holds Inv-loop μ-loop
 loop-holds c = stored-none
 
-mul-put-i16 : tie.Need-mul-put-i16 Inv-loop μ-loop
-mul-put-i16 c = search needs
-
-mul-put-i16-2 : tie.Need-mul-put-i16-2 Inv-loop μ-loop
-mul-put-i16-2 c = search needs
-
-element-copy-out-put-i16 : tie.Need-element-copy-out-put-i16 Inv-loop μ-loop
-element-copy-out-put-i16 c = search needs
-
-put-i16-requires : tie.Need-put-i16-requires Inv-loop μ-loop
-put-i16-requires c κs = search needs
-
-add-k : tie.Need-add-k Inv-loop μ-loop
-add-k c = search needs
-
-loop-less : tie.Need-loop-less Inv-loop μ-loop
-loop-less c = search needs
-
 loop-again : tie.Need-loop-again Inv-loop μ-loop
 loop-again c = stored-more (c .before .before .before .before .before .before .loop .inv) (c .before .before .before .before .before .loop-test .taken) (rw (toZ-ofZ (sfits-of {w = w16} (c .before .before .before .put-i16-arg2 .given))) at (c .before .before .put-i16 .ensures), omega (arith, i16-length (on (c .before .before .before .before .before .before .before .before .args .points .now) (c .before .before .before .before .before .before .loop .k))))
-
-same-length : tie.Need-same-length Inv-loop μ-loop
-same-length c = search needs
 
 returns : tie.Need-returns Inv-loop μ-loop
 unfolding pointBytes
@@ -55,12 +34,12 @@ put-points-spec =
     Inv-loop
     μ-loop
     loop-holds
-    mul-put-i16
-    mul-put-i16-2
-    element-copy-out-put-i16
-    put-i16-requires
-    add-k
-    loop-less
+    (search needs)
+    (search needs)
+    (search needs)
+    (search needs)
+    (search needs)
+    (search needs)
     loop-again
-    same-length
+    (search needs)
     returns)

@@ -11,21 +11,6 @@ overload-of-requires c κs = round-overload (c .pre)
 sub-excess : tie.Need-sub-excess
 sub-excess c = omega (arith, round-over (c .before .pre) (c .overload-of .ensures))
 
-add-wide : tie.Need-add-wide
-add-wide c = search needs
-
-sub-wide : tie.Need-sub-wide
-sub-wide c = search needs
-
-mul-wide : tie.Need-mul-wide
-mul-wide c = search needs
-
-element-copy-out-wide : tie.Need-element-copy-out-wide
-element-copy-out-wide c = search needs
-
-wide-requires : tie.Need-wide-requires
-wide-requires c κs = search needs
-
 add-room : tie.Need-add-room
 add-room c = omega (arith, round-room (c .before .before .before .before .pre) (c .before .wide .ensures .0))
 
@@ -34,9 +19,6 @@ sub-room c = omega (arith, round-room (c .before .before .before .before .before
 
 step-of-requires : tie.Need-step-of-requires
 step-of-requires c κs = omega (arith, round-overload (c .before .before .before .before .before .pre) .0, round-excess (c .before .before .before .before .before .pre) (c .before .before .before .before .overload-of .ensures), c .before .before .before .before .before .pre .found .run .some)
-
-sub-low : tie.Need-sub-low
-sub-low c = search needs
 
 settle-requires : tie.Need-settle-requires
 settle-requires c κs = (c .before .before .before .before .before .before .before .pre .carried, round-days (c .before .before .before .before .before .before .before .pre) (c .before .step-of .result))
@@ -50,14 +32,14 @@ round-spec =
     (tie.spec
     overload-of-requires
     sub-excess
-    add-wide
-    sub-wide
-    mul-wide
-    element-copy-out-wide
-    wide-requires
+    (search needs)
+    (search needs)
+    (search needs)
+    (search needs)
+    (search needs)
     add-room
     sub-room
     step-of-requires
-    sub-low
+    (search needs)
     settle-requires
     returns)

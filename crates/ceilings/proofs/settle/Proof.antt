@@ -16,21 +16,6 @@ abbrev μ-loop : tie.MeasureT-loop
 loop-holds : tie.Need-loop-holds Inv-loop μ-loop
 loop-holds c = c .pre .1
 
-add-wide : tie.Need-add-wide Inv-loop μ-loop
-add-wide c = search needs
-
-sub-wide : tie.Need-sub-wide Inv-loop μ-loop
-sub-wide c = search needs
-
-mul-wide : tie.Need-mul-wide Inv-loop μ-loop
-mul-wide c = search needs
-
-element-copy-out-wide : tie.Need-element-copy-out-wide Inv-loop μ-loop
-element-copy-out-wide c = search needs
-
-wide-requires : tie.Need-wide-requires Inv-loop μ-loop
-wide-requires c κs = search needs
-
 add-top : tie.Need-add-top Inv-loop μ-loop
 add-top c = omega (arith, end-most (c .before .before .before .before .pre .0) (c .before .before .before .loop .inv))
 
@@ -40,29 +25,8 @@ returns c = (refl, days-found (c .before .before .before .before .before .pre .0
 sub-s : tie.Need-sub-s Inv-loop μ-loop
 sub-s c = omega (arith, days-last (c .before .before .before .before .before .pre .0) (c .before .before .before .before .loop .inv), c .before .before .before .before .loop .inv .run .last, c .before .wide .ensures .0)
 
-sub-c : tie.Need-sub-c Inv-loop μ-loop
-sub-c c = search needs
-
-add-wide-2 : tie.Need-add-wide-2 Inv-loop μ-loop
-add-wide-2 c = search needs
-
-sub-wide-2 : tie.Need-sub-wide-2 Inv-loop μ-loop
-sub-wide-2 c = search needs
-
-mul-wide-2 : tie.Need-mul-wide-2 Inv-loop μ-loop
-mul-wide-2 c = search needs
-
-element-copy-out-wide-2 : tie.Need-element-copy-out-wide-2 Inv-loop μ-loop
-element-copy-out-wide-2 c = search needs
-
-wide-requires-2 : tie.Need-wide-requires-2 Inv-loop μ-loop
-wide-requires-2 c κs = search needs
-
 shift-before-requires : tie.Need-shift-before-requires Inv-loop μ-loop
 shift-before-requires c κs = (end-most (c .before .before .before .before .before .before .before .pre .0) (c .before .before .before .before .before .before .loop .inv), c .wide2 .ensures .1, omega (arith, end-least (c .before .before .before .before .before .before .before .pre .0) (c .before .before .before .before .before .before .loop .inv) (c .before .before .before .before .before .loop-test .taken)))
-
-loop-less : tie.Need-loop-less Inv-loop μ-loop
-loop-less c = search needs
 
 loop-again : tie.Need-loop-again Inv-loop μ-loop
 loop-again c = days-drop (c .before .before .before .before .before .before .before .before .pre .0) (c .before .before .before .before .before .before .before .loop .inv) (c .before .before .before .before .before .before .loop-test .taken) (c .before .before .before .before .wide .ensures .0) (c .before .before .before .if1 .left) (c .before .wide2 .ensures .0) (c .shift-before .ensures)
@@ -77,21 +41,21 @@ settle-spec =
     Inv-loop
     μ-loop
     loop-holds
-    add-wide
-    sub-wide
-    mul-wide
-    element-copy-out-wide
-    wide-requires
+    (search needs)
+    (search needs)
+    (search needs)
+    (search needs)
+    (search needs)
     add-top
     returns
     sub-s
-    sub-c
-    add-wide-2
-    sub-wide-2
-    mul-wide-2
-    element-copy-out-wide-2
-    wide-requires-2
+    (search needs)
+    (search needs)
+    (search needs)
+    (search needs)
+    (search needs)
+    (search needs)
     shift-before-requires
-    loop-less
+    (search needs)
     loop-again
     returns-2)

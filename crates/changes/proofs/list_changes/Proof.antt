@@ -16,44 +16,8 @@ abbrev μ-loop : tie.MeasureT-loop
 loop-holds : tie.Need-loop-holds Inv-loop μ-loop
 loop-holds c = listed-none
 
-mul-differs : tie.Need-mul-differs Inv-loop μ-loop
-mul-differs c = search needs
-
-element-copy-out-differs : tie.Need-element-copy-out-differs Inv-loop μ-loop
-element-copy-out-differs c = search needs
-
-mul-differs-2 : tie.Need-mul-differs-2 Inv-loop μ-loop
-mul-differs-2 c = search needs
-
-element-copy-out-differs-2 : tie.Need-element-copy-out-differs-2 Inv-loop μ-loop
-element-copy-out-differs-2 c = search needs
-
-mul-differs-3 : tie.Need-mul-differs-3 Inv-loop μ-loop
-mul-differs-3 c = search needs
-
-element-copy-out-differs-3 : tie.Need-element-copy-out-differs-3 Inv-loop μ-loop
-element-copy-out-differs-3 c = search needs
-
-mul-differs-4 : tie.Need-mul-differs-4 Inv-loop μ-loop
-mul-differs-4 c = search needs
-
-element-copy-out-differs-4 : tie.Need-element-copy-out-differs-4 Inv-loop μ-loop
-element-copy-out-differs-4 c = search needs
-
-note-requires : tie.Need-note-requires Inv-loop μ-loop
-note-requires c κs = search needs
-
-add-day : tie.Need-add-day Inv-loop μ-loop
-add-day c = search needs
-
-loop-less : tie.Need-loop-less Inv-loop μ-loop
-loop-less c = search needs
-
 loop-again : tie.Need-loop-again Inv-loop μ-loop
 loop-again c = listed-more (c .before .before .before .before .before .before .before .before .before .loop .inv) (omega arith) (omega arith) (c .before .before .note .ensures .0) (c .before .before .note .ensures .1)
-
-same-length : tie.Need-same-length Inv-loop μ-loop
-same-length c = search needs
 
 returns : tie.Need-returns Inv-loop μ-loop
 returns c = listed-all (c .before .loop .inv) (c .loop-test .left)
@@ -65,17 +29,17 @@ list-changes-spec =
     Inv-loop
     μ-loop
     loop-holds
-    mul-differs
-    element-copy-out-differs
-    mul-differs-2
-    element-copy-out-differs-2
-    mul-differs-3
-    element-copy-out-differs-3
-    mul-differs-4
-    element-copy-out-differs-4
-    note-requires
-    add-day
-    loop-less
+    (search needs)
+    (search needs)
+    (search needs)
+    (search needs)
+    (search needs)
+    (search needs)
+    (search needs)
+    (search needs)
+    (search needs)
+    (search needs)
+    (search needs)
     loop-again
-    same-length
+    (search needs)
     returns)

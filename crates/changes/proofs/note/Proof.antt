@@ -4,28 +4,10 @@ use borrow.Author.Needs.{needs}
 use Rattle.changes.proofs.note.Statement.{statement}
 use Rattle.changes.proofs.note.Tie as tie
 
-cast-list : tie.Need-cast-list
-cast-list c = search needs
-
-mul-list : tie.Need-mul-list
-mul-list c = search needs
-
-slice-write-list : tie.Need-slice-write-list
-slice-write-list c = search needs
-
-add-result : tie.Need-add-result
-add-result c = search needs
-
-same-length : tie.Need-same-length
-same-length c = search needs
-
 returns : tie.Need-returns
 returns c = rw (c .if1 .taken) (refl, refl)
-
-returns-2 : tie.Need-returns-2
-returns-2 c = search needs
 
 pub note-spec : {M : Type 1} → statement M
 note-spec =
     tie.close
-    (tie.spec cast-list mul-list slice-write-list add-result same-length returns returns-2)
+    (tie.spec (search needs) (search needs) (search needs) (search needs) (search needs) returns (λ c. search needs))

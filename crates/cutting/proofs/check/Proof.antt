@@ -6,42 +6,6 @@ use borrow.Author.Needs.{needs, sfits-of}
 use Rattle.cutting.proofs.check.Statement.{statement}
 use Rattle.cutting.proofs.check.Tie as tie
 
-enum-known-cut : tie.Need-enum-known-cut
-enum-known-cut c = search needs
-
-point-requires : tie.Need-point-requires
-point-requires c κs = search needs
-
-check-value-requires : tie.Need-check-value-requires
-check-value-requires c κs = search needs
-
-enum-known-cut-2 : tie.Need-enum-known-cut-2
-enum-known-cut-2 c = search needs
-
-point-requires-2 : tie.Need-point-requires-2
-point-requires-2 c κs = search needs
-
-check-value-requires-2 : tie.Need-check-value-requires-2
-check-value-requires-2 c κs = search needs
-
-enum-known-cut-3 : tie.Need-enum-known-cut-3
-enum-known-cut-3 c = search needs
-
-total-requires : tie.Need-total-requires
-total-requires c κs = search needs
-
-check-value-requires-3 : tie.Need-check-value-requires-3
-check-value-requires-3 c κs = search needs
-
-enum-known-cut-4 : tie.Need-enum-known-cut-4
-enum-known-cut-4 c = search needs
-
-total-requires-2 : tie.Need-total-requires-2
-total-requires-2 c κs = search needs
-
-check-value-requires-4 : tie.Need-check-value-requires-4
-check-value-requires-4 c κs = search needs
-
 returns : tie.Need-returns
 unfolding checked
 returns c = rw (c .before .before .before .cut .given .1) (rw (c .before .point .ensures, toZ-ofZ (sfits-of {w = w32} (c .before .before .known-told .given .1 .0 .1))) at (c .check-value .ensures))
@@ -62,18 +26,18 @@ pub check-spec : {M : Type 1} → statement M
 check-spec =
     tie.close
     (tie.spec
-    enum-known-cut
-    point-requires
-    check-value-requires
-    enum-known-cut-2
-    point-requires-2
-    check-value-requires-2
-    enum-known-cut-3
-    total-requires
-    check-value-requires-3
-    enum-known-cut-4
-    total-requires-2
-    check-value-requires-4
+    (search needs)
+    (search needs)
+    (search needs)
+    (search needs)
+    (search needs)
+    (search needs)
+    (search needs)
+    (search needs)
+    (search needs)
+    (search needs)
+    (search needs)
+    (search needs)
     returns
     returns-2
     returns-3

@@ -9,12 +9,6 @@ returns : tie.Need-returns
 unfolding checkedValue
 returns c = rw (not-true (c .before .args .placed) (c .if1 .taken))
 
-enum-known-value : tie.Need-enum-known-value
-enum-known-value c = search needs
-
-enum-told : tie.Need-enum-told
-enum-told c = search needs
-
 returns-2 : tie.Need-returns-2
 unfolding checkedValue
 returns-2 c = rw (not-false (c .before .before .before .args .placed) (c .before .before .if1 .left), c .enum-told .given .1)
@@ -24,4 +18,4 @@ unfolding checkedValue
 returns-3 c = rw (not-false (c .before .before .before .before .args .placed) (c .before .before .before .if1 .left), c .before .value .given .1)
 
 pub check-value-spec : {M : Type 1} → statement M
-check-value-spec = tie.close (tie.spec returns enum-known-value enum-told returns-2 returns-3)
+check-value-spec = tie.close (tie.spec returns (search needs) (search needs) returns-2 returns-3)

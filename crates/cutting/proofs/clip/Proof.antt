@@ -4,20 +4,11 @@ use Rattle.cutting.specs.Cutting.{clipped}
 use Rattle.cutting.proofs.clip.Statement.{statement}
 use Rattle.cutting.proofs.clip.Tie as tie
 
-enum-known-cut : tie.Need-enum-known-cut
-enum-known-cut c = search needs
-
 mul-wide : tie.Need-mul-wide
 mul-wide c = let p = rw (c .before .cut .given .1) at (c .before .before .before .pre) in search needs
 
 element-copy-out-wide : tie.Need-element-copy-out-wide
 element-copy-out-wide c = let p = rw (c .before .cut .given .1) at (c .before .before .before .pre) in search needs
-
-wide-requires : tie.Need-wide-requires
-wide-requires c κs = search needs
-
-greatest-requires : tie.Need-greatest-requires
-greatest-requires c κs = search needs
 
 cast-floors : tie.Need-cast-floors
 cast-floors c = let p = rw (c .before .before .before .before .cut .given .1) at (c .before .before .before .before .before .before .pre) in search needs
@@ -28,20 +19,11 @@ mul-floors c = let p = rw (c .before .before .before .before .cut .given .1) at 
 element-write-floors : tie.Need-element-write-floors
 element-write-floors c = let p = rw (c .before .before .before .before .cut .given .1) at (c .before .before .before .before .before .before .pre) in search needs
 
-enum-known-cut-2 : tie.Need-enum-known-cut-2
-enum-known-cut-2 c = search needs
-
 mul-wide-2 : tie.Need-mul-wide-2
 mul-wide-2 c = let p = rw (c .before .cut2 .given .1) at (c .before .before .before .pre) in search needs
 
 element-copy-out-wide-2 : tie.Need-element-copy-out-wide-2
 element-copy-out-wide-2 c = let p = rw (c .before .cut2 .given .1) at (c .before .before .before .pre) in search needs
-
-wide-requires-2 : tie.Need-wide-requires-2
-wide-requires-2 c κs = search needs
-
-least-requires : tie.Need-least-requires
-least-requires c κs = search needs
 
 cast-ceilings : tie.Need-cast-ceilings
 cast-ceilings c = let p = rw (c .before .before .before .before .cut2 .given .1) at (c .before .before .before .before .before .before .pre) in search needs
@@ -51,18 +33,6 @@ mul-ceilings c = let p = rw (c .before .before .before .before .cut2 .given .1) 
 
 element-write-ceilings : tie.Need-element-write-ceilings
 element-write-ceilings c = let p = rw (c .before .before .before .before .cut2 .given .1) at (c .before .before .before .before .before .before .pre) in search needs
-
-enum-told : tie.Need-enum-told
-enum-told c = search needs
-
-greatest-requires-2 : tie.Need-greatest-requires-2
-greatest-requires-2 c κs = search needs
-
-enum-told-2 : tie.Need-enum-told-2
-enum-told-2 c = search needs
-
-least-requires-2 : tie.Need-least-requires-2
-least-requires-2 c κs = search needs
 
 returns : tie.Need-returns
 unfolding clipped
@@ -84,26 +54,26 @@ pub clip-spec : {M : Type 1} → statement M
 clip-spec =
     tie.close
     (tie.spec
-    enum-known-cut
+    (search needs)
     mul-wide
     element-copy-out-wide
-    wide-requires
-    greatest-requires
+    (search needs)
+    (search needs)
     cast-floors
     mul-floors
     element-write-floors
-    enum-known-cut-2
+    (search needs)
     mul-wide-2
     element-copy-out-wide-2
-    wide-requires-2
-    least-requires
+    (search needs)
+    (search needs)
     cast-ceilings
     mul-ceilings
     element-write-ceilings
-    enum-told
-    greatest-requires-2
-    enum-told-2
-    least-requires-2
+    (search needs)
+    (search needs)
+    (search needs)
+    (search needs)
     returns
     returns-2
     returns-3

@@ -6,32 +6,17 @@ use Rattle.cutting.proofs.Stages.{checked-refusal, checked-clips, cut-m
 use Rattle.cutting.proofs.cut.Statement.{statement}
 use Rattle.cutting.proofs.cut.Tie as tie
 
-check-requires : tie.Need-check-requires
-check-requires c κs = search needs
-
-refuse-requires : tie.Need-refuse-requires
-refuse-requires c κs = search needs
-
 returns : tie.Need-returns
 returns c = (c .refuse .ensures ∙ cut-malformed _ _ _ (checked-refusal _ _ (c .before .before .before .check .ensures)) (c .before .if1 .taken), list-left _ _ _ (c .refuse .ensures) (c .before .if1 .taken))
 
-refuse-requires-2 : tie.Need-refuse-requires-2
-refuse-requires-2 c κs = search needs
-
 returns-2 : tie.Need-returns-2
 returns-2 c = (c .refuse2 .ensures ∙ cut-short _ _ _ (checked-refusal _ _ (c .before .before .before .before .check .ensures)) (c .before .before .if1 .left) (c .before .if2 .taken), list-left _ _ _ (c .refuse2 .ensures) (λ z. absurd (omega arith)))
-
-refuse-requires-3 : tie.Need-refuse-requires-3
-refuse-requires-3 c κs = search needs
 
 returns-3 : tie.Need-returns-3
 returns-3 c = (c .refuse3 .ensures ∙ cut-spent _ _ _ (checked-refusal _ _ (c .before .before .before .before .before .check .ensures)) (c .before .before .before .if1 .left) (c .before .before .if2 .left) (c .before .if3 .taken), list-left _ _ _ (c .refuse3 .ensures) (λ z. absurd (omega arith)))
 
 tighten-again-requires : tie.Need-tighten-again-requires
 tighten-again-requires c κs = (c .before .before .before .before .before .before .before .pre, sym (checked-refusal _ _ (c .before .before .before .before .before .check .ensures)) ∙ c .before .before .before .if1 .left, checked-clips _ _ (c .before .before .before .before .before .check .ensures) (c .before .before .before .before .before .before .before .pre .present .most) (c .before .before .before .if1 .left), c .before .before .if2 .left)
-
-same-length : tie.Need-same-length
-same-length c = search needs
 
 returns-4 : tie.Need-returns-4
 returns-4 c = (c .before .before .tighten-again .ensures .0 ∙ cut-taken _ _ _ (checked-refusal _ _ (c .before .before .before .before .before .before .before .before .check .ensures)) (c .before .before .before .before .before .before .if1 .left) (c .before .before .before .before .before .if2 .left) (c .before .before .before .before .if3 .left), c .before .before .tighten-again .ensures .1)
@@ -40,13 +25,13 @@ pub cut-spec : {M : Type 1} → statement M
 cut-spec =
     tie.close
     (tie.spec
-    check-requires
-    refuse-requires
+    (search needs)
+    (search needs)
     returns
-    refuse-requires-2
+    (search needs)
     returns-2
-    refuse-requires-3
+    (search needs)
     returns-3
     tighten-again-requires
-    same-length
+    (search needs)
     returns-4)

@@ -7,26 +7,8 @@ use Rattle.cutting.proofs.Stages.{told-unknown, told-known, list-left}
 use Rattle.cutting.proofs.cut_told.Statement.{statement}
 use Rattle.cutting.proofs.cut_told.Tie as tie
 
-told-requires : tie.Need-told-requires
-told-requires c κs = search needs
-
-enum-known-c : tie.Need-enum-known-c
-enum-known-c c = search needs
-
-enum-told : tie.Need-enum-told
-enum-told c = search needs
-
-refuse-requires : tie.Need-refuse-requires
-refuse-requires c κs = search needs
-
 returns : tie.Need-returns
 returns c = (c .refuse .ensures ∙ told-unknown _ _ (rw (toZ-ofZ (c .before .before .before .before .before .fits .value)) at (c .before .before .before .told .ensures)) (c .before .enum-told .given .1), list-left _ _ _ (c .refuse .ensures) (λ z. absurd (omega arith)))
-
-cut-requires : tie.Need-cut-requires
-cut-requires c κs = search needs
-
-same-length : tie.Need-same-length
-same-length c = search needs
 
 returns-2 : tie.Need-returns-2
 returns-2 c = (c .before .before .cut .ensures .0 ∙ told-known _ _ (rw (toZ-ofZ (c .before .before .before .before .before .before .before .before .before .fits .value)) at (c .before .before .before .before .before .before .before .told .ensures)) (c .before .before .before .before .before .c .given .1), c .before .before .cut .ensures .1)
@@ -35,11 +17,11 @@ pub cut-told-spec : {M : Type 1} → statement M
 cut-told-spec =
     tie.close
     (tie.spec
-    told-requires
-    enum-known-c
-    enum-told
-    refuse-requires
+    (search needs)
+    (search needs)
+    (search needs)
+    (search needs)
     returns
-    cut-requires
-    same-length
+    (λ c. search needs)
+    (search needs)
     returns-2)

@@ -3,11 +3,8 @@ use borrow.Author.Needs.{needs}
 use Rattle.cutting.proofs.malformed.Statement.{statement}
 use Rattle.cutting.proofs.malformed.Tie as tie
 
-check-requires : tie.Need-check-requires
-check-requires c κs = search needs
-
 returns : tie.Need-returns
 returns c = checked-refusal _ _ (c .check .ensures)
 
 pub malformed-spec : {M : Type 1} → statement M
-malformed-spec = tie.close (tie.spec check-requires returns)
+malformed-spec = tie.close (tie.spec (search needs) returns)

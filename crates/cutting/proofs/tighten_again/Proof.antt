@@ -7,26 +7,11 @@ use Rattle.cutting.proofs.Stages.{again-bounds, again-found, again-none
 use Rattle.cutting.proofs.tighten_again.Statement.{statement}
 use Rattle.cutting.proofs.tighten_again.Tie as tie
 
-clip-requires : tie.Need-clip-requires
-clip-requires c κs = search needs
-
 tighten-requires : tie.Need-tighten-requires
 tighten-requires c κs = again-bounds _ _ (c .before .before .before .clip .ensures) (c .before .before .before .before .before .before .before .before .before .before .before .pre .0) (c .before .before .before .before .before .before .before .before .before .before .before .pre .1)
 
-spend-requires : tie.Need-spend-requires
-spend-requires c κs = search needs
-
 returns : tie.Need-returns
 returns c = (c .spend .ensures ∙ again-none _ _ (c .before .before .before .before .before .before .before .clip .ensures) (c .before .before .before .tighten .ensures) (not-true _ (c .before .if1 .taken)), list-left _ _ _ (c .spend .ensures) (λ z. absurd (omega arith)))
-
-list-changes-requires : tie.Need-list-changes-requires
-list-changes-requires c κs = search needs
-
-accept-requires : tie.Need-accept-requires
-accept-requires c κs = search needs
-
-same-length : tie.Need-same-length
-same-length c = search needs
 
 returns-2 : tie.Need-returns-2
 returns-2 c = (c .accept .ensures ∙ again-found _ _ (c .before .before .before .before .before .before .before .before .before .before .before .before .before .before .before .clip .ensures) (c .before .before .before .before .before .before .before .before .before .before .before .tighten .ensures) (not-false _ (c .before .before .before .before .before .before .before .before .before .if1 .left)) (c .before .before .before .list-changes .ensures .0), c .before .before .before .list-changes .ensures .1 ∙ list-written _ _ _ (c .accept .ensures))
@@ -35,11 +20,11 @@ pub tighten-again-spec : {M : Type 1} → statement M
 tighten-again-spec =
     tie.close
     (tie.spec
-    clip-requires
+    (λ c. search needs)
     tighten-requires
-    spend-requires
+    (search needs)
     returns
-    list-changes-requires
-    accept-requires
-    same-length
+    (search needs)
+    (search needs)
+    (search needs)
     returns-2)

@@ -14,29 +14,8 @@ Inv-loop file t₀ k₀ t k = k ≤ length file
 abbrev μ-loop : tie.MeasureT-loop
 μ-loop file t₀ k₀ t k = length file - k
 
-none-requires : tie.Need-none-requires Inv-loop μ-loop
-none-requires c κs = search needs
-
-loop-holds : tie.Need-loop-holds Inv-loop μ-loop
-loop-holds c = search needs
-
 slice-aggregate-noted : tie.Need-slice-aggregate-noted Inv-loop μ-loop
 slice-aggregate-noted c = sym (length-take-le _ _ (omega arith))
-
-noted-requires : tie.Need-noted-requires Inv-loop μ-loop
-noted-requires c κs = search needs
-
-add-k : tie.Need-add-k Inv-loop μ-loop
-add-k c = search needs
-
-loop-less : tie.Need-loop-less Inv-loop μ-loop
-loop-less c = search needs
-
-loop-again : tie.Need-loop-again Inv-loop μ-loop
-loop-again c = search needs
-
-returns : tie.Need-returns Inv-loop μ-loop
-returns c = search needs
 
 pub truncated-spec : {M : Type 1} → statement M
 truncated-spec =
@@ -44,11 +23,11 @@ truncated-spec =
     (tie.spec
     Inv-loop
     μ-loop
-    none-requires
-    loop-holds
+    (search needs)
+    (search needs)
     slice-aggregate-noted
-    noted-requires
-    add-k
-    loop-less
-    loop-again
-    returns)
+    (search needs)
+    (search needs)
+    (search needs)
+    (search needs)
+    (search needs))

@@ -10,35 +10,20 @@ use Rattle.damaged.proofs.with_byte.Tie as tie
 room : (c : tie.After-bytes2) → length (c .before .before .before .before .args .file .now) ≤ length (set (c .before .put .last .0) (c .before .before .before .before .args .i) (c .before .before .before .before .args .byte))
 room c = rw (length-set, c .before .put .ensures .0, length-sets) (c .before .before .before .before .pre .1)
 
-slice-aggregate-put : tie.Need-slice-aggregate-put
-slice-aggregate-put c = search needs
-
-put-requires : tie.Need-put-requires
-put-requires c κs = search needs
-
-array-write-bytes : tie.Need-array-write-bytes
-array-write-bytes c = search needs
-
 array-share-prefix-bytes : tie.Need-array-share-prefix-bytes
 array-share-prefix-bytes c = room c
 
 slice-aggregate-noted : tie.Need-slice-aggregate-noted
 slice-aggregate-noted c = sym (length-take-le _ _ (room (c .before)))
 
-noted-requires : tie.Need-noted-requires
-noted-requires c κs = search needs
-
-returns : tie.Need-returns
-returns c = search needs
-
 pub with-byte-spec : {M : Type 1} → statement M
 with-byte-spec =
     tie.close
     (tie.spec
-    slice-aggregate-put
-    put-requires
-    array-write-bytes
+    (search needs)
+    (search needs)
+    (search needs)
     array-share-prefix-bytes
     slice-aggregate-noted
-    noted-requires
-    returns)
+    (search needs)
+    (search needs))

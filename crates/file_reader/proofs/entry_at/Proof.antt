@@ -2,15 +2,6 @@ use borrow.Author.Needs.{needs}
 use Rattle.file_reader.proofs.entry_at.Statement.{statement}
 use Rattle.file_reader.proofs.entry_at.Tie as tie
 
-told-at-requires : tie.Need-told-at-requires
-told-at-requires c κs = search needs
-
-enum-known-cut : tie.Need-enum-known-cut
-enum-known-cut c = search needs
-
-enum-told : tie.Need-enum-told
-enum-told c = search needs
-
 returns : tie.Need-returns
 returns c = rw (← c .before .before .told-at .ensures, c .enum-told .given .1)
 
@@ -18,4 +9,4 @@ returns-2 : tie.Need-returns-2
 returns-2 c = rw (← c .before .before .before .told-at .ensures, c .before .cut .given .1)
 
 pub entry-at-spec : {M : Type 1} → statement M
-entry-at-spec = tie.close (tie.spec told-at-requires enum-known-cut enum-told returns returns-2)
+entry-at-spec = tie.close (tie.spec (search needs) (search needs) (search needs) returns returns-2)

@@ -9,21 +9,6 @@ use Rattle.file_reader.proofs.file_refusal.Tie as tie
 returns : tie.Need-returns
 returns c = no-header (c .before .before .args .bytes .now) (c .if1 .taken)
 
-u16-at-requires : tie.Need-u16-at-requires
-u16-at-requires c κs = search needs
-
-wide-requires : tie.Need-wide-requires
-wide-requires c κs = search needs
-
-u16-at-requires-2 : tie.Need-u16-at-requires-2
-u16-at-requires-2 c κs = search needs
-
-wide-requires-2 : tie.Need-wide-requires-2
-wide-requires-2 c κs = search needs
-
-counts-refusal-requires : tie.Need-counts-refusal-requires
-counts-refusal-requires c κs = search needs
-
 returns-2 : tie.Need-returns-2
 returns-2 c = counts-refused (c .before .before .before .before .before .before .before .before .args .bytes .now) (c .before .before .before .before .before .before .if1 .left) (c .before .before .before .before .wide .ensures .0 ∙ c .before .before .before .before .before .u16-at .ensures) (c .before .before .wide2 .ensures .0 ∙ c .before .before .before .u16-at2 .ensures) (c .before .counts-refusal .ensures) (c .if2 .taken)
 
@@ -44,11 +29,11 @@ file-refusal-spec =
     tie.close
     (tie.spec
     returns
-    u16-at-requires
-    wide-requires
-    u16-at-requires-2
-    wide-requires-2
-    counts-refusal-requires
+    (search needs)
+    (search needs)
+    (search needs)
+    (search needs)
+    (search needs)
     returns-2
     layout-refusal-requires
     returns-3

@@ -18,26 +18,8 @@ abbrev μ-loop : tie.MeasureT-loop
 loop-holds : tie.Need-loop-holds Inv-loop μ-loop
 loop-holds c = nowhere-none
 
-mul-told-at : tie.Need-mul-told-at Inv-loop μ-loop
-mul-told-at c = search needs
-
-add-told-at : tie.Need-add-told-at Inv-loop μ-loop
-add-told-at c = search needs
-
-told-at-requires : tie.Need-told-at-requires Inv-loop μ-loop
-told-at-requires c κs = search needs
-
-is-bad-requires : tie.Need-is-bad-requires Inv-loop μ-loop
-is-bad-requires c κs = search needs
-
 returns : tie.Need-returns Inv-loop μ-loop
 returns c = nowhere-here (c .before .before .before .before .loop .inv) (c .before .before .before .loop-test .taken) (sym (c .before .is-bad .ensures ∙ ap badCut (c .before .before .told-at .ensures)) ∙ c .if1 .taken)
-
-add-j : tie.Need-add-j Inv-loop μ-loop
-add-j c = search needs
-
-loop-less : tie.Need-loop-less Inv-loop μ-loop
-loop-less c = search needs
 
 loop-again : tie.Need-loop-again Inv-loop μ-loop
 loop-again c = nowhere-more (c .before .before .before .before .loop .inv) (c .before .before .before .loop-test .taken) (sym (c .before .is-bad .ensures ∙ ap badCut (c .before .before .told-at .ensures)) ∙ c .if1 .left)
@@ -52,12 +34,12 @@ first-bad-spec =
     Inv-loop
     μ-loop
     loop-holds
-    mul-told-at
-    add-told-at
-    told-at-requires
-    is-bad-requires
+    (search needs)
+    (search needs)
+    (search needs)
+    (search needs)
     returns
-    add-j
-    loop-less
+    (search needs)
+    (search needs)
     loop-again
     returns-2)

@@ -16,38 +16,11 @@ Inv-loop bytes days floors₀ ceilings₀ rises₀ last k₀ floors ceilings ris
 abbrev μ-loop : tie.MeasureT-loop
 μ-loop bytes days floors₀ ceilings₀ rises₀ last k₀ floors ceilings rises k = last - k
 
-sub-last : tie.Need-sub-last Inv-loop μ-loop
-sub-last c = search needs
-
 loop-holds : tie.Need-loop-holds Inv-loop μ-loop
 loop-holds c = (filled-none, filled-none, filled-none)
 
-store-day-requires : tie.Need-store-day-requires Inv-loop μ-loop
-store-day-requires c κs = search needs
-
-add-k : tie.Need-add-k Inv-loop μ-loop
-add-k c = search needs
-
-loop-less : tie.Need-loop-less Inv-loop μ-loop
-loop-less c = search needs
-
 loop-again : tie.Need-loop-again Inv-loop μ-loop
 loop-again c = (rw (c .before .before .before .store-day .ensures .0) (filled-more (c .before .before .before .before .before .before .before .before .loop .inv .0) (c .before .before .before .before .before .before .before .loop-test .taken) refl), rw (c .before .before .before .store-day .ensures .1 .0) (filled-more (c .before .before .before .before .before .before .before .before .loop .inv .1) (c .before .before .before .before .before .before .before .loop-test .taken) refl), rw (c .before .before .before .store-day .ensures .1 .1) (filled-more (c .before .before .before .before .before .before .before .before .loop .inv .2) (c .before .before .before .before .before .before .before .loop-test .taken) refl))
-
-kth-day-requires : tie.Need-kth-day-requires Inv-loop μ-loop
-kth-day-requires c κs = search needs
-
-store-range-requires : tie.Need-store-range-requires Inv-loop μ-loop
-store-range-requires c κs = search needs
-
-same-length : tie.Need-same-length Inv-loop μ-loop
-same-length c = search needs
-
-same-length-2 : tie.Need-same-length-2 Inv-loop μ-loop
-same-length-2 c = search needs
-
-same-length-3 : tie.Need-same-length-3 Inv-loop μ-loop
-same-length-3 c = search needs
 
 returns : tie.Need-returns Inv-loop μ-loop
 returns c = (last-stored (c .before .before .before .before .before .before .before .before .before .args .days) (omega arith) (c .before .before .before .before .before .before .before .loop .inv .0) (c .before .before .before .before .before .before .loop-test .left) (ap (λ (d : Day). d .floor) (c .before .before .before .before .before .kth-day .ensures)) (c .before .before .store-range .ensures .0), (last-stored (c .before .before .before .before .before .before .before .before .before .args .days) (omega arith) (c .before .before .before .before .before .before .before .loop .inv .1) (c .before .before .before .before .before .before .loop-test .left) (ap (λ (d : Day). d .ceiling) (c .before .before .before .before .before .kth-day .ensures)) (c .before .before .store-range .ensures .1), filled-all (c .before .before .before .before .before .before .before .loop .inv .2) (c .before .before .before .before .before .before .loop-test .left)))
@@ -58,15 +31,15 @@ store-days-spec =
     (tie.spec
     Inv-loop
     μ-loop
-    sub-last
+    (search needs)
     loop-holds
-    store-day-requires
-    add-k
-    loop-less
+    (search needs)
+    (search needs)
+    (search needs)
     loop-again
-    kth-day-requires
-    store-range-requires
-    same-length
-    same-length-2
-    same-length-3
+    (search needs)
+    (search needs)
+    (search needs)
+    (search needs)
+    (search needs)
     returns)

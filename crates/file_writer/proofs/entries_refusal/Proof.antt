@@ -17,23 +17,8 @@ abbrev μ-loop : tie.MeasureT-loop
 loop-holds : tie.Need-loop-holds Inv-loop μ-loop
 loop-holds c = nowhere-none
 
-mul-entry-refusal : tie.Need-mul-entry-refusal Inv-loop μ-loop
-mul-entry-refusal c = search needs
-
-array-copy-out-entry-refusal : tie.Need-array-copy-out-entry-refusal Inv-loop μ-loop
-array-copy-out-entry-refusal c = search needs
-
-entry-refusal-requires : tie.Need-entry-refusal-requires Inv-loop μ-loop
-entry-refusal-requires c κs = search needs
-
 returns : tie.Need-returns Inv-loop μ-loop
 returns c = let e = c .before .entry-refusal .ensures in e ∙ nonzero-here _ (c .before .before .before .before .loop .inv) (c .before .before .before .loop-test .taken) (λ h. c .if1 .taken (e ∙ h))
-
-add-j : tie.Need-add-j Inv-loop μ-loop
-add-j c = search needs
-
-loop-less : tie.Need-loop-less Inv-loop μ-loop
-loop-less c = search needs
 
 loop-again : tie.Need-loop-again Inv-loop μ-loop
 loop-again c = nowhere-more (c .before .before .before .before .loop .inv) (c .before .before .before .loop-test .taken) (zero-fails _ (sym (c .before .entry-refusal .ensures) ∙ c .if1 .left))
@@ -48,11 +33,11 @@ entries-refusal-spec =
     Inv-loop
     μ-loop
     loop-holds
-    mul-entry-refusal
-    array-copy-out-entry-refusal
-    entry-refusal-requires
+    (search needs)
+    (search needs)
+    (search needs)
     returns
-    add-j
-    loop-less
+    (search needs)
+    (search needs)
     loop-again
     returns-2)

@@ -1,13 +1,10 @@
 use mathlib.Core.Path.{ap, sym, _∙_}
 use mir.Facts.{toZ-ofZ}
-use Rattle.session.specs.Sanity.{opened-refusal}
+use Rattle.session.proofs.Sanity.{opened-refusal}
 use Rattle.session.specs.declared.Opened.{Opened}
 use borrow.Author.Needs.{needs}
 use Rattle.file_writer.proofs.profile_refusal.Statement.{statement}
 use Rattle.file_writer.proofs.profile_refusal.Tie as tie
-
-open-requires : tie.Need-open-requires
-open-requires c κs = search needs
 
 returns : tie.Need-returns
 returns c =
@@ -22,4 +19,4 @@ returns-2 c =
     e ∙ opened-refusal _ .1 (λ h. c .if1 .left (e ∙ h))
 
 pub profile-refusal-spec : {M : Type 1} → statement M
-profile-refusal-spec = tie.close (tie.spec open-requires returns returns-2)
+profile-refusal-spec = tie.close (tie.spec (search needs) returns returns-2)

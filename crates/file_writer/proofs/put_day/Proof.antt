@@ -8,24 +8,6 @@ use borrow.Author.Needs.{needs}
 use Rattle.file_writer.proofs.put_day.Statement.{statement}
 use Rattle.file_writer.proofs.put_day.Tie as tie
 
-put-i16-requires : tie.Need-put-i16-requires
-put-i16-requires c κs = search needs
-
-add-put-i16 : tie.Need-add-put-i16
-add-put-i16 c = search needs
-
-put-i16-requires-2 : tie.Need-put-i16-requires-2
-put-i16-requires-2 c κs = search needs
-
-add-put-i16-2 : tie.Need-add-put-i16-2
-add-put-i16-2 c = search needs
-
-put-i16-requires-3 : tie.Need-put-i16-requires-3
-put-i16-requires-3 c κs = search needs
-
-same-length : tie.Need-same-length
-same-length c = search needs
-
 returns : tie.Need-returns
 unfolding dayBytes i16Bytes u16Bytes
 returns c =
@@ -41,10 +23,10 @@ pub put-day-spec : {M : Type 1} → statement M
 put-day-spec =
     tie.close
     (tie.spec
-    put-i16-requires
-    add-put-i16
-    put-i16-requires-2
-    add-put-i16-2
-    put-i16-requires-3
-    same-length
+    (search needs)
+    (search needs)
+    (search needs)
+    (search needs)
+    (search needs)
+    (search needs)
     returns)

@@ -5,53 +5,29 @@ use borrow.Author.Needs.{needs, sfits-of}
 use Rattle.file_writer.proofs.put_entry.Statement.{statement}
 use Rattle.file_writer.proofs.put_entry.Tie as tie
 
-enum-known-cut : tie.Need-enum-known-cut
-enum-known-cut c = search needs
-
 put-fields-requires : tie.Need-put-fields-requires
 put-fields-requires c κs = let p = rw (c .before .before .cut .given .1) at (c .before .before .before .before .before .pre) in search needs
-
-enum-known-cut-2 : tie.Need-enum-known-cut-2
-enum-known-cut-2 c = search needs
 
 put-fields-requires-2 : tie.Need-put-fields-requires-2
 put-fields-requires-2 c κs = let p = rw (c .before .before .cut2 .given .1) at (c .before .before .before .before .before .pre) in search needs
 
-enum-known-cut-3 : tie.Need-enum-known-cut-3
-enum-known-cut-3 c = search needs
-
 put-fields-requires-3 : tie.Need-put-fields-requires-3
 put-fields-requires-3 c κs = let p = rw (c .before .before .cut3 .given .1) at (c .before .before .before .before .before .pre) in search needs
 
-enum-known-cut-4 : tie.Need-enum-known-cut-4
-enum-known-cut-4 c = search needs
-
 put-fields-requires-4 : tie.Need-put-fields-requires-4
 put-fields-requires-4 c κs = let p = rw (c .before .before .cut4 .given .1) at (c .before .before .before .before .before .pre) in search needs
-
-same-length : tie.Need-same-length
-same-length c = search needs
 
 returns : tie.Need-returns
 unfolding cutBytes
 returns c = rw (c .before .before .before .before .before .cut .given .1) (rw (toZ-ofZ (sfits-of {w = w32} (c .before .before .before .before .known-told .given .1 .0 .1))) at (c .before .before .put-fields .ensures))
 
-same-length-2 : tie.Need-same-length-2
-same-length-2 c = search needs
-
 returns-2 : tie.Need-returns-2
 unfolding cutBytes
 returns-2 c = rw (c .before .before .before .before .before .cut2 .given .1) (rw (toZ-ofZ (sfits-of {w = w32} (c .before .before .before .before .known-told2 .given .1 .0 .1))) at (c .before .before .put-fields2 .ensures))
 
-same-length-3 : tie.Need-same-length-3
-same-length-3 c = search needs
-
 returns-3 : tie.Need-returns-3
 unfolding cutBytes
 returns-3 c = rw (c .before .before .before .before .before .cut3 .given .1) (rw (toZ-ofZ (sfits-of {w = w32} (c .before .before .before .before .known-told3 .given .1 .0 .1))) at (c .before .before .put-fields3 .ensures))
-
-same-length-4 : tie.Need-same-length-4
-same-length-4 c = search needs
 
 returns-4 : tie.Need-returns-4
 unfolding cutBytes
@@ -61,19 +37,19 @@ pub put-entry-spec : {M : Type 1} → statement M
 put-entry-spec =
     tie.close
     (tie.spec
-    enum-known-cut
+    (search needs)
     put-fields-requires
-    enum-known-cut-2
+    (search needs)
     put-fields-requires-2
-    enum-known-cut-3
+    (search needs)
     put-fields-requires-3
-    enum-known-cut-4
+    (search needs)
     put-fields-requires-4
-    same-length
+    (search needs)
     returns
-    same-length-2
+    (search needs)
     returns-2
-    same-length-3
+    (search needs)
     returns-3
-    same-length-4
+    (search needs)
     returns-4)

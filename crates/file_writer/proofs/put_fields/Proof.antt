@@ -7,27 +7,6 @@ use borrow.Author.Needs.{needs}
 use Rattle.file_writer.proofs.put_fields.Statement.{statement}
 use Rattle.file_writer.proofs.put_fields.Tie as tie
 
-put-u16-requires : tie.Need-put-u16-requires
-put-u16-requires c κs = search needs
-
-add-put-u16 : tie.Need-add-put-u16
-add-put-u16 c = search needs
-
-cast-put-u16 : tie.Need-cast-put-u16
-cast-put-u16 c = search needs
-
-put-u16-requires-2 : tie.Need-put-u16-requires-2
-put-u16-requires-2 c κs = search needs
-
-add-put-i32 : tie.Need-add-put-i32
-add-put-i32 c = search needs
-
-put-i32-requires : tie.Need-put-i32-requires
-put-i32-requires c κs = search needs
-
-same-length : tie.Need-same-length
-same-length c = search needs
-
 returns : tie.Need-returns
 unfolding u16Bytes
 returns c =
@@ -43,11 +22,11 @@ pub put-fields-spec : {M : Type 1} → statement M
 put-fields-spec =
     tie.close
     (tie.spec
-    put-u16-requires
-    add-put-u16
-    cast-put-u16
-    put-u16-requires-2
-    add-put-i32
-    put-i32-requires
-    same-length
+    (search needs)
+    (search needs)
+    (search needs)
+    (search needs)
+    (search needs)
+    (search needs)
+    (search needs)
     returns)

@@ -8,42 +8,6 @@ use borrow.Author.Needs.{needs}
 use Rattle.file_writer.proofs.put_header.Statement.{statement}
 use Rattle.file_writer.proofs.put_header.Tie as tie
 
-cast-put-u16 : tie.Need-cast-put-u16
-cast-put-u16 c = search needs
-
-put-u16-requires : tie.Need-put-u16-requires
-put-u16-requires c κs = search needs
-
-cast-put-u16-2 : tie.Need-cast-put-u16-2
-cast-put-u16-2 c = search needs
-
-put-u16-requires-2 : tie.Need-put-u16-requires-2
-put-u16-requires-2 c κs = search needs
-
-put-u16-requires-3 : tie.Need-put-u16-requires-3
-put-u16-requires-3 c κs = search needs
-
-mul-put-u16 : tie.Need-mul-put-u16
-mul-put-u16 c = search needs
-
-add-put-u16 : tie.Need-add-put-u16
-add-put-u16 c = search needs
-
-cast-put-u16-3 : tie.Need-cast-put-u16-3
-cast-put-u16-3 c = search needs
-
-put-u16-requires-4 : tie.Need-put-u16-requires-4
-put-u16-requires-4 c κs = search needs
-
-put-i32-requires : tie.Need-put-i32-requires
-put-i32-requires c κs = search needs
-
-put-i32-requires-2 : tie.Need-put-i32-requires-2
-put-i32-requires-2 c κs = search needs
-
-same-length : tie.Need-same-length
-same-length c = search needs
-
 returns : tie.Need-returns
 unfolding header u16Bytes u32Bytes i32Bytes
 returns c =
@@ -67,16 +31,16 @@ pub put-header-spec : {M : Type 1} → statement M
 put-header-spec =
     tie.close
     (tie.spec
-    cast-put-u16
-    put-u16-requires
-    cast-put-u16-2
-    put-u16-requires-2
-    put-u16-requires-3
-    mul-put-u16
-    add-put-u16
-    cast-put-u16-3
-    put-u16-requires-4
-    put-i32-requires
-    put-i32-requires-2
-    same-length
+    (search needs)
+    (search needs)
+    (search needs)
+    (search needs)
+    (search needs)
+    (search needs)
+    (search needs)
+    (search needs)
+    (search needs)
+    (search needs)
+    (search needs)
+    (search needs)
     returns)

@@ -5,17 +5,8 @@ use borrow.Author.Needs.{needs}
 use Rattle.file_writer.proofs.rise_on.Statement.{statement}
 use Rattle.file_writer.proofs.rise_on.Tie as tie
 
-mul-result : tie.Need-mul-result
-mul-result c = search needs
-
-shared-slice-copy-out-result : tie.Need-shared-slice-copy-out-result
-shared-slice-copy-out-result c = search needs
-
-returns : tie.Need-returns
-returns c = search needs
-
 returns-2 : tie.Need-returns-2
 returns-2 c = sym (List·getD-eq-default (c .before .args .rises .now) (pos 0) (c .if1 .left))
 
 pub rise-on-spec : {M : Type 1} → statement M
-rise-on-spec = tie.close (tie.spec mul-result shared-slice-copy-out-result returns returns-2)
+rise-on-spec = tie.close (tie.spec (search needs) (search needs) (λ c. search needs) returns-2)

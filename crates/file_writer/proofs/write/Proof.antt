@@ -3,7 +3,7 @@ use native.Mathlib.Omega.{arith}
 use mir.Facts.{toZ-ofZ}
 use Rattle.session.specs.Profile.{Profile}
 use Rattle.session.specs.Opening.{profile, earlier}
-use Rattle.session.specs.Entered.{Sized, entered}
+use Rattle.session.proofs.Entered.{Sized, entered}
 use Rattle.file_writer.proofs.Answers.{Checked, too-many, bad-profile, bad-cut, too-short, entry-day, written}
 use borrow.Author.Needs.{needs}
 use Rattle.file_writer.proofs.write.Statement.{statement}
@@ -17,26 +17,11 @@ given c = let a = c .args in profile (a .days) (a .floors .now) (a .ceilings .no
 by-opening : (c : tie.After-profile-refusal) → c .profile-refusal .result ≡ earlier (given (c .before .before .before .before))
 by-opening c = let f = c .before .before .before .before .fits in rw (toZ-ofZ (f .lowest), toZ-ofZ (f .highest)) at (c .profile-refusal .ensures)
 
-refuse-requires : tie.Need-refuse-requires
-refuse-requires c κs = search needs
-
 returns : tie.Need-returns
 returns c = too-many _ _ _ (c .before .if1 .taken) (c .refuse .ensures)
 
-profile-refusal-requires : tie.Need-profile-refusal-requires
-profile-refusal-requires c κs = search needs
-
-entries-refusal-requires : tie.Need-entries-refusal-requires
-entries-refusal-requires c κs = search needs
-
-refuse-requires-2 : tie.Need-refuse-requires-2
-refuse-requires-2 c κs = search needs
-
 returns-2 : tie.Need-returns-2
 returns-2 c = bad-profile _ _ _ (c .before .before .before .before .if1 .left) (c .before .if2 .taken) (c .refuse2 .ensures) (by-opening (c .before .before .before))
-
-refuse-requires-3 : tie.Need-refuse-requires-3
-refuse-requires-3 c κs = search needs
 
 returns-3 : tie.Need-returns-3
 returns-3 c = bad-cut _ _ _ (c .before .before .before .before .before .if1 .left) (c .before .if3 .taken) (c .refuse3 .ensures) (sym (by-opening (c .before .before .before .before)) ∙ c .before .before .if2 .left) (c .before .before .before .entries-refusal .ensures)
@@ -58,14 +43,8 @@ mul-from c = omega (arith, sizes c .few)
 add-from : tie.Need-add-from
 add-from c = omega (arith, sizes c .few)
 
-mul-length : tie.Need-mul-length
-mul-length c = search needs
-
 add-length : tie.Need-add-length
 add-length c = omega (arith, sizes c .few)
-
-refuse-requires-4 : tie.Need-refuse-requires-4
-refuse-requires-4 c κs = search needs
 
 returns-4 : tie.Need-returns-4
 returns-4 c = too-short _ _ _ (checked (c .before .before)) (omega (arith, c .before .if4 .taken)) (c .refuse4 .ensures)
@@ -79,9 +58,6 @@ put-days-requires c κs = let z = sizes (c .before .before .before .before .befo
 put-entries-requires : tie.Need-put-entries-requires
 put-entries-requires c κs = (c .before .before .before .before .before .before .before .before .before .before .before .before .before .before .if1 .left, omega (arith, c .before .before .before .put-days .kept, c .before .before .before .before .before .before .before .put-header .kept, c .before .before .before .before .before .before .before .before .before .if4 .left), entry-day _ _ (checked (c .before .before .before .before .before .before .before .before .before .before)))
 
-same-length : tie.Need-same-length
-same-length c = search needs
-
 returns-5 : tie.Need-returns-5
 returns-5 c =
     let f = c .before .before .before .before .before .before .before .before .before .before .before .before .before .before .before .before .before .before .before .before .fits in
@@ -91,22 +67,22 @@ pub write-spec : {M : Type 1} → statement M
 write-spec =
     tie.close
     (tie.spec
-    refuse-requires
+    (search needs)
     returns
-    profile-refusal-requires
-    entries-refusal-requires
-    refuse-requires-2
+    (search needs)
+    (search needs)
+    (search needs)
     returns-2
-    refuse-requires-3
+    (search needs)
     returns-3
     mul-from
     add-from
-    mul-length
+    (search needs)
     add-length
-    refuse-requires-4
+    (search needs)
     returns-4
     put-header-requires
     put-days-requires
     put-entries-requires
-    same-length
+    (search needs)
     returns-5)

@@ -4,14 +4,8 @@ use borrow.Author.Needs.{needs}
 use Rattle.filtering.proofs.raise_floors.Statement.{statement}
 use Rattle.filtering.proofs.raise_floors.Tie as tie
 
-mirror-requires : tie.Need-mirror-requires
-mirror-requires c κs = search needs
-
 mirror-requires-2 : tie.Need-mirror-requires-2
 mirror-requires-2 c κs = (search needs, floor-small (c .before .before .before .before .pre))
-
-reverse-requires : tie.Need-reverse-requires
-reverse-requires c κs = search needs
 
 lower-ceilings-requires : tie.Need-lower-ceilings-requires
 lower-ceilings-requires c κs = mirror-ready (c .before .before .before .before .before .before .before .before .before .before .pre) (c .before .before .before .before .before .before .before .before .mirror .ensures) (c .before .before .before .before .before .mirror2 .ensures) (c .before .before .before .reverse .ensures)
@@ -26,9 +20,9 @@ pub raise-floors-spec : {M : Type 1} → statement M
 raise-floors-spec =
     tie.close
     (tie.spec
-    mirror-requires
+    (λ c. search needs)
     mirror-requires-2
-    reverse-requires
+    (search needs)
     lower-ceilings-requires
     mirror-requires-3
     returns)

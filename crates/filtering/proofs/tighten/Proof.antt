@@ -3,20 +3,8 @@ use borrow.Author.Needs.{needs}
 use Rattle.filtering.proofs.tighten.Statement.{statement}
 use Rattle.filtering.proofs.tighten.Tie as tie
 
-carry-requires : tie.Need-carry-requires
-carry-requires c κs = search needs
-
-none-requires : tie.Need-none-requires
-none-requires c κs = search needs
-
 returns : tie.Need-returns
 returns c = rw (c .none .ensures) (tight-crossed (c .before .before .before .before .before .pre) (c .before .before .carry .ensures .0) (c .before .before .carry .ensures .1) (c .before .if1 .taken))
-
-held-total-requires : tie.Need-held-total-requires
-held-total-requires c κs = search needs
-
-none-requires-2 : tie.Need-none-requires-2
-none-requires-2 c κs = search needs
 
 returns-2 : tie.Need-returns-2
 returns-2 c = rw (c .none2 .ensures) (tight-over (c .before .before .before .before .before .before .before .before .pre) (c .before .before .before .before .before .carry .ensures .0) (c .before .before .before .before .before .carry .ensures .1) (c .before .before .before .before .if1 .left) (c .before .before .held-total .ensures .0) (c .before .if2 .taken))
@@ -24,23 +12,8 @@ returns-2 c = rw (c .none2 .ensures) (tight-over (c .before .before .before .bef
 lower-ceilings-requires : tie.Need-lower-ceilings-requires
 lower-ceilings-requires c κs = carried-ready (c .before .before .before .before .before .before .before .before .before .pre) (c .before .before .before .before .before .before .carry .ensures .0) (c .before .before .before .before .before .before .carry .ensures .1) (c .before .before .before .before .before .if1 .left)
 
-held-total-requires-2 : tie.Need-held-total-requires-2
-held-total-requires-2 c κs = search needs
-
-greatest-requires : tie.Need-greatest-requires
-greatest-requires c κs = search needs
-
-least-requires : tie.Need-least-requires
-least-requires c κs = search needs
-
-none-requires-3 : tie.Need-none-requires-3
-none-requires-3 c κs = search needs
-
 returns-3 : tie.Need-returns-3
 returns-3 c = rw (c .none3 .ensures) (tight-apart (c .before .before .before .before .before .before .before .before .before .before .before .before .before .before .before .before .pre) (c .before .before .before .before .before .before .before .before .before .before .before .before .before .carry .ensures .0) (c .before .before .before .before .before .before .before .before .before .before .before .before .before .carry .ensures .1) (c .before .before .before .before .before .before .before .before .before .before .before .before .if1 .left) (c .before .before .before .before .before .before .before .before .before .before .held-total .ensures .0) (c .before .before .before .before .before .before .before .before .before .if2 .left) (c .before .before .before .before .before .before .lower-ceilings .ensures) (c .before .before .before .before .held-total2 .ensures .0) (c .before .before .before .greatest .ensures) (c .before .before .least .ensures) (c .before .if3 .taken))
-
-sub-raise-floors : tie.Need-sub-raise-floors
-sub-raise-floors c = search needs
 
 raise-floors-requires : tie.Need-raise-floors-requires
 raise-floors-requires c κs = lowered-raisable (c .before .before .before .before .before .before .before .before .before .before .before .before .before .before .before .before .before .pre) (c .before .before .before .before .before .before .before .before .before .before .before .before .before .before .carry .ensures .0) (c .before .before .before .before .before .before .before .before .before .before .before .before .before .before .carry .ensures .1) (c .before .before .before .before .before .before .before .before .before .before .before .before .before .if1 .left) (c .before .before .before .before .before .before .before .before .before .before .before .held-total .ensures .0) (c .before .before .before .before .before .before .before .before .before .before .if2 .left) (c .before .before .before .before .before .before .before .lower-ceilings .ensures)
@@ -52,18 +25,18 @@ pub tighten-spec : {M : Type 1} → statement M
 tighten-spec =
     tie.close
     (tie.spec
-    carry-requires
-    none-requires
+    (λ c. search needs)
+    (search needs)
     returns
-    held-total-requires
-    none-requires-2
+    (search needs)
+    (search needs)
     returns-2
     lower-ceilings-requires
-    held-total-requires-2
-    greatest-requires
-    least-requires
-    none-requires-3
+    (search needs)
+    (search needs)
+    (search needs)
+    (search needs)
     returns-3
-    sub-raise-floors
+    (search needs)
     raise-floors-requires
     returns-4)

@@ -13,41 +13,11 @@ Inv-loop setpoints rises n last k₀ k = Nowhere (fallen setpoints rises) (n - 1
 abbrev μ-loop : tie.MeasureT-loop
 μ-loop setpoints rises n last k₀ k = n - k
 
-sub-last : tie.Need-sub-last Inv-loop μ-loop
-sub-last c = search needs
-
 loop-holds : tie.Need-loop-holds Inv-loop μ-loop
 loop-holds c = nowhere-none
 
-add-next : tie.Need-add-next Inv-loop μ-loop
-add-next c = search needs
-
-mul-is-fallen : tie.Need-mul-is-fallen Inv-loop μ-loop
-mul-is-fallen c = search needs
-
-element-copy-out-is-fallen : tie.Need-element-copy-out-is-fallen Inv-loop μ-loop
-element-copy-out-is-fallen c = search needs
-
-mul-is-fallen-2 : tie.Need-mul-is-fallen-2 Inv-loop μ-loop
-mul-is-fallen-2 c = search needs
-
-element-copy-out-is-fallen-2 : tie.Need-element-copy-out-is-fallen-2 Inv-loop μ-loop
-element-copy-out-is-fallen-2 c = search needs
-
-mul-is-fallen-3 : tie.Need-mul-is-fallen-3 Inv-loop μ-loop
-mul-is-fallen-3 c = search needs
-
-element-copy-out-is-fallen-3 : tie.Need-element-copy-out-is-fallen-3 Inv-loop μ-loop
-element-copy-out-is-fallen-3 c = search needs
-
-is-fallen-requires : tie.Need-is-fallen-requires Inv-loop μ-loop
-is-fallen-requires c κs = search needs
-
 returns : tie.Need-returns Inv-loop μ-loop
 returns c = nowhere-here (c .before .before .before .before .before .before .loop .inv) (c .before .before .before .before .before .loop-test .taken) (sym (c .before .is-fallen .ensures) ∙ c .if1 .taken)
-
-loop-less : tie.Need-loop-less Inv-loop μ-loop
-loop-less c = search needs
 
 loop-again : tie.Need-loop-again Inv-loop μ-loop
 loop-again c = nowhere-more (c .before .before .before .before .before .before .loop .inv) (c .before .before .before .before .before .loop-test .taken) (sym (c .before .is-fallen .ensures) ∙ c .if1 .left)
@@ -61,17 +31,17 @@ first-fallen-spec =
     (tie.spec
     Inv-loop
     μ-loop
-    sub-last
+    (search needs)
     loop-holds
-    add-next
-    mul-is-fallen
-    element-copy-out-is-fallen
-    mul-is-fallen-2
-    element-copy-out-is-fallen-2
-    mul-is-fallen-3
-    element-copy-out-is-fallen-3
-    is-fallen-requires
+    (search needs)
+    (search needs)
+    (search needs)
+    (search needs)
+    (search needs)
+    (search needs)
+    (search needs)
+    (search needs)
     returns
-    loop-less
+    (search needs)
     loop-again
     returns-2)

@@ -10,11 +10,8 @@ returns c = wrong-length _ _ (c .if1 .taken)
 returns-2 : tie.Need-returns-2
 returns-2 c = spent-refused _ _ (c .before .if1 .left) (c .if2 .taken)
 
-judge-requires : tie.Need-judge-requires
-judge-requires c κs = search needs
-
 returns-3 : tie.Need-returns-3
 returns-3 c = c .judge .ensures ∙ unspent-judged _ _ (c .before .before .if1 .left) (c .before .if2 .left)
 
 pub inspect-spec : {M : Type 1} → statement M
-inspect-spec = tie.close (tie.spec returns returns-2 judge-requires returns-3)
+inspect-spec = tie.close (tie.spec returns returns-2 (λ c. search needs) returns-3)

@@ -4,12 +4,6 @@ use borrow.Author.Needs.{needs}
 use Rattle.inspection.proofs.judge.Statement.{statement}
 use Rattle.inspection.proofs.judge.Tie as tie
 
-setpoints-requires : tie.Need-setpoints-requires
-setpoints-requires c κs = search needs
-
-judge-codes-requires : tie.Need-judge-codes-requires
-judge-codes-requires c κs = search needs
-
 returns : tie.Need-returns
 returns c =
     let p = c .before .before .before .before .before .before .before .before .before .before .before .pre in
@@ -17,4 +11,4 @@ returns c =
     c .judge-codes .ensures ∙ judged-codes _ _ (p .0 .present .most) (p .1) (e .1) (e .0)
 
 pub judge-spec : {M : Type 1} → statement M
-judge-spec = tie.close (tie.spec setpoints-requires judge-codes-requires returns)
+judge-spec = tie.close (tie.spec (search needs) (search needs) returns)

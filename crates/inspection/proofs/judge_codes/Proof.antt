@@ -4,23 +4,11 @@ use borrow.Author.Needs.{needs}
 use Rattle.inspection.proofs.judge_codes.Statement.{statement}
 use Rattle.inspection.proofs.judge_codes.Tie as tie
 
-first-outside-requires : tie.Need-first-outside-requires
-first-outside-requires c κs = search needs
-
 returns : tie.Need-returns
 returns c = day-broken _ _ _ _ _ _ _ (c .before .first-outside .ensures) (c .if1 .taken)
 
-first-fallen-requires : tie.Need-first-fallen-requires
-first-fallen-requires c κs = search needs
-
-sub-if2 : tie.Need-sub-if2
-sub-if2 c = search needs
-
 returns-2 : tie.Need-returns-2
 returns-2 c = rise-broken _ _ _ _ _ _ _ (c .before .before .before .first-outside .ensures) (c .before .before .if1 .left) (c .before .first-fallen .ensures) (c .if2 .taken)
-
-is-total-outside-requires : tie.Need-is-total-outside-requires
-is-total-outside-requires c κs = search needs
 
 returns-3 : tie.Need-returns-3
 returns-3 c = total-broken _ _ _ _ _ _ _ (c .before .before .before .before .before .first-outside .ensures) (c .before .before .before .before .if1 .left) (c .before .before .before .first-fallen .ensures) (c .before .before .if2 .left) (c .before .is-total-outside .ensures) (c .if3 .taken)
@@ -32,11 +20,11 @@ pub judge-codes-spec : {M : Type 1} → statement M
 judge-codes-spec =
     tie.close
     (tie.spec
-    first-outside-requires
+    (search needs)
     returns
-    first-fallen-requires
-    sub-if2
+    (search needs)
+    (search needs)
     returns-2
-    is-total-outside-requires
+    (search needs)
     returns-3
     returns-4)

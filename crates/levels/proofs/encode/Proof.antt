@@ -18,23 +18,11 @@ abbrev μ-loop : tie.MeasureT-loop
 loop-holds : tie.Need-loop-holds Inv-loop μ-loop
 loop-holds c = start _ _ _ _
 
-mul-coded-from : tie.Need-mul-coded-from Inv-loop μ-loop
-mul-coded-from c = search needs
-
-shared-slice-copy-out-coded-from : tie.Need-shared-slice-copy-out-coded-from Inv-loop μ-loop
-shared-slice-copy-out-coded-from c = search needs
-
 cast-coded-from : tie.Need-cast-coded-from Inv-loop μ-loop
 cast-coded-from c = search (whole-fits, needs)
 
 coded-from-requires : tie.Need-coded-from-requires Inv-loop μ-loop
 coded-from-requires c κs = let s = c .before .before .before in bounds-seen (s .fits .low) (s .fits .high) (omega arith)
-
-enum-known-r : tie.Need-enum-known-r Inv-loop μ-loop
-enum-known-r c = search needs
-
-enum-told : tie.Need-enum-told Inv-loop μ-loop
-enum-told c = search needs
 
 returns : tie.Need-returns Inv-loop μ-loop
 returns c =
@@ -47,18 +35,6 @@ cast-out c =
     let s = c .before .before .before .before .before .before .before in
     code-fits (c .before .before .before .before .before .before .loop .inv) (sfits-of (c .before .before .before .before .coded-from-arg .given)) (c .before .before .before .coded-from .ensures) (c .before .r .given .1)
     (bounds-seen (s .fits .low) (s .fits .high) (s .pre .0))
-
-mul-out : tie.Need-mul-out Inv-loop μ-loop
-mul-out c = search needs
-
-element-write-out : tie.Need-element-write-out Inv-loop μ-loop
-element-write-out c = search needs
-
-add-i : tie.Need-add-i Inv-loop μ-loop
-add-i c = search needs
-
-loop-less : tie.Need-loop-less Inv-loop μ-loop
-loop-less c = search needs
 
 loop-again : tie.Need-loop-again Inv-loop μ-loop
 loop-again c =
@@ -77,17 +53,17 @@ encode-spec =
     Inv-loop
     μ-loop
     loop-holds
-    mul-coded-from
-    shared-slice-copy-out-coded-from
+    (search needs)
+    (search needs)
     cast-coded-from
     coded-from-requires
-    enum-known-r
-    enum-told
+    (search needs)
+    (search needs)
     returns
     cast-out
-    mul-out
-    element-write-out
-    add-i
-    loop-less
+    (search needs)
+    (search needs)
+    (search needs)
+    (search needs)
     loop-again
     returns-2)

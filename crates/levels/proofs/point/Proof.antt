@@ -5,11 +5,8 @@ use Rattle.levels.specs.Code.{lowestPoint, highestPoint, coded}
 use Rattle.levels.proofs.point.Statement.{statement}
 use Rattle.levels.proofs.point.Tie as tie
 
-coded-from-requires : tie.Need-coded-from-requires
-coded-from-requires c κs = search needs
-
 returns : tie.Need-returns
 returns c = c .coded-from .ensures ∙ ap (coded lowestPoint highestPoint) (toZ-ofZ (c .before .fits .z))
 
 pub point-spec : {M : Type 1} → statement M
-point-spec = tie.close (tie.spec coded-from-requires returns)
+point-spec = tie.close (tie.spec (search needs) returns)

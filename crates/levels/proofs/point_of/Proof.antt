@@ -6,9 +6,6 @@ use Rattle.levels.proofs.Casts.{point-fits, recast, recast-fits}
 use Rattle.levels.proofs.point_of.Statement.{statement}
 use Rattle.levels.proofs.point_of.Tie as tie
 
-signed-requires : tie.Need-signed-requires
-signed-requires c κs = search needs
-
 cast-result : tie.Need-cast-result
 cast-result c = let f = point-fits (c .signed .ensures) (c .before .pre) in recast-fits w32 w16 (sfits-widen tt f) f
 
@@ -16,4 +13,4 @@ returns : tie.Need-returns
 returns c = let f = point-fits (c .signed .ensures) (c .before .pre) in recast w32 w16 (sfits-widen tt f) f ∙ c .signed .ensures
 
 pub point-of-spec : {M : Type 1} → statement M
-point-of-spec = tie.close (tie.spec signed-requires cast-result returns)
+point-of-spec = tie.close (tie.spec (search needs) cast-result returns)

@@ -1,12 +1,9 @@
 use mathlib.Core.Path.{sym, _∙_}
 use Rattle.levels.specs.Code.{lowestSetpoint, highestSetpoint}
-use Rattle.levels.specs.Laws.{none-outside}
+use Rattle.levels.proofs.Laws.{none-outside}
 use borrow.Author.Needs.{needs}
 use Rattle.levels.proofs.setpoints.Statement.{statement}
 use Rattle.levels.proofs.setpoints.Tie as tie
-
-encode-requires : tie.Need-encode-requires
-encode-requires c κs = search needs
 
 returns : tie.Need-returns
 returns c =
@@ -15,4 +12,4 @@ returns c =
     (rw whole at (e .1 .0), sym (e .0) ∙ whole)
 
 pub setpoints-spec : {M : Type 1} → statement M
-setpoints-spec = tie.close (tie.spec encode-requires returns)
+setpoints-spec = tie.close (tie.spec (search needs) returns)

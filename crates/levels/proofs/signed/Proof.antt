@@ -3,9 +3,6 @@ use Rattle.levels.proofs.Casts.{add-fits, shown}
 use Rattle.levels.proofs.signed.Statement.{statement}
 use Rattle.levels.proofs.signed.Tie as tie
 
-cast-result : tie.Need-cast-result
-cast-result c = search needs
-
 add-result : tie.Need-add-result
 add-result c = add-fits (c .fits .low) (c .pre)
 
@@ -13,4 +10,4 @@ returns : tie.Need-returns
 returns c = shown (c .fits .low) (c .pre)
 
 pub signed-spec : {M : Type 1} → statement M
-signed-spec = tie.close (tie.spec cast-result add-result returns)
+signed-spec = tie.close (tie.spec (search needs) add-result returns)

@@ -5,11 +5,8 @@ use Rattle.levels.specs.Code.{lowestTotal, highestTotal, coded}
 use Rattle.levels.proofs.total.Statement.{statement}
 use Rattle.levels.proofs.total.Tie as tie
 
-coded-from-requires : tie.Need-coded-from-requires
-coded-from-requires c κs = search needs
-
 returns : tie.Need-returns
 returns c = c .coded-from .ensures ∙ ap (coded lowestTotal highestTotal) (toZ-ofZ (c .before .fits .z))
 
 pub total-spec : {M : Type 1} → statement M
-total-spec = tie.close (tie.spec coded-from-requires returns)
+total-spec = tie.close (tie.spec (search needs) returns)

@@ -1,26 +1,13 @@
-use mir.Syntax.{w16}
-use Rattle.little_endian.proofs.Casts.{sub-fits, distance-fits, negative-fits, negative-bits, whole-fits, whole-bits}
+use Rattle.little_endian.proofs.Casts.{widened-fits, widened-bits}
+use borrow.Author.Needs.{needs}
 use Rattle.little_endian.proofs.bits_16.Statement.{statement}
 use Rattle.little_endian.proofs.bits_16.Tie as tie
 
-sub-result : tie.Need-sub-result
-sub-result c = sub-fits w16 (c .before .fits .z) (c .if1 .taken)
-
-cast-result : tie.Need-cast-result
-cast-result c = distance-fits w16 (c .before .fits .z) (c .if1 .taken)
-
-add-result : tie.Need-add-result
-add-result c = negative-fits w16 (c .before .fits .z) (c .if1 .taken)
+cast-bits-32 : tie.Need-cast-bits-32
+cast-bits-32 c = widened-fits (c .fits .z)
 
 returns : tie.Need-returns
-returns c = negative-bits w16 (c .before .fits .z) (c .if1 .taken)
-
-cast-result-2 : tie.Need-cast-result-2
-cast-result-2 c = whole-fits w16 (c .before .fits .z) (c .if1 .left)
-
-returns-2 : tie.Need-returns-2
-returns-2 c = whole-bits w16 (c .before .fits .z) (c .if1 .left)
+returns c = widened-bits (c .before .fits .z) (c .bits-32 .ensures)
 
 pub bits-16-spec : {M : Type 1} → statement M
-bits-16-spec =
-    tie.close (tie.spec sub-result cast-result add-result returns cast-result-2 returns-2)
+bits-16-spec = tie.close (tie.spec cast-bits-32 (search needs) (search needs) returns)

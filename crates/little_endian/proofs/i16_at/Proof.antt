@@ -7,15 +7,9 @@ use borrow.Author.Needs.{needs, sfits-of}
 use Rattle.little_endian.proofs.i16_at.Statement.{statement}
 use Rattle.little_endian.proofs.i16_at.Tie as tie
 
-u16-at-requires : tie.Need-u16-at-requires
-u16-at-requires c κs = search needs
-
-signed-16-requires : tie.Need-signed-16-requires
-signed-16-requires c κs = search needs
-
 returns : tie.Need-returns
 unfolding i16At
 returns c = toZ-ofZ (sfits-of (c .signed-16 .ok)) ∙ c .signed-16 .ensures ∙ ap (toZ w16) (c .before .u16-at .ensures)
 
 pub i16-at-spec : {M : Type 1} → statement M
-i16-at-spec = tie.close (tie.spec u16-at-requires signed-16-requires returns)
+i16-at-spec = tie.close (tie.spec (search needs) (search needs) returns)

@@ -4,15 +4,6 @@ use borrow.Author.Needs.{needs}
 use Rattle.little_endian.proofs.put_i16.Statement.{statement}
 use Rattle.little_endian.proofs.put_i16.Tie as tie
 
-bits-16-requires : tie.Need-bits-16-requires
-bits-16-requires c κs = search needs
-
-put-u16-requires : tie.Need-put-u16-requires
-put-u16-requires c κs = search needs
-
-same-length : tie.Need-same-length
-same-length c = search needs
-
 returns : tie.Need-returns
 unfolding i16Bytes
 returns c =
@@ -20,4 +11,4 @@ returns c =
     rw (c .before .before .before .bits-16 .ensures, toZ-ofZ (s .fits .z)) at (c .before .before .put-u16 .ensures)
 
 pub put-i16-spec : {M : Type 1} → statement M
-put-i16-spec = tie.close (tie.spec bits-16-requires put-u16-requires same-length returns)
+put-i16-spec = tie.close (tie.spec (search needs) (search needs) (search needs) returns)

@@ -4,15 +4,6 @@ use borrow.Author.Needs.{needs}
 use Rattle.little_endian.proofs.put_i32.Statement.{statement}
 use Rattle.little_endian.proofs.put_i32.Tie as tie
 
-bits-32-requires : tie.Need-bits-32-requires
-bits-32-requires c κs = search needs
-
-put-u32-requires : tie.Need-put-u32-requires
-put-u32-requires c κs = search needs
-
-same-length : tie.Need-same-length
-same-length c = search needs
-
 returns : tie.Need-returns
 unfolding i32Bytes
 returns c =
@@ -20,4 +11,4 @@ returns c =
     rw (c .before .before .before .bits-32 .ensures, toZ-ofZ (s .fits .z)) at (c .before .before .put-u32 .ensures)
 
 pub put-i32-spec : {M : Type 1} → statement M
-put-i32-spec = tie.close (tie.spec bits-32-requires put-u32-requires same-length returns)
+put-i32-spec = tie.close (tie.spec (search needs) (search needs) (search needs) returns)

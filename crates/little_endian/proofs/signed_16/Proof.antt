@@ -5,15 +5,6 @@ use native.Mathlib.Omega.{arith}
 use Rattle.little_endian.proofs.signed_16.Statement.{statement}
 use Rattle.little_endian.proofs.signed_16.Tie as tie
 
-cast-result : tie.Need-cast-result
-cast-result c = search needs
-
-returns : tie.Need-returns
-returns c = search needs
-
-cast-result-2 : tie.Need-cast-result-2
-cast-result-2 c = search needs
-
 add-result : tie.Need-add-result
 add-result c = add-fits w16 (c .before .fits .x) (omega arith)
 
@@ -21,4 +12,4 @@ returns-2 : tie.Need-returns-2
 returns-2 c = signed w16 (c .before .fits .x) (omega arith)
 
 pub signed-16-spec : {M : Type 1} → statement M
-signed-16-spec = tie.close (tie.spec cast-result returns cast-result-2 add-result returns-2)
+signed-16-spec = tie.close (tie.spec (search needs) (search needs) (search needs) add-result returns-2)

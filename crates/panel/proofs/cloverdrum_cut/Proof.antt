@@ -4,17 +4,8 @@ use borrow.Author.Needs.{needs}
 use Rattle.panel.proofs.cloverdrum_cut.Statement.{statement}
 use Rattle.panel.proofs.cloverdrum_cut.Tie as tie
 
-cut-requires : tie.Need-cut-requires
-cut-requires c κs = search needs
-
-same-length : tie.Need-same-length
-same-length c = search needs
-
-same-length-2 : tie.Need-same-length-2
-same-length-2 c = search needs
-
 returns : tie.Need-returns
 returns c = let e = rw (toZ-ofZ (c .before .before .before .before .before .before .before .before .before .fits .value)) at (c .before .before .before .before .cut .ensures) in (ap (λ a. a .refusal) (e .0), (e .1 .0, (e .1 .1, ap (λ a. a .changed) (e .0))))
 
 pub cloverdrum-cut-spec : {M : Type 1} → statement M
-cloverdrum-cut-spec = tie.close (tie.spec cut-requires same-length same-length-2 returns)
+cloverdrum-cut-spec = tie.close (tie.spec (search needs) (search needs) (search needs) returns)

@@ -1,7 +1,7 @@
 use mathlib.Core.Path.{refl, sym}
 use mir.Facts.{toZ-ofZ}
 use borrow.Author.Tests.{eq-eqb, ne-eqb}
-use Rattle.session.specs.Sanity.{opened-sane}
+use Rattle.session.proofs.Sanity.{opened-sane}
 use Rattle.panel.specs.Entries.{openRefusal, openBytes}
 use borrow.Author.Needs.{needs}
 use Rattle.panel.proofs.cloverdrum_open.Statement.{statement}
@@ -11,15 +11,9 @@ returns : tie.Need-returns
 unfolding openRefusal openBytes
 returns c = rw (ne-eqb _ _ (c .if1 .taken)) (refl, refl)
 
-length-refusal-requires : tie.Need-length-refusal-requires
-length-refusal-requires c κs = search needs
-
 returns-2 : tie.Need-returns-2
 unfolding openRefusal openBytes
 returns-2 c = let e = ne-eqb _ _ (c .if2 .taken) in rw (eq-eqb _ _ (c .before .before .if1 .left), ← c .before .length-refusal .ensures, e) (refl, rw e refl)
-
-open-lists-requires : tie.Need-open-lists-requires
-open-lists-requires c κs = search needs
 
 returns-3 : tie.Need-returns-3
 unfolding openRefusal openBytes
@@ -27,9 +21,6 @@ returns-3 c = rw (eq-eqb _ _ (c .before .before .before .before .before .if1 .le
 
 encode-requires : tie.Need-encode-requires
 encode-requires c κs = (rw (c .before .before .before .open-lists .ensures) (opened-sane _), search needs)
-
-same-length : tie.Need-same-length
-same-length c = search needs
 
 returns-4 : tie.Need-returns-4
 unfolding openRefusal openBytes
@@ -40,10 +31,10 @@ cloverdrum-open-spec =
     tie.close
     (tie.spec
     returns
-    length-refusal-requires
+    (search needs)
     returns-2
-    open-lists-requires
+    (search needs)
     returns-3
     encode-requires
-    same-length
+    (search needs)
     returns-4)

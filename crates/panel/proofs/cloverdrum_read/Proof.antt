@@ -6,21 +6,9 @@ use borrow.Author.Needs.{needs, sfits-of}
 use Rattle.panel.proofs.cloverdrum_read.Statement.{statement}
 use Rattle.panel.proofs.cloverdrum_read.Tie as tie
 
-show-requires : tie.Need-show-requires
-show-requires c κs = search needs
-
-mark-requires : tie.Need-mark-requires
-mark-requires c κs = search needs
-
-same-length : tie.Need-same-length
-same-length c = search needs
-
-same-length-2 : tie.Need-same-length-2
-same-length-2 c = search needs
-
 returns : tie.Need-returns
 returns c = let e = c .before .before .before .before .before .before .before .show .ensures in let f = c .before .before .struct-told .given .1 in (ap (λ a. a .refusal) (e .0), (e .1 .0, (e .1 .1, (toZ-ofZ (sfits-of {w = w32} (f .0 .1)) ∙ ap (λ a. a .least) (e .0), (toZ-ofZ (sfits-of {w = w32} (f .1 .0 .1)) ∙ ap (λ a. a .most) (e .0), c .mark .ensures ∙ ap (λ a. cond (a .spent) 1 0) (e .0))))))
 
 pub cloverdrum-read-spec : {M : Type 1} → statement M
 cloverdrum-read-spec =
-    tie.close (tie.spec show-requires mark-requires same-length same-length-2 returns)
+    tie.close (tie.spec (search needs) (search needs) (search needs) (search needs) returns)

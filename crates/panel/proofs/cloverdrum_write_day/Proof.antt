@@ -3,14 +3,8 @@ use borrow.Author.Needs.{needs}
 use Rattle.panel.proofs.cloverdrum_write_day.Statement.{statement}
 use Rattle.panel.proofs.cloverdrum_write_day.Tie as tie
 
-write-requires : tie.Need-write-requires
-write-requires c κs = search needs
-
-same-length : tie.Need-same-length
-same-length c = search needs
-
 returns : tie.Need-returns
 returns c = rw (toZ-ofZ (c .before .before .before .before .before .before .fits .value)) at (c .before .before .write .ensures)
 
 pub cloverdrum-write-day-spec : {M : Type 1} → statement M
-cloverdrum-write-day-spec = tie.close (tie.spec write-requires same-length returns)
+cloverdrum-write-day-spec = tie.close (tie.spec (search needs) (search needs) returns)

@@ -18,15 +18,6 @@ after c = cut-room _ _ _ (c .before .before .decode .ensures) (c .before .before
 returns : tie.Need-returns
 returns c = cut-unread _ _ _ (c .if1 .taken)
 
-least-requires : tie.Need-least-requires
-least-requires c κs = search needs
-
-decode-requires : tie.Need-decode-requires
-decode-requires c κs = search needs
-
-array-borrow-prefix-list : tie.Need-array-borrow-prefix-list
-array-borrow-prefix-list c = search needs
-
 slice-aggregate-cut-told : tie.Need-slice-aggregate-cut-told
 slice-aggregate-cut-told c = sym (length-take-le _ _ (search needs))
 
@@ -39,26 +30,14 @@ put-cells-requires c κs = cut-fits _ _ _ (after (c .before .before .before .bef
 encode-requires : tie.Need-encode-requires
 encode-requires c κs = (cut-keeps _ _ _ (after (c .before .before .before .before .before .before .before .before .before .before)), search needs)
 
-same-length : tie.Need-same-length
-same-length c = search needs
-
-same-length-2 : tie.Need-same-length-2
-same-length-2 c = search needs
-
 returns-2 : tie.Need-returns-2
 returns-2 c = cut-listed _ _ _ (c .before .before .before .before .before .before .before .before .before .before .before .before .before .before .before .before .before .before .if1 .left) (after (c .before .before .before .before .before .before .before .before .before .before .before .before .before)) _ _ (c .before .before .before .before .before .before .before .before .before .if2 .taken) (c .before .before .before .before .before .before .before .before .before .before .before .before .before .before .before .decode .ensures) (c .before .before .before .before .before .before .before .before .before .before .before .before .before .cut-told .ensures .1) (c .before .before .before .before .before .before .put-cells .ensures) (c .before .before .encode .ensures)
 
 encode-requires-2 : tie.Need-encode-requires-2
 encode-requires-2 c κs = (cut-keeps _ _ _ (after (c .before .before .before .before .before .before .before)), search needs)
 
-same-length-3 : tie.Need-same-length-3
-same-length-3 c = search needs
-
 returns-3 : tie.Need-returns-3
 returns-3 c = cut-spent _ _ _ (c .before .before .before .before .before .before .before .before .before .before .before .before .before .before .before .if1 .left) (after (c .before .before .before .before .before .before .before .before .before .before)) (c .before .before .before .before .if3 .taken) (c .before .before .encode2 .ensures)
-
-same-length-4 : tie.Need-same-length-4
-same-length-4 c = search needs
 
 returns-4 : tie.Need-returns-4
 returns-4 c = cut-refused _ _ _ (c .before .before .before .before .before .before .before .before .before .before .before .if1 .left) (after (c .before .before .before .before .before .before)) (c .before .before .if2 .left) (c .if3 .left)
@@ -68,18 +47,18 @@ cut-spec =
     tie.close
     (tie.spec
     returns
-    least-requires
-    decode-requires
-    array-borrow-prefix-list
+    (search needs)
+    (search needs)
+    (search needs)
     slice-aggregate-cut-told
     cut-told-requires
     put-cells-requires
     encode-requires
-    same-length
-    same-length-2
+    (search needs)
+    (search needs)
     returns-2
     encode-requires-2
-    same-length-3
+    (search needs)
     returns-3
-    same-length-4
+    (search needs)
     returns-4)

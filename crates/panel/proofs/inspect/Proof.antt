@@ -1,4 +1,4 @@
-use Rattle.byte_lists.specs.Laws.{held}
+use Rattle.byte_lists.proofs.Laws.{held}
 use Rattle.panel.proofs.Laws.{held-sane, held-few, no-session, no-list, session-and-list, inspect-unread, inspect-all}
 use native.Mathlib.Omega.{arith}
 use borrow.Author.Needs.{needs}
@@ -7,9 +7,6 @@ use Rattle.panel.proofs.inspect.Tie as tie
 
 returns : tie.Need-returns
 returns c = inspect-unread _ _ (no-session _ _ (c .if1 .taken))
-
-decode-requires : tie.Need-decode-requires
-decode-requires c κs = search needs
 
 mul-if2 : tie.Need-mul-if2
 mul-if2 c = record { fits = omega (arith, held-few _ (c .decode .ensures)) }
@@ -37,7 +34,7 @@ inspect-spec =
     tie.close
     (tie.spec
     returns
-    decode-requires
+    (search needs)
     mul-if2
     returns-2
     points-requires

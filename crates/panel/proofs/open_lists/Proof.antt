@@ -1,7 +1,7 @@
 use Prim.Native.Nat.{_-_}
 use lib.ListN.{length}
 use mir.Facts.{toZ-ofZ}
-use Rattle.byte_lists.specs.Laws.{Long, long, Held, held}
+use Rattle.byte_lists.proofs.Laws.{Long, long, Held, held}
 use native.Mathlib.Omega.{arith}
 use borrow.Author.Needs.{needs}
 use Rattle.panel.proofs.open_lists.Statement.{statement}
@@ -54,9 +54,6 @@ array-share-prefix-steps c = steps (c .before .before) .room
 slice-aggregate-open-3 : tie.Need-slice-aggregate-open-3
 slice-aggregate-open-3 c = steps (c .before .before .before) .long
 
-open-requires : tie.Need-open-requires
-open-requires c κs = search needs
-
 returns : tie.Need-returns
 returns c = rw (toZ-ofZ (c .before .before .before .before .before .before .before .before .before .before .before .before .before .fits .lowest), toZ-ofZ (c .before .before .before .before .before .before .before .before .before .before .before .before .before .fits .highest), low (c .before .before .before .before .before .before .before .before) .same, high (c .before .before .before .before .before .before) .same, steps (c .before .before .before .before) .same) at (c .«open» .ensures)
 
@@ -75,5 +72,5 @@ open-lists-spec =
     sub-steps
     array-share-prefix-steps
     slice-aggregate-open-3
-    open-requires
+    (search needs)
     returns)

@@ -1,70 +1,58 @@
-use Rattle.panel.proofs.Laws.{held-sane, held-few, show-unread, show-first-short, show-second-short, show-all}
-use native.Mathlib.Omega.{arith}
+use mathlib.Core.Path.{_≡_, sym}
+use Prim.Native.Nat.{_/_}
+use lib.ListN.{length}
+use lib.Seq.{length-take-le}
+use Rattle.session.specs.Showing.{shown}
+use Rattle.session_bytes.specs.Layout.{decoding}
+use Rattle.panel.proofs.Laws.{held-sane, show-room, show-fits, show-unread, show-refused, show-all}
 use borrow.Author.Needs.{needs}
 use Rattle.panel.proofs.show.Statement.{statement}
 use Rattle.panel.proofs.show.Tie as tie
 
-too-short-requires : tie.Need-too-short-requires
-too-short-requires c κs = search needs
+-- what is given, with all of the lists as room
+after : (c : tie.After-show) → c .show .result ≡ shown (decoding (c .before .before .before .before .before .before .before .before .before .before .args .session .now)) (length (c .before .before .before .before .before .before .before .before .before .before .args .floors .now) / 2) (length (c .before .before .before .before .before .before .before .before .before .before .args .ceilings .now) / 2)
+after c = show-room _ _ _ (c .before .before .before .before .before .decode .ensures) (c .before .before .before .before .least .ensures) (c .before .before .before .least2 .ensures) (c .show .ensures .0)
 
 returns : tie.Need-returns
-returns c = show-unread _ _ _ (c .too-short .ensures) (c .before .if1 .taken)
-
-decode-requires : tie.Need-decode-requires
-decode-requires c κs = search needs
-
-too-short-requires-2 : tie.Need-too-short-requires-2
-too-short-requires-2 c κs = search needs
-
-returns-2 : tie.Need-returns-2
-returns-2 c = show-first-short _ _ _ (c .before .before .before .if1 .left) (c .before .before .decode .ensures) (c .too-short2 .ensures) (c .before .if2 .taken)
-
-too-short-requires-3 : tie.Need-too-short-requires-3
-too-short-requires-3 c κs = search needs
-
-returns-3 : tie.Need-returns-3
-returns-3 c = show-second-short _ _ _ (c .before .before .before .before .if1 .left) (c .before .before .before .decode .ensures) (c .too-short3 .ensures) (c .before .if3 .taken)
+returns c = show-unread _ _ _ (c .if1 .taken)
 
 slice-aggregate-show : tie.Need-slice-aggregate-show
-slice-aggregate-show c = search needs
+slice-aggregate-show c = sym (length-take-le _ _ (search needs))
 
 slice-aggregate-show-2 : tie.Need-slice-aggregate-show-2
-slice-aggregate-show-2 c = search needs
+slice-aggregate-show-2 c = sym (length-take-le _ _ (search needs))
 
 show-requires : tie.Need-show-requires
 show-requires c κs = held-sane _ (c .before .before .before .before .decode .ensures)
 
+returns-2 : tie.Need-returns-2
+returns-2 c = show-refused _ _ _ (after (c .before .before .before .before)) (c .before .before .before .before .before .before .before .before .before .before .if1 .left) (c .if2 .taken)
+
 put-points-requires : tie.Need-put-points-requires
-put-points-requires c κs = omega (arith, held-few _ (c .before .before .before .before .before .before .before .before .before .decode .ensures))
+put-points-requires c κs = let f = show-fits _ _ _ (c .before .before .before .before .before .before .before .before .before .before .before .decode .ensures) (after (c .before .before .before .before .before .before)) (c .before .before .if2 .left) in (f .0, f .1 .0)
 
 put-points-requires-2 : tie.Need-put-points-requires-2
-put-points-requires-2 c κs = omega (arith, held-few _ (c .before .before .before .before .before .before .before .before .before .before .before .before .before .before .decode .ensures))
+put-points-requires-2 c κs = let f = show-fits _ _ _ (c .before .before .before .before .before .before .before .before .before .before .before .before .before .before .before .before .decode .ensures) (after (c .before .before .before .before .before .before .before .before .before .before .before)) (c .before .before .before .before .before .before .before .if2 .left) in (f .0, f .1 .1)
 
-same-length : tie.Need-same-length
-same-length c = search needs
-
-same-length-2 : tie.Need-same-length-2
-same-length-2 c = search needs
-
-returns-4 : tie.Need-returns-4
-returns-4 c = show-all _ _ _ (c .before .before .before .before .before .before .before .before .before .before .before .before .before .before .before .before .before .before .if1 .left) (c .before .before .before .before .before .before .before .before .before .before .before .before .before .before .before .before .before .decode .ensures) (c .before .before .before .before .before .before .before .before .before .before .before .before .before .before .before .before .if2 .left) (c .before .before .before .before .before .before .before .before .before .before .before .before .before .before .before .if3 .left) (c .before .before .before .before .before .before .before .before .before .before .before .before .show .ensures .0) (c .before .before .before .before .before .before .before .before .before .before .before .before .show .ensures .1 .0) (c .before .before .before .before .before .before .before .before .before .before .before .before .show .ensures .1 .1) (c .before .before .before .before .before .before .before .put-points .ensures) (c .before .before .put-points2 .ensures)
+returns-3 : tie.Need-returns-3
+returns-3 c = show-all _ _ _ (after (c .before .before .before .before .before .before .before .before .before .before .before .before .before .before)) (c .before .before .before .before .before .before .before .before .before .before .before .before .before .before .before .before .before .before .before .before .if1 .left) (c .before .before .before .before .before .before .before .before .before .before .if2 .left) (c .before .before .before .before .before .before .before .before .before .before .before .before .before .before .before .before .before .before .before .decode .ensures) (c .before .before .before .before .before .before .before .before .before .before .before .before .before .before .before .before .before .before .least .ensures) (c .before .before .before .before .before .before .before .before .before .before .before .before .before .before .before .before .before .least2 .ensures) _ _ (c .before .before .before .before .before .before .before .before .before .before .before .before .before .before .show .ensures .1 .0) (c .before .before .before .before .before .before .before .before .before .before .before .before .before .before .show .ensures .1 .1) (c .before .before .before .before .before .before .before .put-points .ensures) (c .before .before .put-points2 .ensures)
 
 pub show-spec : {M : Type 1} → statement M
 show-spec =
     tie.close
     (tie.spec
-    too-short-requires
     returns
-    decode-requires
-    too-short-requires-2
-    returns-2
-    too-short-requires-3
-    returns-3
+    (search needs)
+    (search needs)
+    (search needs)
+    (search needs)
     slice-aggregate-show
+    (search needs)
     slice-aggregate-show-2
     show-requires
+    returns-2
     put-points-requires
     put-points-requires-2
-    same-length
-    same-length-2
-    returns-4)
+    (search needs)
+    (search needs)
+    returns-3)

@@ -10,9 +10,6 @@ use Rattle.panel.proofs.write.Tie as tie
 returns : tie.Need-returns
 returns c = write-unread _ _ _ _ (no-session _ _ (c .if1 .taken))
 
-decode-requires : tie.Need-decode-requires
-decode-requires c κs = search needs
-
 mul-if2 : tie.Need-mul-if2
 mul-if2 c = record { fits = omega (arith, held-few _ (c .decode .ensures)) }
 
@@ -34,9 +31,6 @@ returns-3 c = write-refused _ _ _ _ (c .before .before .before .before .before .
 put-points-requires : tie.Need-put-points-requires
 put-points-requires c κs = omega (arith, held-few _ (c .before .before .before .before .before .before .before .decode .ensures))
 
-same-length : tie.Need-same-length
-same-length c = search needs
-
 returns-4 : tie.Need-returns-4
 returns-4 c = let e = rw (toZ-ofZ (c .before .before .before .before .before .before .before .before .before .before .before .before .before .before .fits .value)) at (c .before .before .before .before .before .before .before .write-for .ensures) in write-all _ _ _ _ (c .before .before .before .before .before .before .before .before .before .before .decode .ensures) (session-and-list _ _ (c .before .before .before .before .before .before .before .before .before .before .before .if1 .left) (c .before .before .before .before .before .before .before .before .before .before .decode .ensures) (c .before .before .before .before .before .before .before .before .before .if2 .left)) (e .0) _ (c .before .before .before .before .before .if3 .left) (c .before .before .before .before .before .before .before .before .before .if2 .left) (e .1) (c .before .before .put-points .ensures)
 
@@ -45,7 +39,7 @@ write-spec =
     tie.close
     (tie.spec
     returns
-    decode-requires
+    (search needs)
     mul-if2
     returns-2
     array-borrow-prefix-schedule
@@ -53,5 +47,5 @@ write-spec =
     write-for-requires
     returns-3
     put-points-requires
-    same-length
+    (search needs)
     returns-4)

@@ -16,20 +16,8 @@ abbrev μ-loop : tie.MeasureT-loop
 loop-holds : tie.Need-loop-holds Inv-loop μ-loop
 loop-holds c = applied-none (c .pre .0)
 
-mul-cut-once : tie.Need-mul-cut-once Inv-loop μ-loop
-mul-cut-once c = search needs
-
-array-copy-out-cut-once : tie.Need-array-copy-out-cut-once Inv-loop μ-loop
-array-copy-out-cut-once c = search needs
-
 cut-once-requires : tie.Need-cut-once-requires Inv-loop μ-loop
 cut-once-requires c κs = c .before .before .loop .inv .sane
-
-add-j : tie.Need-add-j Inv-loop μ-loop
-add-j c = search needs
-
-loop-less : tie.Need-loop-less Inv-loop μ-loop
-loop-less c = search needs
 
 loop-again : tie.Need-loop-again Inv-loop μ-loop
 loop-again c = applied-more (c .before .before .before .loop .inv) (c .before .before .loop-test .taken) (c .cut-once .ensures)
@@ -44,10 +32,10 @@ cut-all-spec =
     Inv-loop
     μ-loop
     loop-holds
-    mul-cut-once
-    array-copy-out-cut-once
+    (search needs)
+    (search needs)
     cut-once-requires
-    add-j
-    loop-less
+    (search needs)
+    (search needs)
     loop-again
     returns)

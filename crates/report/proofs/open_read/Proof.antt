@@ -7,9 +7,6 @@ use borrow.Author.Needs.{needs}
 use Rattle.report.proofs.open_read.Statement.{statement}
 use Rattle.report.proofs.open_read.Tie as tie
 
-sub-steps : tie.Need-sub-steps
-sub-steps c = search needs
-
 slice-aggregate-open : tie.Need-slice-aggregate-open
 slice-aggregate-open c = sym (length-take-le (c .before .before .before .before .args .days) (c .before .before .before .before .args .floors .now) (search needs))
 
@@ -19,9 +16,6 @@ slice-aggregate-open-2 c = sym (length-take-le (c .before .before .before .befor
 slice-aggregate-open-3 : tie.Need-slice-aggregate-open-3
 slice-aggregate-open-3 c = sym (length-take-le (c .before .before .before .before .before .before .args .days - 1) (c .before .before .before .before .before .before .args .rises .now) (search needs))
 
-open-requires : tie.Need-open-requires
-open-requires c κs = search needs
-
 returns : tie.Need-returns
 returns c = rw (toZ-ofZ (c .before .before .before .before .before .before .before .fits .lowest), toZ-ofZ (c .before .before .before .before .before .before .before .fits .highest)) at (c .«open» .ensures)
 
@@ -29,9 +23,9 @@ pub open-read-spec : {M : Type 1} → statement M
 open-read-spec =
     tie.close
     (tie.spec
-    sub-steps
+    (search needs)
     slice-aggregate-open
     slice-aggregate-open-2
     slice-aggregate-open-3
-    open-requires
+    (search needs)
     returns)

@@ -7,11 +7,11 @@ use mir.Syntax.{w32}
 use mir.Facts.{toZ-ofZ}
 use borrow.Author.Needs.{sfits-of}
 use Rattle.session.specs.Opening.{opened}
-use Rattle.session.specs.Sanity.{opened-sane}
+use Rattle.session.proofs.Sanity.{opened-sane}
 use Rattle.profile_file.specs.Format.{profileIn}
-use Rattle.file_reader.specs.Laws.{read-number}
+use Rattle.file_reader.proofs.Laws.{read-number}
 use Rattle.report.specs.Printing.{printed, answerText, refusedLine}
-use Rattle.report.specs.Laws.{answer-refused, answer-ranges, read-refused, open-refused, sheet-applied}
+use Rattle.report.proofs.Lines.{answer-refused, answer-ranges, read-refused, open-refused, sheet-applied}
 use Rattle.report.proofs.Laws.{stage-passed, stage-refused}
 use Rattle.report.proofs.Reading.{Got, got}
 use borrow.Author.Needs.{needs}
@@ -41,47 +41,11 @@ cuts c =
     sheet-applied (bytes (c .before .before .before .before .before .before .before .before .before .before .before .before .before .before .before .before .before .before .before .before .before .before .before)) (g .none) (c .before .before .before .before .before .before .before .before .before .before .before .before .before .before .before .before .before .before .read .result .sheet) (g .cuts)
     ∙ ap answerText (sym (rw (opens (c .before .before .before .before .before .before)) at (c .cut-all .ensures .0)))
 
-slice-aggregate-read : tie.Need-slice-aggregate-read
-slice-aggregate-read c = search needs
-
-slice-aggregate-read-2 : tie.Need-slice-aggregate-read-2
-slice-aggregate-read-2 c = search needs
-
-slice-aggregate-read-3 : tie.Need-slice-aggregate-read-3
-slice-aggregate-read-3 c = search needs
-
-read-requires : tie.Need-read-requires
-read-requires c κs = search needs
-
-stage-of-requires : tie.Need-stage-of-requires
-stage-of-requires c κs = search needs
-
-enum-told : tie.Need-enum-told
-enum-told c = search needs
-
-enum-told-2 : tie.Need-enum-told-2
-enum-told-2 c = search needs
-
-put-refusal-requires : tie.Need-put-refusal-requires
-put-refusal-requires c κs = search needs
-
 returns : tie.Need-returns
 returns c = let b = bytes (c .before .before .before .before .before .before .before .before .before .before .before .before .before) in let number = ap (λ a. a .refusal) (c .before .before .before .before .before .before .before .before .read .ensures .0) ∙ read-number b 512 512 511 (omega arith) (omega arith) (omega arith) in let e = read-refused b (λ z. stage-refused (c .before .before .before .before .before .before .before .before .read .result .refusal) (c .before .before .before .before .stage-of .ensures) (c .before .before .enum-told2 .given .1) (number ∙ z)) ∙ ap refusedLine (sym number) in rw e (c .put-refusal .ensures)
 
 open-read-requires : tie.Need-open-read-requires
 open-read-requires c κs = (got-file (c .before .before .before .before .before) .some, got-file (c .before .before .before .before .before) .few)
-
-stage-of-requires-2 : tie.Need-stage-of-requires-2
-stage-of-requires-2 c κs = search needs
-
-enum-told-3 : tie.Need-enum-told-3
-enum-told-3 c = search needs
-
-enum-told-4 : tie.Need-enum-told-4
-enum-told-4 c = search needs
-
-put-refusal-requires-2 : tie.Need-put-refusal-requires-2
-put-refusal-requires-2 c κs = search needs
 
 returns-2 : tie.Need-returns-2
 returns-2 c = let b = bytes (c .before .before .before .before .before .before .before .before .before .before .before .before .before .before .before .before .before .before .before .before .before .before) in let o = opens (c .before .before .before .before .before) in let h = stage-refused (c .before .before .before .before .before .open-read .result .refusal) (c .before .before .before .before .stage-of2 .ensures) (c .before .before .enum-told4 .given .1) in let e = open-refused b (got-file (c .before .before .before .before .before .before .before .before .before .before .before) .none) (rw o at h) ∙ ap (λ a. refusedLine (a .refusal)) (sym o) in rw e (c .put-refusal2 .ensures)
@@ -89,23 +53,8 @@ returns-2 c = let b = bytes (c .before .before .before .before .before .before .
 cut-all-requires : tie.Need-cut-all-requires
 cut-all-requires c κs = (rw (opens (c .before .before .before .before .before)) (opened-sane (profileIn (bytes (c .before .before .before .before .before .before .before .before .before .before .before .before .before .before .before .before .before .before .before .before .before .before)))), got-file (c .before .before .before .before .before .before .before .before .before .before .before) .fewCuts)
 
-stage-of-requires-3 : tie.Need-stage-of-requires-3
-stage-of-requires-3 c κs = search needs
-
-enum-told-5 : tie.Need-enum-told-5
-enum-told-5 c = search needs
-
-enum-told-6 : tie.Need-enum-told-6
-enum-told-6 c = search needs
-
-put-refusal-requires-3 : tie.Need-put-refusal-requires-3
-put-refusal-requires-3 c κs = search needs
-
 returns-3 : tie.Need-returns-3
 returns-3 c = let e = cuts (c .before .before .before .before .before) ∙ answer-refused (c .before .before .before .before .before .cut-all .result) (stage-refused (c .before .before .before .before .before .cut-all .result .refusal) (c .before .before .before .before .stage-of3 .ensures) (c .before .before .enum-told6 .given .1)) in rw e (c .put-refusal3 .ensures)
-
-put-ranges-requires : tie.Need-put-ranges-requires
-put-ranges-requires c κs = search needs
 
 returns-4 : tie.Need-returns-4
 returns-4 c = let e = cuts (c .before .before .before .before .before .before) ∙ answer-ranges (c .before .before .before .before .before .before .cut-all .result) (stage-passed (c .before .before .before .before .before .before .cut-all .result .refusal) (c .before .before .before .before .before .stage-of3 .ensures) (c .before .before .before .enum-told5 .given .1)) in rw e (c .put-ranges .ensures)
@@ -114,26 +63,26 @@ pub print-ranges-spec : {M : Type 1} → statement M
 print-ranges-spec =
     tie.close
     (tie.spec
-    slice-aggregate-read
-    slice-aggregate-read-2
-    slice-aggregate-read-3
-    read-requires
-    stage-of-requires
-    enum-told
-    enum-told-2
-    put-refusal-requires
+    (search needs)
+    (search needs)
+    (search needs)
+    (search needs)
+    (search needs)
+    (search needs)
+    (search needs)
+    (search needs)
     returns
     open-read-requires
-    stage-of-requires-2
-    enum-told-3
-    enum-told-4
-    put-refusal-requires-2
+    (search needs)
+    (search needs)
+    (search needs)
+    (search needs)
     returns-2
     cut-all-requires
-    stage-of-requires-3
-    enum-told-5
-    enum-told-6
-    put-refusal-requires-3
+    (search needs)
+    (search needs)
+    (search needs)
+    (search needs)
     returns-3
-    put-ranges-requires
+    (λ c. search needs)
     returns-4)

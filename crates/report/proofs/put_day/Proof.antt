@@ -10,7 +10,7 @@ use mir.Facts.{sfits-widen}
 use Rattle.levels.proofs.Casts.{recast, recast-fits}
 use Rattle.text.specs.Numbers.{decimal}
 use Rattle.report.specs.Printing.{range, dayLine}
-use Rattle.report.specs.Laws.{day-parts}
+use Rattle.report.proofs.Lines.{day-parts}
 use Rattle.report.proofs.Laws.{Left, left-all, left-more, left-none, left-room, last-room}
 use native.Mathlib.Omega.{arith}
 use borrow.Author.Needs.{needs}
@@ -40,9 +40,6 @@ low s = recast w16 w32 (s .fits .low) (wide (s .fits .low))
 high : (s : tie.Start) → toZ w32 (ofZ w32 (toZ w16 (ofZ w16 (s .args .high)))) ≡ s .args .high
 high s = recast w16 w32 (s .fits .high) (wide (s .fits .high))
 
-slice-aggregate-put : tie.Need-slice-aggregate-put
-slice-aggregate-put c = search needs
-
 put-requires : tie.Need-put-requires
 put-requires c κs = omega (arith, ap length (day-parts (c .before .before .before .args .day) (c .before .before .before .args .low) (c .before .before .before .args .high)), c .before .before .before .pre)
 
@@ -58,9 +55,6 @@ cast-put-range-2 c = recast-fits w16 w32 (c .before .before .before .before .bef
 put-range-requires : tie.Need-put-range-requires
 put-range-requires c κs = rw (low (c .before .before .before .before .before .before .before .before .before .before .before), high (c .before .before .before .before .before .before .before .before .before .before .before)) (last-room (two (c .before .before .before)) (c .before .before .before .before .before .before .before .before .before .before .before .pre))
 
-same-length : tie.Need-same-length
-same-length c = search needs
-
 returns : tie.Need-returns
 returns c = left-none (two (c .before .before .before .before .before .before)) (rw (low (c .before .before .before .before .before .before .before .before .before .before .before .before .before .before), high (c .before .before .before .before .before .before .before .before .before .before .before .before .before .before)) at (c .before .before .put-range .ensures))
 
@@ -68,11 +62,11 @@ pub put-day-spec : {M : Type 1} → statement M
 put-day-spec =
     tie.close
     (tie.spec
-    slice-aggregate-put
+    (search needs)
     put-requires
     put-decimal-requires
     cast-put-range
     cast-put-range-2
     put-range-requires
-    same-length
+    (search needs)
     returns)

@@ -19,32 +19,11 @@ abbrev μ-loop : tie.MeasureT-loop
 loop-holds : tie.Need-loop-holds Inv-loop μ-loop
 loop-holds c = stored-none
 
-mul-put-day : tie.Need-mul-put-day Inv-loop μ-loop
-mul-put-day c = search needs
-
-element-copy-out-put-day : tie.Need-element-copy-out-put-day Inv-loop μ-loop
-element-copy-out-put-day c = search needs
-
-mul-put-day-2 : tie.Need-mul-put-day-2 Inv-loop μ-loop
-mul-put-day-2 c = search needs
-
-element-copy-out-put-day-2 : tie.Need-element-copy-out-put-day-2 Inv-loop μ-loop
-element-copy-out-put-day-2 c = search needs
-
 put-day-requires : tie.Need-put-day-requires Inv-loop μ-loop
 put-day-requires c κs = rw (toZ-ofZ (sfits-of {w = w16} {z = on (c .before .before .before .before .before .before .args .floors .now) (c .before .before .before .before .loop .k)} (c .before .put-day-arg2 .given)), toZ-ofZ (sfits-of {w = w16} {z = on (c .before .before .before .before .before .before .args .ceilings .now) (c .before .before .before .before .loop .k)} (c .put-day-arg3 .given))) (stored-room 20 (c .before .before .before .before .loop .inv) (c .before .before .before .loop-test .taken) (c .before .before .before .before .before .before .pre .1) (c .before .before .before .before .before .before .pre .2))
 
-add-k : tie.Need-add-k Inv-loop μ-loop
-add-k c = search needs
-
-loop-less : tie.Need-loop-less Inv-loop μ-loop
-loop-less c = search needs
-
 loop-again : tie.Need-loop-again Inv-loop μ-loop
 loop-again c = stored-more (c .before .before .before .before .before .before .before .loop .inv) (c .before .before .before .before .before .before .loop-test .taken) (rw (toZ-ofZ (sfits-of {w = w16} {z = on (c .before .before .before .before .before .before .before .before .before .args .floors .now) (c .before .before .before .before .before .before .before .loop .k)} (c .before .before .before .before .put-day-arg2 .given)), toZ-ofZ (sfits-of {w = w16} {z = on (c .before .before .before .before .before .before .before .before .before .args .ceilings .now) (c .before .before .before .before .before .before .before .loop .k)} (c .before .before .before .put-day-arg3 .given))) at (c .before .before .put-day .ensures))
-
-same-length : tie.Need-same-length Inv-loop μ-loop
-same-length c = search needs
 
 returns : tie.Need-returns Inv-loop μ-loop
 returns c = stored-all (c .before .loop .inv) (c .loop-test .left)
@@ -56,13 +35,13 @@ put-days-spec =
     Inv-loop
     μ-loop
     loop-holds
-    mul-put-day
-    element-copy-out-put-day
-    mul-put-day-2
-    element-copy-out-put-day-2
+    (search needs)
+    (search needs)
+    (search needs)
+    (search needs)
     put-day-requires
-    add-k
-    loop-less
+    (search needs)
+    (search needs)
     loop-again
-    same-length
+    (search needs)
     returns)

@@ -4,7 +4,7 @@ use mathlib.Core.List.{List, [], _∷_, _++_}
 use mir.Facts.{toZ-ofZ}
 use Rattle.text.specs.Numbers.{number}
 use Rattle.report.specs.Printing.{range}
-use Rattle.report.specs.Laws.{range-parts}
+use Rattle.report.proofs.Lines.{range-parts}
 use Rattle.report.proofs.Laws.{Left, left-all, left-more, left-none, left-room, last-room}
 use borrow.Author.Needs.{needs}
 use Rattle.report.proofs.put_range.Statement.{statement}
@@ -29,17 +29,8 @@ three c = left-more (32 ∷ []) (two (c .before .before .before .before .before)
 four : (c : tie.After-put-number2) → Rest (c .before .before .before .before .before .before .before .before .before .before .before .before .before .before .before .before .before) (c .put-number2 .last .0) (c .put-number2 .result) (10 ∷ [])
 four c = left-more (number (c .before .before .before .before .before .before .before .before .before .before .before .before .before .before .before .before .before .args .high)) (three (c .before .before .before .before)) (rw (toZ-ofZ (c .before .before .before .before .before .before .before .before .before .before .before .before .before .before .before .before .before .fits .high)) at (c .put-number2 .ensures))
 
-slice-aggregate-put : tie.Need-slice-aggregate-put
-slice-aggregate-put c = search needs
-
-put-requires : tie.Need-put-requires
-put-requires c κs = search needs
-
 put-number-requires : tie.Need-put-number-requires
 put-number-requires c κs = rw (toZ-ofZ (c .before .before .before .before .before .before .before .fits .low)) (left-room (number (c .before .before .before .before .before .before .before .args .low)) ((32 ∷ []) ++ highPart (c .before .before .before .before .before .before .before)) (one (c .before .before .before)) (c .before .before .before .before .before .before .before .pre))
-
-slice-aggregate-put-2 : tie.Need-slice-aggregate-put-2
-slice-aggregate-put-2 c = search needs
 
 put-requires-2 : tie.Need-put-requires-2
 put-requires-2 c κs = left-room (32 ∷ []) (highPart (c .before .before .before .before .before .before .before .before .before .before .before .before)) (two (c .before .before .before .before)) (c .before .before .before .before .before .before .before .before .before .before .before .before .pre)
@@ -47,14 +38,8 @@ put-requires-2 c κs = left-room (32 ∷ []) (highPart (c .before .before .befor
 put-number-requires-2 : tie.Need-put-number-requires-2
 put-number-requires-2 c κs = rw (toZ-ofZ (c .before .before .before .before .before .before .before .before .before .before .before .before .before .before .before .before .fits .high)) (left-room (number (c .before .before .before .before .before .before .before .before .before .before .before .before .before .before .before .before .args .high)) (10 ∷ []) (three (c .before .before .before)) (c .before .before .before .before .before .before .before .before .before .before .before .before .before .before .before .before .pre))
 
-slice-aggregate-put-3 : tie.Need-slice-aggregate-put-3
-slice-aggregate-put-3 c = search needs
-
 put-requires-3 : tie.Need-put-requires-3
 put-requires-3 c κs = last-room (four (c .before .before .before .before)) (c .before .before .before .before .before .before .before .before .before .before .before .before .before .before .before .before .before .before .before .before .before .pre)
-
-same-length : tie.Need-same-length
-same-length c = search needs
 
 returns : tie.Need-returns
 returns c = left-none (four (c .before .before .before .before .before .before .before)) (c .before .before .put3 .ensures)
@@ -63,13 +48,13 @@ pub put-range-spec : {M : Type 1} → statement M
 put-range-spec =
     tie.close
     (tie.spec
-    slice-aggregate-put
-    put-requires
+    (search needs)
+    (search needs)
     put-number-requires
-    slice-aggregate-put-2
+    (search needs)
     put-requires-2
     put-number-requires-2
-    slice-aggregate-put-3
+    (search needs)
     put-requires-3
-    same-length
+    (search needs)
     returns)

@@ -12,7 +12,7 @@ use Rattle.levels.specs.Code.{on}
 use Rattle.session.specs.Showing.{floorOn, ceilingOn, totalFloor, totalCeiling}
 use Rattle.session.specs.declared.Session.{Session}
 use Rattle.report.specs.Printing.{dayLine, totalLine, rangesText}
-use Rattle.report.specs.Laws.{ranges-parts, total-line, day-line, ranges-fit}
+use Rattle.report.proofs.Lines.{ranges-parts, total-line, day-line, ranges-fit}
 use Rattle.report.proofs.Laws.{Left, left-all, left-more, left-none}
 use lib.IntN.{pos}
 use lib.ListN.{length-replicate}
@@ -47,15 +47,6 @@ same : (c : tie.After-show) → rows (λ k. dayLine k (on (c .show .last .1 .0) 
 unfolding lines
 same c = let s = c .before .before .before .args .session in rows-same _ (λ k. dayLine k (floorOn s k) (ceilingOn s k)) (s .days) (shows c .lines)
 
-slice-aggregate-show : tie.Need-slice-aggregate-show
-slice-aggregate-show c = search needs
-
-slice-aggregate-show-2 : tie.Need-slice-aggregate-show-2
-slice-aggregate-show-2 c = search needs
-
-show-requires : tie.Need-show-requires
-show-requires c κs = search needs
-
 put-total-requires : tie.Need-put-total-requires
 put-total-requires c κs = rw (least c, most c) (omega (arith, total-line (c .before .before .before .before .before .before .before .before .pre)))
 
@@ -69,9 +60,9 @@ pub put-ranges-spec : {M : Type 1} → statement M
 put-ranges-spec =
     tie.close
     (tie.spec
-    slice-aggregate-show
-    slice-aggregate-show-2
-    show-requires
+    (search needs)
+    (search needs)
+    (λ c. search needs)
     put-total-requires
     put-days-requires
     returns)

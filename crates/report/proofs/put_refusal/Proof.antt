@@ -4,7 +4,7 @@ use mathlib.Core.List.{[], _∷_, _++_}
 use Rattle.series.specs.Rows.{front-sets}
 use Rattle.text.specs.Numbers.{decimal}
 use Rattle.report.specs.Printing.{refusedLine}
-use Rattle.report.specs.Laws.{refused-parts, refused-length}
+use Rattle.report.proofs.Lines.{refused-parts, refused-length}
 use Rattle.report.proofs.Laws.{Left, left-all, left-more, left-none, left-room, last-room}
 use native.Mathlib.Omega.{arith}
 use borrow.Author.Needs.{needs}
@@ -17,17 +17,8 @@ one c = left-more (114 ∷ 101 ∷ 102 ∷ 117 ∷ 115 ∷ 101 ∷ 100 ∷ 32 �
 two : (c : tie.After-put-decimal) → Left (c .before .before .before .before .before .args .out .now) 0 (refusedLine (c .before .before .before .before .before .args .number)) (c .put-decimal .last .0) (c .put-decimal .result) (10 ∷ [])
 two c = left-more (decimal (c .before .before .before .before .before .args .number)) (one (c .before .before)) (c .put-decimal .ensures)
 
-slice-aggregate-put : tie.Need-slice-aggregate-put
-slice-aggregate-put c = search needs
-
-put-requires : tie.Need-put-requires
-put-requires c κs = search needs
-
 put-decimal-requires : tie.Need-put-decimal-requires
 put-decimal-requires c κs = left-room (decimal (c .before .before .before .before .args .number)) (10 ∷ []) (one (c .before)) (omega (arith, refused-length (c .before .before .before .before .args .number) (c .before .before .before .before .fits .number .fits)))
-
-slice-aggregate-put-2 : tie.Need-slice-aggregate-put-2
-slice-aggregate-put-2 c = search needs
 
 put-requires-2 : tie.Need-put-requires-2
 put-requires-2 c κs = last-room (two (c .before .before)) (omega (arith, refused-length (c .before .before .before .before .before .before .before .args .number) (c .before .before .before .before .before .before .before .fits .number .fits)))
@@ -39,9 +30,9 @@ pub put-refusal-spec : {M : Type 1} → statement M
 put-refusal-spec =
     tie.close
     (tie.spec
-    slice-aggregate-put
-    put-requires
+    (search needs)
+    (search needs)
     put-decimal-requires
-    slice-aggregate-put-2
+    (search needs)
     put-requires-2
     returns)

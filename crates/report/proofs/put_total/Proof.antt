@@ -4,7 +4,7 @@ use mathlib.Core.List.{[], _∷_}
 use lib.ListN.{length}
 use mir.Facts.{toZ-ofZ}
 use Rattle.report.specs.Printing.{range, totalLine}
-use Rattle.report.specs.Laws.{total-parts}
+use Rattle.report.proofs.Lines.{total-parts}
 use Rattle.report.proofs.Laws.{Left, left-all, left-more, left-none, last-room}
 use native.Mathlib.Omega.{arith}
 use borrow.Author.Needs.{needs}
@@ -14,21 +14,15 @@ use Rattle.report.proofs.put_total.Tie as tie
 one : (c : tie.After-put) → Left (c .before .before .before .before .args .out .now) 0 (totalLine (c .before .before .before .before .args .low) (c .before .before .before .before .args .high)) (c .put .last .0) (c .put .result) (range (c .before .before .before .before .args .low) (c .before .before .before .before .args .high))
 one c = left-more (116 ∷ 111 ∷ 116 ∷ 97 ∷ 108 ∷ []) (left-all (total-parts (c .before .before .before .before .args .low) (c .before .before .before .before .args .high))) (c .put .ensures)
 
-slice-aggregate-put : tie.Need-slice-aggregate-put
-slice-aggregate-put c = search needs
-
 put-requires : tie.Need-put-requires
 put-requires c κs = omega (arith, ap length (total-parts (c .before .before .before .args .low) (c .before .before .before .args .high)), c .before .before .before .pre)
 
 put-range-requires : tie.Need-put-range-requires
 put-range-requires c κs = rw (toZ-ofZ (c .before .before .before .before .before .before .before .fits .low), toZ-ofZ (c .before .before .before .before .before .before .before .fits .high)) (last-room (one (c .before .before .before)) (omega (arith, c .before .before .before .before .before .before .before .pre)))
 
-same-length : tie.Need-same-length
-same-length c = search needs
-
 returns : tie.Need-returns
 returns c = let e = left-none (one (c .before .before .before .before .before .before)) (rw (toZ-ofZ (c .before .before .before .before .before .before .before .before .before .before .fits .low), toZ-ofZ (c .before .before .before .before .before .before .before .before .before .before .fits .high)) at (c .before .before .put-range .ensures)) in (e .0, omega (arith, e .1))
 
 pub put-total-spec : {M : Type 1} → statement M
 put-total-spec =
-    tie.close (tie.spec slice-aggregate-put put-requires put-range-requires same-length returns)
+    tie.close (tie.spec (search needs) put-requires put-range-requires (search needs) returns)

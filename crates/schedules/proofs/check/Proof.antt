@@ -3,12 +3,6 @@ use borrow.Author.Needs.{needs}
 use Rattle.schedules.proofs.check.Statement.{statement}
 use Rattle.schedules.proofs.check.Tie as tie
 
-enum-known-value : tie.Need-enum-known-value
-enum-known-value c = search needs
-
-enum-told : tie.Need-enum-told
-enum-told c = search needs
-
 returns : tie.Need-returns
 returns c = rw (c .enum-told .given .1)
 
@@ -16,4 +10,4 @@ returns-2 : tie.Need-returns-2
 returns-2 c = rw (c .before .value .given .1)
 
 pub check-spec : {M : Type 1} → statement M
-check-spec = tie.close (tie.spec enum-known-value enum-told returns returns-2)
+check-spec = tie.close (tie.spec (search needs) (search needs) returns returns-2)

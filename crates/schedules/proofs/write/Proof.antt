@@ -5,17 +5,11 @@ use borrow.Author.Needs.{needs}
 use Rattle.schedules.proofs.write.Statement.{statement}
 use Rattle.schedules.proofs.write.Tie as tie
 
-raise-to-requires : tie.Need-raise-to-requires
-raise-to-requires c κs = search needs
-
 show-points-requires : tie.Need-show-points-requires
 show-points-requires c κs = (search needs, search needs, written-small (c .before .before .before .before .pre .0) _ (c .before .before .raise-to .ensures))
-
-same-length : tie.Need-same-length
-same-length c = search needs
 
 returns : tie.Need-returns
 returns c = c .before .show-points .ensures ∙ written-shown (c .before .before .before .before .before .before .pre .0) _ (c .before .before .before .before .raise-to .ensures) _
 
 pub write-spec : {M : Type 1} → statement M
-write-spec = tie.close (tie.spec raise-to-requires show-points-requires same-length returns)
+write-spec = tie.close (tie.spec (λ c. search needs) show-points-requires (search needs) returns)

@@ -11,41 +11,11 @@ returns c = day-length _ _ _ _ (c .if1 .taken)
 returns-2 : tie.Need-returns-2
 returns-2 c = day-unknown _ _ _ _ (c .before .if1 .left) (c .if2 .taken)
 
-point-requires : tie.Need-point-requires
-point-requires c κs = search needs
-
-mul-wide : tie.Need-mul-wide
-mul-wide c = search needs
-
-array-read-wide : tie.Need-array-read-wide
-array-read-wide c = search needs
-
-wide-requires : tie.Need-wide-requires
-wide-requires c κs = search needs
-
-mul-wide-2 : tie.Need-mul-wide-2
-mul-wide-2 c = search needs
-
-array-read-wide-2 : tie.Need-array-read-wide-2
-array-read-wide-2 c = search needs
-
-wide-requires-2 : tie.Need-wide-requires-2
-wide-requires-2 c κs = search needs
-
-check-requires : tie.Need-check-requires
-check-requires c κs = search needs
-
-refusal-of-requires : tie.Need-refusal-of-requires
-refusal-of-requires c κs = search needs
-
 returns-3 : tie.Need-returns-3
 returns-3 c = day-refused _ _ _ _ (c .before .before .before .before .before .before .before .before .before .before .if1 .left) (c .before .before .before .before .before .before .before .before .before .if2 .left) (day-judged _ _ (c .before .before .before .before .before .before .before .before .before .before .before .pre) (c .before .before .before .before .before .before .before .before .before .if2 .left) (c .before .before .before .before .wide .ensures .0) (c .before .before .before .wide2 .ensures .0) (rw (toZ-ofZ (c .before .before .before .before .before .before .before .before .before .before .before .fits .value)) at (c .before .before .before .before .before .point .ensures)) (c .before .before .check .ensures) (c .before .refusal-of .ensures)) (c .if3 .taken)
 
 write-through-requires : tie.Need-write-through-requires
 write-through-requires c κs = (c .before .before .before .before .before .before .before .before .before .before .before .before .pre, c .before .before .before .before .before .before .before .before .before .before .if2 .left, (day-judged _ (c .before .before .before .before .before .before .before .before .before .before .before .before .args .value) (c .before .before .before .before .before .before .before .before .before .before .before .before .pre) (c .before .before .before .before .before .before .before .before .before .before .if2 .left) (c .before .before .before .before .before .wide .ensures .0) (c .before .before .before .before .wide2 .ensures .0) (rw (toZ-ofZ (c .before .before .before .before .before .before .before .before .before .before .before .before .fits .value)) at (c .before .before .before .before .before .before .point .ensures)) (c .before .before .before .check .ensures) (c .before .before .refusal-of .ensures)) .small (c .before .if3 .left), search needs)
-
-same-length : tie.Need-same-length
-same-length c = search needs
 
 returns-4 : tie.Need-returns-4
 returns-4 c = day-written _ _ _ _ (c .before .before .before .before .before .before .before .before .before .before .before .before .before .if1 .left) (c .before .before .before .before .before .before .before .before .before .before .before .before .if2 .left) (day-judged _ _ (c .before .before .before .before .before .before .before .before .before .before .before .before .before .before .pre) (c .before .before .before .before .before .before .before .before .before .before .before .before .if2 .left) (c .before .before .before .before .before .before .before .wide .ensures .0) (c .before .before .before .before .before .before .wide2 .ensures .0) (rw (toZ-ofZ (c .before .before .before .before .before .before .before .before .before .before .before .before .before .before .fits .value)) at (c .before .before .before .before .before .before .before .before .point .ensures)) (c .before .before .before .before .before .check .ensures) (c .before .before .before .before .refusal-of .ensures)) (c .before .before .before .if3 .left) (c .before .write-through .ensures)
@@ -56,16 +26,16 @@ write-day-spec =
     (tie.spec
     returns
     returns-2
-    point-requires
-    mul-wide
-    array-read-wide
-    wide-requires
-    mul-wide-2
-    array-read-wide-2
-    wide-requires-2
-    check-requires
-    refusal-of-requires
+    (search needs)
+    (search needs)
+    (search needs)
+    (search needs)
+    (search needs)
+    (search needs)
+    (search needs)
+    (search needs)
+    (search needs)
     returns-3
     write-through-requires
-    same-length
+    (search needs)
     returns-4)

@@ -5,20 +5,11 @@ use borrow.Author.Needs.{needs}
 use Rattle.schedules.proofs.write_through.Statement.{statement}
 use Rattle.schedules.proofs.write_through.Tie as tie
 
-set-level-requires : tie.Need-set-level-requires
-set-level-requires c κs = search needs
-
-set-level-requires-2 : tie.Need-set-level-requires-2
-set-level-requires-2 c κs = search needs
-
 carry-requires : tie.Need-carry-requires
 carry-requires c κs = through-carriable (c .before .before .before .before .before .before .before .before .before .before .before .pre .0) (c .before .before .before .before .before .before .before .before .before .before .before .pre .1) (c .before .before .before .before .before .before .before .before .before .before .before .pre .2) (c .before .before .before .before .before .set-level .ensures) (c .before .before .before .set-level2 .ensures)
 
 write-requires : tie.Need-write-requires
 write-requires c κs = (through-bounds (c .before .before .before .before .before .before .before .before .before .before .before .before .before .before .before .pre .0) (c .before .before .before .before .before .before .before .before .before .before .before .before .before .before .before .pre .1) (c .before .before .before .before .before .before .before .before .before .before .before .before .before .before .before .pre .2) (c .before .before .before .before .before .before .before .before .before .set-level .ensures) (c .before .before .before .before .before .before .before .set-level2 .ensures) (c .before .before .before .carry .ensures .0) (c .before .before .before .carry .ensures .1), search needs)
-
-same-length : tie.Need-same-length
-same-length c = search needs
 
 returns : tie.Need-returns
 returns c = c .before .write .ensures ∙ through-written (c .before .before .before .before .before .before .before .before .before .before .before .before .before .before .before .before .before .pre .0) (c .before .before .before .before .before .before .before .before .before .before .before .before .before .before .before .before .before .pre .1) (c .before .before .before .before .before .before .before .before .before .before .before .before .before .before .before .before .before .pre .2) (c .before .before .before .before .before .before .before .before .before .before .before .set-level .ensures) (c .before .before .before .before .before .before .before .before .before .set-level2 .ensures) (c .before .before .before .before .before .carry .ensures .0) (c .before .before .before .before .before .carry .ensures .1) _
@@ -27,9 +18,9 @@ pub write-through-spec : {M : Type 1} → statement M
 write-through-spec =
     tie.close
     (tie.spec
-    set-level-requires
-    set-level-requires-2
+    (search needs)
+    (search needs)
     carry-requires
     write-requires
-    same-length
+    (search needs)
     returns)

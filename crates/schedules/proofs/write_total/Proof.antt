@@ -8,23 +8,11 @@ use Rattle.schedules.proofs.write_total.Tie as tie
 returns : tie.Need-returns
 returns c = total-length _ _ _ (c .if1 .taken)
 
-total-requires : tie.Need-total-requires
-total-requires c κs = search needs
-
-check-requires : tie.Need-check-requires
-check-requires c κs = search needs
-
-refusal-of-requires : tie.Need-refusal-of-requires
-refusal-of-requires c κs = search needs
-
 returns-2 : tie.Need-returns-2
 returns-2 c = total-refused _ _ _ (c .before .before .before .before .before .if1 .left) (total-judged _ _ (c .before .before .before .before .before .before .pre) (rw (toZ-ofZ (c .before .before .before .before .before .before .fits .value)) at (c .before .before .before .total .ensures)) (c .before .before .check .ensures) (c .before .refusal-of .ensures)) (c .if2 .taken)
 
 write-requires : tie.Need-write-requires
 write-requires c κs = (total-bounds (c .before .before .before .before .before .before .before .before .before .before .before .before .pre) ((total-judged _ (c .before .before .before .before .before .before .before .before .before .before .before .before .args .value) (c .before .before .before .before .before .before .before .before .before .before .before .before .pre) (rw (toZ-ofZ (c .before .before .before .before .before .before .before .before .before .before .before .before .fits .value)) at (c .before .before .before .before .before .before .before .before .before .total .ensures)) (c .before .before .before .before .before .before .before .before .check .ensures) (c .before .before .before .before .before .before .before .refusal-of .ensures)) .small (c .before .before .before .before .before .before .if2 .left)), search needs)
-
-same-length : tie.Need-same-length
-same-length c = search needs
 
 returns-3 : tie.Need-returns-3
 returns-3 c = total-written _ _ _ (c .before .before .before .before .before .before .before .before .before .before .before .before .before .if1 .left) (total-judged _ _ (c .before .before .before .before .before .before .before .before .before .before .before .before .before .before .pre) (rw (toZ-ofZ (c .before .before .before .before .before .before .before .before .before .before .before .before .before .before .fits .value)) at (c .before .before .before .before .before .before .before .before .before .before .before .total .ensures)) (c .before .before .before .before .before .before .before .before .before .before .check .ensures) (c .before .before .before .before .before .before .before .before .before .refusal-of .ensures)) (c .before .before .before .before .before .before .before .before .if2 .left) (c .before .write .ensures)
@@ -34,10 +22,10 @@ write-total-spec =
     tie.close
     (tie.spec
     returns
-    total-requires
-    check-requires
-    refusal-of-requires
+    (search needs)
+    (search needs)
+    (search needs)
     returns-2
     write-requires
-    same-length
+    (search needs)
     returns-3)

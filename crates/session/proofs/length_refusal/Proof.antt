@@ -15,9 +15,6 @@ returns-3 c = simp (ne-eqb _ _ (c .before .before .if1 .left), le-ltb _ _ (c .be
 returns-4 : tie.Need-returns-4
 returns-4 c = simp (ne-eqb _ _ (c .before .before .before .if1 .left), le-ltb _ _ (c .before .before .if2 .left), eq-eqb _ _ (c .before .if3 .left), ne-eqb _ _ (c .if4 .taken))
 
-sub-if5 : tie.Need-sub-if5
-sub-if5 c = search needs
-
 returns-5 : tie.Need-returns-5
 returns-5 c = simp (ne-eqb _ _ (c .before .before .before .before .if1 .left), le-ltb _ _ (c .before .before .before .if2 .left), eq-eqb _ _ (c .before .before .if3 .left), eq-eqb _ _ (c .before .if4 .left), ne-eqb _ _ (c .if5 .taken))
 
@@ -26,4 +23,4 @@ returns-6 c = simp (ne-eqb _ _ (c .before .before .before .before .if1 .left), l
 
 pub length-refusal-spec : {M : Type 1} → statement M
 length-refusal-spec =
-    tie.close (tie.spec returns returns-2 returns-3 returns-4 sub-if5 returns-5 returns-6)
+    tie.close (tie.spec returns returns-2 returns-3 returns-4 (search needs) returns-5 returns-6)

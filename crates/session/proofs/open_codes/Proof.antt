@@ -4,29 +4,14 @@ use borrow.Author.Needs.{needs}
 use Rattle.session.proofs.open_codes.Statement.{statement}
 use Rattle.session.proofs.open_codes.Tie as tie
 
-first-crossed-requires : tie.Need-first-crossed-requires
-first-crossed-requires c κs = search needs
-
-refused-requires : tie.Need-refused-requires
-refused-requires c κs = search needs
-
 returns : tie.Need-returns
 returns c = c .refused .ensures ∙ codes-crossed _ _ _ _ _ _ (c .before .before .first-crossed .ensures) (c .before .if1 .taken)
-
-refused-requires-2 : tie.Need-refused-requires-2
-refused-requires-2 c κs = search needs
 
 returns-2 : tie.Need-returns-2
 returns-2 c = c .refused2 .ensures ∙ codes-order _ _ _ _ _ _ (c .before .before .before .first-crossed .ensures) (c .before .if2 .taken)
 
-tighten-requires : tie.Need-tighten-requires
-tighten-requires c κs = search needs
-
 returns-3 : tie.Need-returns-3
 returns-3 c = codes-found _ _ _ _ _ _ (c .before .before .before .before .before .before .before .first-crossed .ensures) (c .before .before .before .before .before .before .if1 .left) (c .before .before .before .before .before .if2 .left) (c .before .tighten .ensures) (c .if3 .taken)
-
-refused-requires-3 : tie.Need-refused-requires-3
-refused-requires-3 c κs = search needs
 
 returns-4 : tie.Need-returns-4
 returns-4 c = c .refused3 .ensures ∙ codes-none _ _ _ _ _ _ (c .before .before .before .before .before .before .before .before .first-crossed .ensures) (c .before .before .before .before .before .before .before .if1 .left) (c .before .before .before .before .before .before .if2 .left) (c .before .before .tighten .ensures) (c .before .if3 .left)
@@ -35,12 +20,12 @@ pub open-codes-spec : {M : Type 1} → statement M
 open-codes-spec =
     tie.close
     (tie.spec
-    first-crossed-requires
-    refused-requires
+    (search needs)
+    (search needs)
     returns
-    refused-requires-2
+    (search needs)
     returns-2
-    tighten-requires
+    (λ c. search needs)
     returns-3
-    refused-requires-3
+    (search needs)
     returns-4)

@@ -4,12 +4,9 @@ use borrow.Author.Needs.{needs}
 use Rattle.session.proofs.refused.Statement.{statement}
 use Rattle.session.proofs.refused.Tie as tie
 
-array-write-floors : tie.Need-array-write-floors
-array-write-floors c = search needs
-
 returns : tie.Need-returns
 unfolding written
 returns c = refl
 
 pub refused-spec : {M : Type 1} → statement M
-refused-spec = tie.close (tie.spec array-write-floors returns)
+refused-spec = tie.close (tie.spec (search needs) returns)

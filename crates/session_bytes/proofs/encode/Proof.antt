@@ -4,44 +4,17 @@ use mathlib.Core.Path.{sym, _∙_}
 use Prim.Native.Nat.{ℕ}
 use lib.ListN.{length-append}
 use Rattle.little_endian.specs.Fields.{u16Bytes}
-use Rattle.little_endian.specs.Laws.{u16-length}
+use Rattle.little_endian.proofs.Laws.{u16-length}
 use Rattle.session_bytes.specs.Layout.{totalBytes, blockBytes, encoding}
-use Rattle.session_bytes.specs.Lengths.{totals-length, block-length, encoding-length}
+use Rattle.session_bytes.proofs.Lengths.{totals-length, block-length, encoding-length}
 use Rattle.session_bytes.proofs.Laws.{laid, laid-more, laid-last, sets-whole}
 use borrow.Author.Needs.{needs}
 use native.Mathlib.Omega.{arith}
 use Rattle.session_bytes.proofs.encode.Statement.{statement}
 use Rattle.session_bytes.proofs.encode.Tie as tie
 
-narrow-requires : tie.Need-narrow-requires
-narrow-requires c κs = search needs
-
-put-u16-requires : tie.Need-put-u16-requires
-put-u16-requires c κs = search needs
-
-mark-requires : tie.Need-mark-requires
-mark-requires c κs = search needs
-
-put-u16-requires-2 : tie.Need-put-u16-requires-2
-put-u16-requires-2 c κs = search needs
-
-put-totals-requires : tie.Need-put-totals-requires
-put-totals-requires c κs = search needs
-
-put-totals-requires-2 : tie.Need-put-totals-requires-2
-put-totals-requires-2 c κs = search needs
-
-put-block-requires : tie.Need-put-block-requires
-put-block-requires c κs = search needs
-
-put-ranges-requires : tie.Need-put-ranges-requires
-put-ranges-requires c κs = search needs
-
 put-ranges-requires-2 : tie.Need-put-ranges-requires-2
 put-ranges-requires-2 c κs = (c .before .before .before .before .before .before .before .before .before .before .before .before .before .before .before .before .before .before .before .before .before .before .before .before .before .before .before .before .before .before .before .before .pre .0 .present .most, omega (arith, c .before .before .before .before .before .before .before .before .before .before .before .before .before .before .before .before .before .before .before .before .before .before .before .before .before .before .before .before .before .before .before .before .pre .1))
-
-same-length : tie.Need-same-length
-same-length c = search needs
 
 returns : tie.Need-returns
 unfolding encoding
@@ -64,14 +37,14 @@ pub encode-spec : {M : Type 1} → statement M
 encode-spec =
     tie.close
     (tie.spec
-    narrow-requires
-    put-u16-requires
-    mark-requires
-    put-u16-requires-2
-    put-totals-requires
-    put-totals-requires-2
-    put-block-requires
-    put-ranges-requires
+    (search needs)
+    (search needs)
+    (search needs)
+    (search needs)
+    (search needs)
+    (search needs)
+    (search needs)
+    (search needs)
     put-ranges-requires-2
-    same-length
+    (search needs)
     returns)

@@ -4,30 +4,12 @@ use lib.ListN.{replicate}
 use Rattle.series.specs.Sum.{at}
 use Rattle.byte_lists.specs.Lists.{cellBytes}
 use Rattle.session_bytes.specs.Layout.{blockBytes}
-use Rattle.session_bytes.specs.Lengths.{cells-length}
+use Rattle.session_bytes.proofs.Lengths.{cells-length}
 use Rattle.session_bytes.proofs.Laws.{laid, laid-last}
 use borrow.Author.Needs.{needs}
 use native.Mathlib.Omega.{arith}
 use Rattle.session_bytes.proofs.put_block.Statement.{statement}
 use Rattle.session_bytes.proofs.put_block.Tie as tie
-
-put-cells-requires : tie.Need-put-cells-requires
-put-cells-requires c κs = search needs
-
-mul-put-zeros : tie.Need-mul-put-zeros
-mul-put-zeros c = search needs
-
-add-put-zeros : tie.Need-add-put-zeros
-add-put-zeros c = search needs
-
-add-put-zeros-2 : tie.Need-add-put-zeros-2
-add-put-zeros-2 c = search needs
-
-put-zeros-requires : tie.Need-put-zeros-requires
-put-zeros-requires c κs = search needs
-
-same-length : tie.Need-same-length
-same-length c = search needs
 
 returns : tie.Need-returns
 unfolding blockBytes
@@ -41,10 +23,10 @@ pub put-block-spec : {M : Type 1} → statement M
 put-block-spec =
     tie.close
     (tie.spec
-    put-cells-requires
-    mul-put-zeros
-    add-put-zeros
-    add-put-zeros-2
-    put-zeros-requires
-    same-length
+    (search needs)
+    (search needs)
+    (search needs)
+    (search needs)
+    (search needs)
+    (search needs)
     returns)

@@ -2,30 +2,12 @@ use mir.Facts.{toZ-ofZ}
 use mir.Syntax.{w32}
 use Rattle.levels.specs.Code.{lowestTotal, decoded}
 use Rattle.little_endian.specs.Fields.{i32Bytes}
-use Rattle.little_endian.specs.Laws.{i32-length}
+use Rattle.little_endian.proofs.Laws.{i32-length}
 use Rattle.session_bytes.specs.Layout.{totalBytes}
 use Rattle.session_bytes.proofs.Laws.{laid, laid-last}
 use borrow.Author.Needs.{needs, sfits-of}
 use Rattle.session_bytes.proofs.put_totals.Statement.{statement}
 use Rattle.session_bytes.proofs.put_totals.Tie as tie
-
-show-total-requires : tie.Need-show-total-requires
-show-total-requires c κs = search needs
-
-put-i32-requires : tie.Need-put-i32-requires
-put-i32-requires c κs = search needs
-
-add-put-i32 : tie.Need-add-put-i32
-add-put-i32 c = search needs
-
-show-total-requires-2 : tie.Need-show-total-requires-2
-show-total-requires-2 c κs = search needs
-
-put-i32-requires-2 : tie.Need-put-i32-requires-2
-put-i32-requires-2 c κs = search needs
-
-same-length : tie.Need-same-length
-same-length c = search needs
 
 returns : tie.Need-returns
 unfolding totalBytes
@@ -40,10 +22,10 @@ pub put-totals-spec : {M : Type 1} → statement M
 put-totals-spec =
     tie.close
     (tie.spec
-    show-total-requires
-    put-i32-requires
-    add-put-i32
-    show-total-requires-2
-    put-i32-requires-2
-    same-length
+    (search needs)
+    (search needs)
+    (search needs)
+    (search needs)
+    (search needs)
+    (search needs)
     returns)

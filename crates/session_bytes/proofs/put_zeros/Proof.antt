@@ -17,15 +17,6 @@ abbrev μ-loop : tie.MeasureT-loop
 loop-holds : tie.Need-loop-holds Inv-loop μ-loop
 loop-holds c = let z : c .args .from - c .args .from ≡ 0 = omega arith in rw z stored-none
 
-slice-write-out : tie.Need-slice-write-out Inv-loop μ-loop
-slice-write-out c = search needs
-
-add-i : tie.Need-add-i Inv-loop μ-loop
-add-i c = search needs
-
-loop-less : tie.Need-loop-less Inv-loop μ-loop
-loop-less c = search needs
-
 loop-again : tie.Need-loop-again Inv-loop μ-loop
 loop-again c =
     let h = c .before .loop .inv in
@@ -33,9 +24,6 @@ loop-again c =
     let from = c .before .before .args .from in
     let q : i + 1 - from ≡ i - from + 1 = omega (arith, h .ends) in
     rw q (stored-more h (omega (arith, h .ends)) (refl, omega arith))
-
-same-length : tie.Need-same-length Inv-loop μ-loop
-same-length c = search needs
 
 returns : tie.Need-returns Inv-loop μ-loop
 returns c = rw (← rows-replicate) (stored-all (c .before .loop .inv) (omega arith) .0)
@@ -47,9 +35,9 @@ put-zeros-spec =
     Inv-loop
     μ-loop
     loop-holds
-    slice-write-out
-    add-i
-    loop-less
+    (search needs)
+    (search needs)
+    (search needs)
     loop-again
-    same-length
+    (search needs)
     returns)

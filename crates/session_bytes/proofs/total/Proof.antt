@@ -3,7 +3,7 @@ use mathlib.Core.Path.{_≡_}
 use mir.Facts.{toZ-ofZ}
 use mir.Syntax.{w32}
 use Rattle.levels.specs.Code.{lowestTotal, highestTotal, coded}
-use Rattle.levels.specs.Laws.{coded-code, coded-outside}
+use Rattle.levels.proofs.Laws.{coded-code, coded-outside}
 use Rattle.little_endian.specs.Fields.{i32At}
 use borrow.Author.Needs.{needs, sfits-of}
 use Rattle.session_bytes.proofs.total.Statement.{statement}
@@ -15,18 +15,6 @@ field c = i32At (c .before .before .args .bytes .now) (c .before .before .args .
 answer : (c : tie.After-total) → c .total .result ≡ coded lowestTotal highestTotal (field (c .before))
 answer c = rw (toZ-ofZ (sfits-of {w = w32} (c .before .i32-at .ok)), c .before .i32-at .ensures) at (c .total .ensures)
 
-i32-at-requires : tie.Need-i32-at-requires
-i32-at-requires c κs = search needs
-
-total-requires : tie.Need-total-requires
-total-requires c κs = search needs
-
-enum-known-code : tie.Need-enum-known-code
-enum-known-code c = search needs
-
-enum-told : tie.Need-enum-told
-enum-told c = search needs
-
 returns : tie.Need-returns
 returns c = rw (coded-outside lowestTotal highestTotal _ (answer (c .before .before)) (c .enum-told .given .1))
 
@@ -37,4 +25,4 @@ returns-2 c =
 
 pub total-spec : {M : Type 1} → statement M
 total-spec =
-    tie.close (tie.spec i32-at-requires total-requires enum-known-code enum-told returns returns-2)
+    tie.close (tie.spec (search needs) (search needs) (search needs) (search needs) returns returns-2)

@@ -13,12 +13,6 @@ use Rattle.text.proofs.put_number.Tie as tie
 slice-write-out : tie.Need-slice-write-out
 slice-write-out c = let e = negative (c .before .before .fits .z) (c .if1 .taken) refl in omega (arith, ap length e, c .before .before .pre)
 
-add-put-decimal : tie.Need-add-put-decimal
-add-put-decimal c = search needs
-
-magnitude-requires : tie.Need-magnitude-requires
-magnitude-requires c κs = search needs
-
 put-decimal-requires : tie.Need-put-decimal-requires
 put-decimal-requires c κs = let e = negative (c .before .before .before .before .fits .z) (c .before .before .if1 .taken) (c .magnitude .ensures) in simp length-set (omega (arith, ap length e, c .before .before .before .before .pre))
 
@@ -34,9 +28,6 @@ cast-put-decimal c = whole-fits (c .before .before .before .fits .z) (c .before 
 put-decimal-requires-2 : tie.Need-put-decimal-requires-2
 put-decimal-requires-2 c κs = rw (← not-negative (c .before .before .before .fits .z) (c .before .if1 .left)) (c .before .before .before .pre)
 
-same-length-2 : tie.Need-same-length-2
-same-length-2 c = search needs
-
 returns-2 : tie.Need-returns-2
 returns-2 c = let e = not-negative (c .before .before .before .before .before .before .fits .z) (c .before .before .before .before .if1 .left) in (rw e (c .before .before .put-decimal2 .ensures .0), rw e (c .before .before .put-decimal2 .ensures .1))
 
@@ -45,12 +36,12 @@ put-number-spec =
     tie.close
     (tie.spec
     slice-write-out
-    add-put-decimal
-    magnitude-requires
+    (search needs)
+    (λ c. search needs)
     put-decimal-requires
     same-length
     returns
     cast-put-decimal
     put-decimal-requires-2
-    same-length-2
+    (search needs)
     returns-2)

@@ -3,18 +3,12 @@ use denote.Ref.{now}
 use Rattle.session.specs.Opening.{profile}
 use mathlib.Core.Path.{_∙_}
 use Rattle.levels.specs.Code.{lowestTotal, highestTotal}
-use Rattle.levels.specs.Laws.{coded-code, coded-outside}
+use Rattle.levels.proofs.Laws.{coded-code, coded-outside}
 use Rattle.session.proofs.Checks.{lengths-refused, sizes, rises-few, floor-outside, ceiling-outside, rise-outside, lowest-outside, highest-outside, in-bounds, all-opened}
 use borrow.Author.Needs.{needs}
 use native.Mathlib.Omega.{arith}
 use Rattle.session.proofs.Session.open.Statement.{statement}
 use Rattle.session.proofs.Session.open.Tie as tie
-
-length-refusal-requires : tie.Need-length-refusal-requires
-length-refusal-requires c κs = search needs
-
-refused-requires : tie.Need-refused-requires
-refused-requires c κs = search needs
 
 returns : tie.Need-returns
 returns c = c .refused .ensures ∙ lengths-refused _ _ (c .before .before .length-refusal .ensures) (c .before .if1 .taken)
@@ -22,17 +16,11 @@ returns c = c .refused .ensures ∙ lengths-refused _ _ (c .before .before .leng
 points-requires : tie.Need-points-requires
 points-requires c κs = let a = c .before .before .before .args in let z = sizes (profile (a .days) (now (a .floors)) (now (a .ceilings)) (now (a .rises)) (a .lowest) (a .highest)) (c .before .before .length-refusal .ensures) (c .before .if1 .left) in omega (arith, z .floors, z .few)
 
-refused-requires-2 : tie.Need-refused-requires-2
-refused-requires-2 c κs = search needs
-
 returns-2 : tie.Need-returns-2
 returns-2 c = c .refused2 .ensures ∙ floor-outside _ (c .before .before .before .before .before .length-refusal .ensures) (c .before .before .before .before .if1 .left) (c .before .before .points .ensures .0) (c .before .if2 .taken)
 
 points-requires-2 : tie.Need-points-requires-2
 points-requires-2 c κs = let a = c .before .before .before .before .before .before .args in let z = sizes (profile (a .days) (now (a .floors)) (now (a .ceilings)) (now (a .rises)) (a .lowest) (a .highest)) (c .before .before .before .before .before .length-refusal .ensures) (c .before .before .before .before .if1 .left) in omega (arith, z .ceilings, z .few)
-
-refused-requires-3 : tie.Need-refused-requires-3
-refused-requires-3 c κs = search needs
 
 returns-3 : tie.Need-returns-3
 returns-3 c = c .refused3 .ensures ∙ ceiling-outside _ (c .before .before .before .before .before .before .before .before .length-refusal .ensures) (c .before .before .before .before .before .before .before .if1 .left) (c .before .before .before .before .before .points .ensures .0) (c .before .before .before .before .if2 .left) (c .before .before .points2 .ensures .0) (c .before .if3 .taken)
@@ -43,38 +31,11 @@ rises-requires c κs = let a = c .before .before .before .before .before .before
 add-if4 : tie.Need-add-if4
 add-if4 c = let a = c .before .before .before .before .before .before .before .before .before .before .args in let z = rises-few (profile (a .days) (now (a .floors)) (now (a .ceilings)) (now (a .rises)) (a .lowest) (a .highest)) (c .before .before .before .before .before .before .before .before .before .length-refusal .ensures) (c .before .before .before .before .before .before .before .before .if1 .left) (c .rises .ensures .0) in record { fits = omega arith }
 
-refused-requires-4 : tie.Need-refused-requires-4
-refused-requires-4 c κs = search needs
-
 returns-4 : tie.Need-returns-4
 returns-4 c = c .refused4 .ensures ∙ rise-outside _ (c .before .before .before .before .before .before .before .before .before .before .before .length-refusal .ensures) (c .before .before .before .before .before .before .before .before .before .before .if1 .left) (c .before .before .before .before .before .before .before .before .points .ensures .0) (c .before .before .before .before .before .before .before .if2 .left) (c .before .before .before .before .before .points2 .ensures .0) (c .before .before .before .before .if3 .left) (c .before .before .rises .ensures .0) (c .before .if4 .taken)
 
-total-requires : tie.Need-total-requires
-total-requires c κs = search needs
-
-enum-known-least : tie.Need-enum-known-least
-enum-known-least c = search needs
-
-enum-told : tie.Need-enum-told
-enum-told c = search needs
-
-refused-requires-5 : tie.Need-refused-requires-5
-refused-requires-5 c κs = search needs
-
 returns-5 : tie.Need-returns-5
 returns-5 c = c .refused5 .ensures ∙ lowest-outside _ (c .before .before .before .before .before .before .before .before .before .before .before .before .before .before .length-refusal .ensures) (c .before .before .before .before .before .before .before .before .before .before .before .before .before .if1 .left) (c .before .before .before .before .before .before .before .before .before .before .before .points .ensures .0) (c .before .before .before .before .before .before .before .before .before .before .if2 .left) (c .before .before .before .before .before .before .before .before .points2 .ensures .0) (c .before .before .before .before .before .before .before .if3 .left) (c .before .before .before .before .before .rises .ensures .0) (c .before .before .before .before .if4 .left) (coded-outside lowestTotal highestTotal (c .before .before .before .before .before .before .before .before .before .before .before .before .before .before .before .args .lowest) (rw (toZ-ofZ (c .before .before .before .before .before .before .before .before .before .before .before .before .before .before .before .fits .lowest)) at (c .before .before .before .total .ensures)) (c .before .enum-told .given .1))
-
-total-requires-2 : tie.Need-total-requires-2
-total-requires-2 c κs = search needs
-
-enum-known-most : tie.Need-enum-known-most
-enum-known-most c = search needs
-
-enum-told-2 : tie.Need-enum-told-2
-enum-told-2 c = search needs
-
-refused-requires-6 : tie.Need-refused-requires-6
-refused-requires-6 c κs = search needs
 
 returns-6 : tie.Need-returns-6
 returns-6 c = c .refused6 .ensures ∙ highest-outside _ (c .before .before .before .before .before .before .before .before .before .before .before .before .before .before .before .before .before .before .length-refusal .ensures) (c .before .before .before .before .before .before .before .before .before .before .before .before .before .before .before .before .before .if1 .left) (c .before .before .before .before .before .before .before .before .before .before .before .before .before .before .before .points .ensures .0) (c .before .before .before .before .before .before .before .before .before .before .before .before .before .before .if2 .left) (c .before .before .before .before .before .before .before .before .before .before .before .before .points2 .ensures .0) (c .before .before .before .before .before .before .before .before .before .before .before .if3 .left) (c .before .before .before .before .before .before .before .before .before .rises .ensures .0) (c .before .before .before .before .before .before .before .before .if4 .left) (coded-outside lowestTotal highestTotal (c .before .before .before .before .before .before .before .before .before .before .before .before .before .before .before .before .before .before .before .args .highest) (rw (toZ-ofZ (c .before .before .before .before .before .before .before .before .before .before .before .before .before .before .before .before .before .before .before .fits .highest)) at (c .before .before .before .total2 .ensures)) (c .before .enum-told2 .given .1))
@@ -89,28 +50,28 @@ pub open-spec : {M : Type 1} → statement M
 open-spec =
     tie.close
     (tie.spec
-    length-refusal-requires
-    refused-requires
+    (search needs)
+    (search needs)
     returns
     points-requires
-    refused-requires-2
+    (search needs)
     returns-2
     points-requires-2
-    refused-requires-3
+    (search needs)
     returns-3
     rises-requires
     add-if4
-    refused-requires-4
+    (search needs)
     returns-4
-    total-requires
-    enum-known-least
-    enum-told
-    refused-requires-5
+    (search needs)
+    (search needs)
+    (search needs)
+    (search needs)
     returns-5
-    total-requires-2
-    enum-known-most
-    enum-told-2
-    refused-requires-6
+    (search needs)
+    (search needs)
+    (search needs)
+    (search needs)
     returns-6
     open-codes-requires
     returns-7)

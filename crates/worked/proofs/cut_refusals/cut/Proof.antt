@@ -1,20 +1,14 @@
 -- `cut` meets its contract: a cut keeps the numbers in bounds.
 use lib.Seq.{length-take-le}
 use mathlib.Core.Path.{sym}
-use Rattle.cutting.specs.Laws.{told-sane}
+use Rattle.cutting.proofs.Laws.{told-sane}
 use borrow.Author.Needs.{needs}
 use native.Mathlib.Omega.{arith}
 use Rattle.worked.proofs.cut_refusals.cut.Statement.{statement}
 use Rattle.worked.proofs.cut_refusals.cut.Tie as tie
 
-array-borrow-prefix-changed : tie.Need-array-borrow-prefix-changed
-array-borrow-prefix-changed c = search needs
-
 slice-aggregate-cut-told : tie.Need-slice-aggregate-cut-told
 slice-aggregate-cut-told c = sym (length-take-le _ _ (omega arith))
-
-cut-told-requires : tie.Need-cut-told-requires
-cut-told-requires c κs = search needs
 
 returns : tie.Need-returns
 returns c = rw (c .before .cut-told .ensures .0) (told-sane _ _ _ (c .before .before .before .pre .0))
@@ -22,4 +16,4 @@ returns c = rw (c .before .cut-told .ensures .0) (told-sane _ _ _ (c .before .be
 pub cut-spec : {M : Type 1} → statement M
 cut-spec =
     tie.close
-    (tie.spec array-borrow-prefix-changed slice-aggregate-cut-told cut-told-requires returns)
+    (tie.spec (search needs) slice-aggregate-cut-told (search needs) returns)

@@ -14,12 +14,6 @@ slice-aggregate-refusal-2 c = sym (length-take-le _ _ (c .before .before .pre .1
 slice-aggregate-refusal-3 : tie.Need-slice-aggregate-refusal-3
 slice-aggregate-refusal-3 c = sym (length-take-le _ _ (c .before .before .before .pre .2))
 
-refusal-requires : tie.Need-refusal-requires
-refusal-requires c κs = search needs
-
-returns : tie.Need-returns
-returns c = search needs
-
 pub lengths-spec : {M : Type 1} → statement M
 lengths-spec =
     tie.close
@@ -27,5 +21,5 @@ lengths-spec =
     slice-aggregate-refusal
     slice-aggregate-refusal-2
     slice-aggregate-refusal-3
-    refusal-requires
-    returns)
+    (search needs)
+    (search needs))

@@ -6,19 +6,10 @@ use native.Mathlib.Omega.{arith}
 use Rattle.worked.proofs.schedule_refusals.on_day.Statement.{statement}
 use Rattle.worked.proofs.schedule_refusals.on_day.Tie as tie
 
-array-borrow-prefix-list : tie.Need-array-borrow-prefix-list
-array-borrow-prefix-list c = search needs
-
 slice-aggregate-write-day : tie.Need-slice-aggregate-write-day
 slice-aggregate-write-day c = sym (length-take-le _ _ (omega arith))
-
-write-day-requires : tie.Need-write-day-requires
-write-day-requires c κs = search needs
-
-returns : tie.Need-returns
-returns c = search needs
 
 pub on-day-spec : {M : Type 1} → statement M
 on-day-spec =
     tie.close
-    (tie.spec array-borrow-prefix-list slice-aggregate-write-day write-day-requires returns)
+    (tie.spec (search needs) slice-aggregate-write-day (search needs) (search needs))

@@ -1,0 +1,15 @@
+-- Points and codes, and a cut in both.
+pub mod Bridge
+pub mod Clip
+-- A session that is right for a set of levels; what a whole list of cuts makes of it.
+pub mod Right
+pub mod Fold
+-- The demands.
+pub mod Changed
+pub mod Demand1
+pub mod Demand2
+pub mod Demand3
+-- Schedules out and in.
+pub mod Reached
+pub mod Inspected
+pub mod Written

@@ -1,0 +1,3 @@
+pub mod RoundTrip
+pub mod CutAll
+pub mod Printed

@@ -1,0 +1,73 @@
+-- `round-trips`, by the round trips of the format.
+use mathlib.Core.Path.{_≡_, refl, ap, _∙_}
+use mathlib.Core.List.{List}
+use Prim.Native.Nat.{ℕ, _-_}
+use lib.ListN.{length}
+use Rattle.series.specs.Front.{inFront}
+use Rattle.series.specs.Lent.{list-filled}
+use Rattle.series.specs.ListOf.{take-written}
+use Rattle.little_endian.specs.Fields.{Bytes}
+use Rattle.session.specs.Profile.{Profile}
+use Rattle.cuts.specs.declared.Cut.{Cut}
+use Rattle.cuts.specs.Sheet.{cutsOf}
+use Rattle.profile_file.specs.Format.{dayCount, floorAt, ceilingAt, riseAt, profileIn, cutsIn, file}
+use Rattle.profile_file.proofs.Taken.{Taken, not-refused}
+use Rattle.profile_file.proofs.RoundTrip.{Reads, reads-again, written-back}
+use Rattle.file_reader.specs.Reading.{contents}
+use Rattle.file_reader.proofs.Laws.{sheet-cuts, Room, read-taken, read-all}
+use Rattle.file_writer.specs.Writing.{writeAnswer}
+use Rattle.file_writer.proofs.Laws.{written-passed, written-front, written-file}
+use Rattle.files.specs.RoundTrips.{Lists, read, filled, profileOf, Roomy, ReadAgain, WrittenBack, RoundTrips}
+
+module _ (b : List ℕ) (l : Lists) (e : read b l .refusal ≡ 0) where
+  whole : (read b l ≡ contents b) × Taken b × Room b (length (l .floors)) (length (l .ceilings)) (length (l .rises))
+  whole = read-taken b (length (l .floors)) (length (l .ceilings)) (length (l .rises)) e
+
+  pub profile-read : profileOf (read b l) (filled b l) ≡ profileIn b
+  unfolding profileIn contents
+  profile-read =
+      rw (
+        list-filled (read b l .refusal) (floorAt b) (dayCount b) (l .floors) e,
+        list-filled (read b l .refusal) (ceilingAt b) (dayCount b) (l .ceilings) e,
+        list-filled (read b l .refusal) (riseAt b) (dayCount b - 1) (l .rises) e,
+        whole .0,
+        take-written (floorAt b) (dayCount b) (l .floors) (whole .2 .floors-long),
+        take-written (ceilingAt b) (dayCount b) (l .ceilings) (whole .2 .ceilings-long),
+        take-written (riseAt b) (dayCount b - 1) (l .rises) (whole .2 .rises-long),
+      ) refl
+
+  pub cuts-read : cutsOf (read b l .sheet) ≡ cutsIn b
+  unfolding contents
+  cuts-read = rw (whole .0) (sheet-cuts b (whole .1 .fewCuts))
+
+module _ (p : Profile) (cs : List Cut) (l : Lists) (r : Roomy p l) (s : Reads (file p cs) p cs) where
+  days : dayCount (file p cs) ≡ p .days
+  unfolding profileIn
+  days = ap (λ (q : Profile). q .days) (s .profile)
+
+  pub read-file : read (file p cs) l .refusal ≡ 0
+  unfolding contents
+  read-file =
+      rw (read-all (file p cs) (length (l .floors)) (length (l .ceilings)) (length (l .rises)) (s .taken)
+      (record { floors-long = rw days (r .floors); ceilings-long = rw days (r .ceilings); rises-long = rw days (r .rises) })) refl
+
+again : (p : Profile) (cs : List Cut) (out : List ℕ) (l : Lists) → writeAnswer p cs (length out) .refusal ≡ 0 → Roomy p l → ReadAgain p cs out l
+again p cs out l e r =
+    let s = reads-again p cs (written-passed p cs out e) in
+    let z : read (file p cs) l .refusal ≡ 0 = read-file p cs l r s in
+    record {
+      taken = rw (written-file p cs out e) z;
+      profile = rw (written-file p cs out e) (profile-read (file p cs) l z ∙ s .profile);
+      cuts = rw (written-file p cs out e) (cuts-read (file p cs) l z ∙ s .cuts);
+    }
+
+back : (b : List ℕ) (l : Lists) (out : List ℕ) → Bytes b → read b l .refusal ≡ 0
+    → writeAnswer (profileOf (read b l) (filled b l)) (cutsOf (read b l .sheet)) (length out) .refusal ≡ 0 → WrittenBack b l out
+back b l out bytes e w =
+    let p : Profile = profileOf (read b l) (filled b l) in
+    let cs : List Cut = cutsOf (read b l .sheet) in
+    let same : file p cs ≡ b = rw (profile-read b l e, cuts-read b l e) (written-back b bytes (not-refused b (whole b l e .1))) in
+    record { same = written-file p cs out w ∙ same; rest = written-front p cs out w ∙ ap (λ xs. inFront xs out) same }
+
+pub round-trips : RoundTrips
+round-trips = record { again = again; back = back }

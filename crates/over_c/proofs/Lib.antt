@@ -1,0 +1,3 @@
+pub mod Storable
+pub mod Bytes
+pub mod Files

@@ -1,0 +1,145 @@
+-- What holds of a profile that no check before 8 refuses.
+use mathlib.Core.Path.{_≡_, refl, _∙_}
+use mathlib.Core.Bool.{Bool, true, false, _&&_, _||_, and-eq-true-iff}
+use mathlib.Core.List.{List, [], _∷_}
+use Prim.Native.Nat.{ℕ, zero, suc, _+_, _-_, _≤_, _<_}
+use native.Mathlib.Omega.{arith}
+use native.Mathlib.Decide.{decLt}
+use lib.IntN.{ℤ}
+use lib.Dec.{eqb}
+use lib.ListN.{length, length-replicate, getD-replicate}
+use borrow.Author.Tests.{not-false, ltb-false, eqb-true, eqb-false}
+use Rattle.series.specs.Checks.{cond-zero, or-false}
+use Rattle.series.specs.Sum.{at}
+use Rattle.series.specs.Written.{written-below, written-past, length-written}
+use Rattle.levels.specs.Code.{lowestPoint, highestPoint, lowestRise, highestRise, lowestTotal, highestTotal, within, code, on}
+use Rattle.levels.proofs.Offset.{Less}
+use Rattle.levels.proofs.Laws.{point-less, rise-less, total-less, within-less, point-most, rise-most, total-most}
+use Rattle.method.specs.Filter.{InBounds, zeros}
+use Rattle.session.specs.Profile.{Profile}
+use Rattle.session.specs.Opening.{earlier, every, badCount, badLength, badPoint, badRise, badTotal, codes}
+
+pub or-true : (a b : Bool) → b ≡ true → (a || b) ≡ true
+or-true true b e = refl
+or-true false b e = e
+
+pub every-on : (test : ℤ → Bool) (zs : List ℤ) → every test zs ≡ true → (k : ℕ) → k < length zs → test (on zs k) ≡ true
+every-on test [] e k h = absurd (omega arith)
+every-on test (z ∷ zs) e zero h = and-eq-true-iff (test z) (every test zs) .0 e .0
+every-on test (z ∷ zs) e (suc k) h = every-on test zs (and-eq-true-iff (test z) (every test zs) .0 e .1) k (omega arith)
+
+-- what 1 and 2 let pass
+pub record Sized (p : Profile) : Type 0 where
+  pub some : 0 < p .days
+  pub few : p .days ≤ 512
+  pub floors : length (p .floors) ≡ p .days
+  pub ceilings : length (p .ceilings) ≡ p .days
+  pub rises : length (p .rises) ≡ p .days - 1
+
+pub sized : (p : Profile) → badCount p ≡ false → badLength p ≡ false → Sized p
+sized p c1 c2 =
+    let count = or-false _ _ c1 in
+    let floors : Bool = eqb (length (p .floors)) (p .days) in
+    let ceilings : Bool = eqb (length (p .ceilings)) (p .days) in
+    let rises : Bool = eqb (length (p .rises)) (p .days - 1) in
+    let lengths = and-eq-true-iff (floors && ceilings) rises .0 (not-false _ c2) in
+    let two = and-eq-true-iff floors ceilings .0 (lengths .0) in
+    let apart : (p .days ≡ 0 → ⊥) = eqb-false _ _ (count .0) in
+    record {
+      some = omega (arith, apart);
+      few = ltb-false _ _ (count .1);
+      floors = eqb-true _ _ (two .0);
+      ceilings = eqb-true _ _ (two .1);
+      rises = eqb-true _ _ (lengths .1);
+    }
+
+-- what 1 to 5 let pass
+pub record Entered (p : Profile) : Type 0 where
+  pub sized : Sized p
+  pub floor : (k : ℕ) → k < p .days → within lowestPoint highestPoint (on (p .floors) k) ≡ true
+  pub ceiling : (k : ℕ) → k < p .days → within lowestPoint highestPoint (on (p .ceilings) k) ≡ true
+  pub rise : (k : ℕ) → k < p .days - 1 → within lowestRise highestRise (on (p .rises) k) ≡ true
+  pub lowest : within lowestTotal highestTotal (p .lowest) ≡ true
+  pub highest : within lowestTotal highestTotal (p .highest) ≡ true
+
+pub passed : (p : Profile) → badCount p ≡ false → badLength p ≡ false → badPoint p ≡ false → badRise p ≡ false → badTotal p ≡ false → Entered p
+passed p c1 c2 c3 c4 c5 =
+    let point : ℤ → Bool = within lowestPoint highestPoint in
+    let z = sized p c1 c2 in
+    let points = and-eq-true-iff (every point (p .floors)) (every point (p .ceilings)) .0 (not-false _ c3) in
+    let totals = and-eq-true-iff (within lowestTotal highestTotal (p .lowest)) (within lowestTotal highestTotal (p .highest)) .0 (not-false _ c5) in
+    record {
+      sized = z;
+      floor = λ k h. every-on point (p .floors) (points .0) k (omega (arith, z .floors));
+      ceiling = λ k h. every-on point (p .ceilings) (points .1) k (omega (arith, z .ceilings));
+      rise = λ k h. every-on (within lowestRise highestRise) (p .rises) (not-false _ c4) k (omega (arith, z .rises));
+      lowest = totals .0;
+      highest = totals .1;
+    }
+
+pub entered : (p : Profile) → earlier p ≡ 0 → Entered p
+unfolding earlier
+entered p e =
+    let c1 = cond-zero (badCount p) 0 _ e in
+    let c2 = cond-zero (badLength p) 1 _ (c1 .1) in
+    let c3 = cond-zero (badPoint p) 2 _ (c2 .1) in
+    let c4 = cond-zero (badRise p) 3 _ (c3 .1) in
+    let c5 = cond-zero (badTotal p) 4 _ (c4 .1) in
+    passed p (c1 .0) (c2 .0) (c3 .0) (c4 .0) (c5 .0)
+
+-- ---- the codes
+
+length-zeros : length zeros ≡ 512
+length-zeros = length-replicate {A = ℕ} 512 0
+
+pub codes-at : (low : ℤ) (zs : List ℤ) (n k : ℕ) → k < n → n ≤ 512 → at (codes low zs n) k ≡ code low (on zs k)
+codes-at low zs n k h few = written-below (λ j. code low (on zs j)) 0 n zeros k h (omega (arith, length-zeros))
+
+length-codes : (low : ℤ) (zs : List ℤ) (n : ℕ) → length (codes low zs n) ≡ 512
+length-codes low zs n = length-written (λ k. code low (on zs k)) n zeros ∙ length-zeros
+
+module _ (p : Profile) (d : Entered p) where
+  pub floor-code : (k : ℕ) → k < p .days → at (codes lowestPoint (p .floors) (p .days)) k ≡ code lowestPoint (on (p .floors) k)
+  floor-code k h = codes-at lowestPoint (p .floors) (p .days) k h (d .sized .few)
+
+  pub ceiling-code : (k : ℕ) → k < p .days → at (codes lowestPoint (p .ceilings) (p .days)) k ≡ code lowestPoint (on (p .ceilings) k)
+  ceiling-code k h = codes-at lowestPoint (p .ceilings) (p .days) k h (d .sized .few)
+
+  pub rise-code : (k : ℕ) → k + 1 < p .days → at (codes lowestRise (p .rises) (p .days - 1)) k ≡ code lowestRise (on (p .rises) k)
+  rise-code k h = codes-at lowestRise (p .rises) (p .days - 1) k (omega arith) (omega (arith, d .sized .few))
+
+  rise-small : (k : ℕ) → k < p .days → Dec (k < p .days - 1) → at (codes lowestRise (p .rises) (p .days - 1)) k ≤ 4000
+  rise-small k h (yes l) = omega (arith, rise-code k (omega arith), rise-most (on (p .rises) k) (d .rise k l))
+  rise-small k h (no l) =
+      omega (arith, written-past (λ j. code lowestRise (on (p .rises) j)) 0 (p .days - 1) zeros k (omega arith), getD-replicate {A = ℕ} 512 k 0 0 (omega (arith, d .sized .few)))
+
+  pub codes-bounds : InBounds (codes lowestPoint (p .floors) (p .days)) (codes lowestPoint (p .ceilings) (p .days))
+      (codes lowestRise (p .rises) (p .days - 1)) (p .days) (code lowestTotal (p .lowest)) (code lowestTotal (p .highest))
+  codes-bounds = record {
+    some = d .sized .some;
+    most = d .sized .few;
+    floors = length-codes lowestPoint (p .floors) (p .days);
+    ceilings = length-codes lowestPoint (p .ceilings) (p .days);
+    rises = length-codes lowestRise (p .rises) (p .days - 1);
+    floor = λ k h. omega (arith, floor-code k h, point-most (on (p .floors) k) (d .floor k h));
+    ceiling = λ k h. omega (arith, ceiling-code k h, point-most (on (p .ceilings) k) (d .ceiling k h));
+    rise = λ k h. rise-small k h (decLt k (p .days - 1));
+    lowest = total-most (p .lowest) (d .lowest);
+    highest = total-most (p .highest) (d .highest);
+  }
+
+  -- each number of the profile, by its code
+  pub floor-less : (k : ℕ) → k < p .days → Less (on (p .floors) k) (at (codes lowestPoint (p .floors) (p .days)) k) 1000
+  floor-less k h = rw (floor-code k h) (within-less lowestPoint highestPoint (on (p .floors) k) 1000 point-less (d .floor k h))
+
+  pub ceiling-less : (k : ℕ) → k < p .days → Less (on (p .ceilings) k) (at (codes lowestPoint (p .ceilings) (p .days)) k) 1000
+  ceiling-less k h = rw (ceiling-code k h) (within-less lowestPoint highestPoint (on (p .ceilings) k) 1000 point-less (d .ceiling k h))
+
+  pub rise-less-at : (k : ℕ) → k + 1 < p .days → Less (on (p .rises) k) (at (codes lowestRise (p .rises) (p .days - 1)) k) 2000
+  rise-less-at k h = rw (rise-code k h) (within-less lowestRise highestRise (on (p .rises) k) 2000 rise-less (d .rise k (omega arith)))
+
+  pub lowest-less : Less (p .lowest) (code lowestTotal (p .lowest)) 512000
+  lowest-less = within-less lowestTotal highestTotal (p .lowest) 512000 total-less (d .lowest)
+
+  pub highest-less : Less (p .highest) (code lowestTotal (p .highest)) 512000
+  highest-less = within-less lowestTotal highestTotal (p .highest) 512000 total-less (d .highest)

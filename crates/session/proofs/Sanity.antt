@@ -1,0 +1,80 @@
+-- What opening hands back: its refusal, and a session whose numbers are in bounds.
+use mathlib.Core.Path.{_≡_, refl, _∙_}
+use mathlib.Core.Bool.{Bool, true, false, cond}
+use Prim.Native.Nat.{ℕ, _-_, _≤_, _<_}
+use native.Mathlib.Omega.{arith}
+use lib.IntN.{pos}
+use lib.Dec.{eqb}
+use lib.ListN.{length-replicate, getD-replicate}
+use borrow.Author.Tests.{eqb-true}
+use Rattle.series.specs.Sum.{at}
+use Rattle.series.specs.Written.{written, length-written, written-below}
+use Rattle.levels.specs.Code.{lowestPoint, lowestRise, code}
+use Rattle.method.specs.Filter.{zeros}
+use Rattle.method.proofs.Exact.{exact, exact-in-bounds}
+use Rattle.session.specs.Profile.{Profile}
+use Rattle.session.specs.Opening.{earlier, badCount, badLength, badPoint, badRise, badTotal, badRange, opened, openedWith, refusedWith, narrowed, allZero, codes}
+use Rattle.session.specs.Showing.{Fits, Sane}
+use Rattle.session.proofs.Entered.{entered, codes-bounds}
+
+-- ---- its refusal
+
+pub earlier-few : (p : Profile) → earlier p ≤ 6
+unfolding earlier
+earlier-few p = go (badCount p) (badLength p) (badPoint p) (badRise p) (badTotal p) (badRange p)
+  where
+    go : (a b c d e f : Bool) → cond a 1 (cond b 2 (cond c 3 (cond d 4 (cond e 5 (cond f 6 0))))) ≤ 6
+    go true b c d e f = omega arith
+    go false true c d e f = omega arith
+    go false false true d e f = omega arith
+    go false false false true e f = omega arith
+    go false false false false true f = omega arith
+    go false false false false false true = omega arith
+    go false false false false false false = omega arith
+
+-- 8 only where no check before 8 refuses, and else what those checks say
+pub opened-refusal : (p : Profile) → (opened p .refusal ≡ 8 → earlier p ≡ 0) × ((opened p .refusal ≡ 8 → ⊥) → opened p .refusal ≡ earlier p)
+unfolding opened
+opened-refusal p = go (eqb (earlier p) 0) (narrowed p .found) refl refl
+  where
+    go : (early found : Bool) → eqb (earlier p) 0 ≡ early → narrowed p .found ≡ found
+        → (opened p .refusal ≡ 8 → earlier p ≡ 0) × ((opened p .refusal ≡ 8 → ⊥) → opened p .refusal ≡ earlier p)
+    go true true e f = (λ h. eqb-true (earlier p) 0 e, λ h. rw (e, f) (omega (arith, eqb-true (earlier p) 0 e)))
+    go true false e f = (λ h. eqb-true (earlier p) 0 e, λ h. absurd (h (rw (e, f) refl)))
+    go false found e f = (λ h. absurd (omega (arith, rw e at h, earlier-few p)), λ h. rw e refl)
+
+-- ---- its session
+
+one-day : Fits zeros 1 allZero
+one-day =
+    let wide = length-written (λ (k : ℕ). code lowestPoint (pos 0)) 1 zeros ∙ length-replicate {A = ℕ} 512 0 in
+    let first : (k : ℕ) → k < 1 → at (written (λ (j : ℕ). code lowestPoint (pos 0)) 1 zeros) k ≤ 5000 =
+    λ k h. omega (arith, written-below (λ (j : ℕ). code lowestPoint (pos 0)) 0 1 zeros k h (omega (arith, length-replicate {A = ℕ} 512 0))) in
+    record {
+      some = omega arith;
+      most = omega arith;
+      floors = wide;
+      ceilings = wide;
+      rises = length-replicate {A = ℕ} 512 0;
+      floor = first;
+      ceiling = first;
+      rise = λ k h. omega (arith, getD-replicate {A = ℕ} 512 k 0 0 (omega arith));
+      lowest = omega arith;
+      highest = omega arith;
+    }
+
+refused-sane : (number : ℕ) → Sane (refusedWith number .session)
+refused-sane number = record { opened = one-day; present = one-day }
+
+pub opened-sane : (p : Profile) → Sane (opened p .session)
+unfolding opened
+opened-sane p = go (eqb (earlier p) 0) (narrowed p .found) refl refl
+  where
+    go : (early found : Bool) → eqb (earlier p) 0 ≡ early → narrowed p .found ≡ found
+        → Sane (cond early (openedWith (p .days) (codes lowestRise (p .rises) (p .days - 1)) (narrowed p)) (refusedWith (earlier p)) .session)
+    go true true e f =
+        let d = entered p (eqb-true (earlier p) 0 e) in
+        let b = exact-in-bounds (exact (codes-bounds p d) f) (codes-bounds p d) in
+        rw f (record { opened = b; present = b })
+    go true false e f = rw f (refused-sane 8)
+    go false found e f = refused-sane (earlier p)
