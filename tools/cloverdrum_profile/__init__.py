@@ -1,0 +1,1 @@
+"""The parts of tools/profile. "Document 01" is the specification that the project follows."""
