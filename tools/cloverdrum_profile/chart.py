@@ -51,7 +51,7 @@ def draw(answer: Answer, title: str) -> str:
 
 
 def round_ticks(low: int, high: int, most: int) -> range:
-    """Multiples of a round step from at most low to at least high, which are at most `most` steps apart."""
+    """Multiples of the least round step of which about `most` reach from low to high, ends included."""
     if low == high:
         low, high = low - 100, high + 100
     step = next(step for step in STEPS if high - low <= most * step)
