@@ -15,7 +15,7 @@ use Rattle.demands.proofs.Demand1.{demand-1}
 use Rattle.session_bytes.specs.Layout.{sessionBytes, encoding, decoding}
 use Rattle.session_bytes.proofs.Lengths.{encoding-length}
 use Rattle.session_bytes.proofs.Inverse.{Storable, decoding-encoding}
-use Rattle.panel.specs.Entries.{cutAnswer, cutBytes}
+use Rattle.byte_sessions.specs.Sessions.{cutAnswer, cutBytes}
 use Rattle.over_c.specs.InBytes.{HandedBytes, byValue, bytesAfter, SessionsInBytes}
 use Rattle.over_c.proofs.Storable.{opened-storable, told-storable}
 

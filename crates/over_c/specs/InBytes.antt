@@ -7,7 +7,7 @@ use Rattle.session.specs.Opening.{opened}
 use Rattle.cuts.specs.declared.Told.{Told}
 use Rattle.demands.specs.Cuts.{Handed, after}
 use Rattle.session_bytes.specs.Layout.{encoding, decoding}
-use Rattle.panel.specs.Entries.{cutBytes}
+use Rattle.byte_sessions.specs.Sessions.{cutBytes}
 
 -- a cut as it is handed over in C: the list lent for changed days has that many bytes
 pub record HandedBytes : Type 0 where

@@ -1,4 +1,4 @@
--- What the entries for C give: what the functions on sessions by value give for the session that the bytes hold. A session's bytes of another length are
+-- What calls on a session's bytes give: what the functions on sessions by value give for the session that the bytes hold. A session's bytes of another length are
 -- refused with 2 before all else. Lists are given as they are, or by their counts of bytes, of which an odd last one counts for nothing where a list may be
 -- longer than its elements ask.
 use mathlib.Core.Bool.{Bool, cond, _&&_, _||_}
@@ -22,8 +22,8 @@ use Rattle.inspection.specs.Inspecting.{Finding, refused, inspected}
 use Rattle.byte_lists.specs.Lists.{isLong, pointsIn, cellBytes}
 use Rattle.byte_lists.specs.Profiles.{lengthRefusal, profileOf}
 use Rattle.session_bytes.specs.Layout.{sessionBytes, encoding, decoding}
-use Rattle.panel.specs.declared.Subject.{Subject}
-use Rattle.panel.specs.declared.Subject.the-variants.{Day, Total}
+use Rattle.byte_sessions.specs.declared.Subject.{Subject}
+use Rattle.byte_sessions.specs.declared.Subject.the-variants.{Day, Total}
 
 abbrev pub isSession : List ℕ → Bool
 isSession b = eqb (length b) sessionBytes

@@ -4,8 +4,8 @@ use mir.Facts.{toZ-ofZ}
 use Rattle.byte_lists.proofs.Laws.{Long, long, Held, held}
 use native.Mathlib.Omega.{arith}
 use borrow.Author.Needs.{needs}
-use Rattle.panel.proofs.open_lists.Statement.{statement}
-use Rattle.panel.proofs.open_lists.Tie as tie
+use Rattle.byte_sessions.proofs.open_lists.Statement.{statement}
+use Rattle.byte_sessions.proofs.open_lists.Tie as tie
 
 -- past 1 and 2
 sizes : (c : tie.Start) → Long (c .args .days) (length (c .args .floors .now)) (length (c .args .ceilings .now)) (length (c .args .rises .now))

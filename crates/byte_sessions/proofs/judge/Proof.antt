@@ -1,9 +1,9 @@
 use Rattle.byte_lists.proofs.Laws.{held}
-use Rattle.panel.proofs.Laws.{held-sane, held-few, no-session, no-list, session-and-list, inspect-unread, inspect-all}
+use Rattle.byte_sessions.proofs.Laws.{held-sane, held-few, no-session, no-list, session-and-list, inspect-unread, inspect-all}
 use native.Mathlib.Omega.{arith}
 use borrow.Author.Needs.{needs}
-use Rattle.panel.proofs.inspect.Statement.{statement}
-use Rattle.panel.proofs.inspect.Tie as tie
+use Rattle.byte_sessions.proofs.judge.Statement.{statement}
+use Rattle.byte_sessions.proofs.judge.Tie as tie
 
 returns : tie.Need-returns
 returns c = inspect-unread _ _ (no-session _ _ (c .if1 .taken))
@@ -29,8 +29,8 @@ inspect-requires c κs = held-sane _ (c .before .before .before .before .decode 
 returns-3 : tie.Need-returns-3
 returns-3 c = inspect-all _ _ (c .before .before .before .before .before .decode .ensures) (session-and-list _ _ (c .before .before .before .before .before .before .if1 .left) (c .before .before .before .before .before .decode .ensures) (c .before .before .before .before .if2 .left)) (c .before .before .points .ensures) (c .inspect .ensures)
 
-pub inspect-spec : {M : Type 1} → statement M
-inspect-spec =
+pub judge-spec : {M : Type 1} → statement M
+judge-spec =
     tie.close
     (tie.spec
     returns

@@ -31,9 +31,9 @@ use Rattle.byte_lists.specs.Lists.{isLong, pointAt, pointBytes, cellBytes, lent
 use Rattle.byte_lists.proofs.Laws.{held, lent-at, points-front, cells-front, points-left, points-filled}
 use Rattle.session_bytes.specs.Layout.{sessionBytes, encoding, decoding}
 use Rattle.session_bytes.proofs.Inverse.{decoding-sane}
-use Rattle.panel.specs.Entries.{isSession, cutAnswer, cutBytes, changedBytes, shownOver, refusalFor, setpointFor, writeRefusal, inspectedOver}
-use Rattle.panel.specs.declared.Subject.{Subject}
-use Rattle.panel.specs.declared.Subject.the-variants.{Day, Total}
+use Rattle.byte_sessions.specs.Sessions.{isSession, cutAnswer, cutBytes, changedBytes, shownOver, refusalFor, setpointFor, writeRefusal, inspectedOver}
+use Rattle.byte_sessions.specs.declared.Subject.{Subject}
+use Rattle.byte_sessions.specs.declared.Subject.the-variants.{Day, Total}
 
 -- ---- the session that the bytes hold
 

@@ -4,10 +4,10 @@ use lib.ListN.{length}
 use lib.Seq.{length-take-le}
 use Rattle.session.specs.Showing.{shown}
 use Rattle.session_bytes.specs.Layout.{decoding}
-use Rattle.panel.proofs.Laws.{held-sane, show-room, show-fits, show-unread, show-refused, show-all}
+use Rattle.byte_sessions.proofs.Laws.{held-sane, show-room, show-fits, show-unread, show-refused, show-all}
 use borrow.Author.Needs.{needs}
-use Rattle.panel.proofs.show.Statement.{statement}
-use Rattle.panel.proofs.show.Tie as tie
+use Rattle.byte_sessions.proofs.show.Statement.{statement}
+use Rattle.byte_sessions.proofs.show.Tie as tie
 
 -- what is given, with all of the lists as room
 after : (c : tie.After-show) → c .show .result ≡ shown (decoding (c .before .before .before .before .before .before .before .before .before .before .args .session .now)) (length (c .before .before .before .before .before .before .before .before .before .before .args .floors .now) / 2) (length (c .before .before .before .before .before .before .before .before .before .before .args .ceilings .now) / 2)

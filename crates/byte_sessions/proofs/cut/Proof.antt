@@ -6,10 +6,10 @@ use mir.Facts.{toZ-ofZ}
 use Rattle.cuts.specs.Told.{told}
 use Rattle.cutting.specs.Cutting.{afterTold}
 use Rattle.session_bytes.specs.Layout.{decoding}
-use Rattle.panel.proofs.Laws.{held-sane, cut-room, cut-unread, cut-refused, cut-spent, cut-keeps, cut-fits, cut-listed}
+use Rattle.byte_sessions.proofs.Laws.{held-sane, cut-room, cut-unread, cut-refused, cut-spent, cut-keeps, cut-fits, cut-listed}
 use borrow.Author.Needs.{needs}
-use Rattle.panel.proofs.cut.Statement.{statement}
-use Rattle.panel.proofs.cut.Tie as tie
+use Rattle.byte_sessions.proofs.cut.Statement.{statement}
+use Rattle.byte_sessions.proofs.cut.Tie as tie
 
 -- what is given, with all of the list as room
 after : (c : tie.After-cut-told) → c .cut-told .result ≡ afterTold (decoding (c .before .before .before .before .before .before .before .before .args .session .now)) (told (c .before .before .before .before .before .before .before .before .args .kind) (c .before .before .before .before .before .before .before .before .args .day) (c .before .before .before .before .before .before .before .before .args .value)) (length (c .before .before .before .before .before .before .before .before .args .changed .now) / 2)

@@ -1,0 +1,9 @@
+use borrow.Author.Needs.{needs}
+use Rattle.byte_sessions.proofs.inspect.Statement.{statement}
+use Rattle.byte_sessions.proofs.inspect.Tie as tie
+
+returns : tie.Need-returns
+returns c = rw (c .before .judge .ensures) at (c .number .ensures)
+
+pub inspect-spec : {M : Type 1} → statement M
+inspect-spec = tie.close (tie.spec (search needs) (search needs) returns)

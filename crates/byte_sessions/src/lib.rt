@@ -1,0 +1,244 @@
+// A session's bytes: opened, cut, shown, written for and inspected by, as a caller in C hands them over.
+ghost use mathlib.Core.Path.{_≡_};
+ghost use lib.ListN.{length};
+ghost use Rattle.cuts.specs.Told.{told};
+ghost use Rattle.session.specs.Showing.{floorOn, ceilingOn, Sane};
+ghost use Rattle.session.specs.Opening.{opened};
+ghost use Rattle.series.specs.Lent.{lentList};
+ghost use Rattle.inspection.specs.Inspecting.{finding};
+ghost use Rattle.byte_lists.specs.Lists.{lentPoints};
+ghost use Rattle.byte_lists.specs.Profiles.{lengthRefusal, profileOf};
+ghost use Rattle.session_bytes.specs.Layout.{decoding};
+ghost use Rattle.byte_sessions.specs.Sessions.{openRefusal, openBytes, cutAnswer, cutBytes, changedBytes, shownOver, refusalFor, setpointFor, writeRefusal, inspectedOver};
+use byte_lists::length_refusal;
+use byte_lists::points;
+use byte_lists::put_cells;
+use byte_lists::put_points;
+use cutting::CutAnswer;
+use inspection::Inspection;
+use numbers::least;
+use session::Opened;
+use session::Session;
+use session::Shown;
+use session_bytes::SESSION_BYTES;
+use session_bytes::decode;
+use session_bytes::encode;
+
+// What inspecting finds: the refusal's number; the rule that is broken, 0 for none, 1 for a day's range, 2 for a rise, 3 for the total's range; and the
+// number of the day or rise.
+pub struct Finding {
+    pub refusal: u8,
+    pub rule: usize,
+    pub place: usize,
+}
+
+// What a schedule is written for.
+pub enum Subject {
+    Day(usize),
+    Total,
+}
+
+// ---- opening
+
+// Opens a profile whose lists are as long as its days ask.
+fn open_lists(
+    days: usize,
+    floors: &[u8],
+    ceilings: &[u8],
+    rises: &[u8],
+    lowest: i32,
+    highest: i32,
+) -> Opened
+    requires { ⌜ lengthRefusal days (length (now floors)) (length (now ceilings)) (length (now rises)) ≡ 0 ⌝ }
+    ensures { λ r. ⌜ r ≡ opened (profileOf days (now (floors .entry)) (now (ceilings .entry)) (now (rises .entry)) lowest highest) ⌝ }
+{
+    let mut low = [0i16; 512];
+    let mut high = [0i16; 512];
+    let mut steps = [0i16; 512];
+    points(floors, days, &mut low);
+    points(ceilings, days, &mut high);
+    points(rises, days - 1, &mut steps);
+    Session::open(
+        days,
+        &low[..days],
+        &high[..days],
+        &steps[..days - 1],
+        lowest,
+        highest,
+    )
+}
+
+// Opens a profile: document 01's checks 1 to 6, then 8; a refusal writes no byte.
+pub fn open(
+    session: &mut [u8],
+    days: usize,
+    floors: &[u8],
+    ceilings: &[u8],
+    rises: &[u8],
+    lowest: i32,
+    highest: i32,
+) -> u8
+    ensures { λ r. ⌜ r ≡ openRefusal (now (session .entry)) days (now (floors .entry)) (now (ceilings .entry)) (now (rises .entry)) lowest highest ⌝ }
+    ensures { λ r. ⌜ now (session .exit) ≡ openBytes (now (session .entry)) days (now (floors .entry)) (now (ceilings .entry)) (now (rises .entry)) lowest highest ⌝ }
+{
+    if session.len() != SESSION_BYTES {
+        return 2;
+    }
+    let refusal = length_refusal(days, floors.len(), ceilings.len(), rises.len());
+    if refusal != 0 {
+        return refusal;
+    }
+    let opened = open_lists(days, floors, ceilings, rises, lowest, highest);
+    if opened.refusal != 0 {
+        return opened.refusal;
+    }
+    encode(opened.session, session);
+    0
+}
+
+// ---- cutting
+
+pub fn cut(session: &mut [u8], kind: usize, day: usize, value: i32, changed: &mut [u8]) -> CutAnswer
+    ensures { λ r. ⌜ r ≡ cutAnswer (now (session .entry)) (told kind day value) (length (now (changed .entry))) ⌝ }
+    ensures { λ r. ⌜ now (session .exit) ≡ cutBytes (now (session .entry)) (told kind day value) (length (now (changed .entry))) ⌝ }
+    ensures { λ r. ⌜ now (changed .exit) ≡ changedBytes (now (session .entry)) (told kind day value) (now (changed .entry)) ⌝ }
+{
+    if session.len() != SESSION_BYTES {
+        return CutAnswer {
+            refusal: 2,
+            changed: 0,
+        };
+    }
+    let mut list = [0u16; 512];
+    let room = least(512, changed.len() / 2);
+    let after = cutting::cut_told(decode(session), kind, day, value, &mut list[..room]);
+    let answer = after.answer;
+    if answer.refusal == 0 {
+        put_cells(&list, answer.changed, 0, changed);
+        encode(after.session, session);
+        return answer;
+    }
+    if answer.refusal == 8 {
+        encode(after.session, session);
+    }
+    answer
+}
+
+// ---- showing
+
+pub fn show(session: &[u8], floors: &mut [u8], ceilings: &mut [u8]) -> Shown
+    ensures { λ r. ⌜ r ≡ shownOver (now (session .entry)) (length (now (floors .entry))) (length (now (ceilings .entry))) ⌝ }
+    ensures { λ r. ⌜ now (floors .exit) ≡ lentPoints (r .refusal) (floorOn (decoding (now (session .entry)))) (decoding (now (session .entry)) .days) (now (floors .entry)) ⌝ }
+    ensures { λ r. ⌜ now (ceilings .exit) ≡ lentPoints (r .refusal) (ceilingOn (decoding (now (session .entry)))) (decoding (now (session .entry)) .days) (now (ceilings .entry)) ⌝ }
+{
+    if session.len() != SESSION_BYTES {
+        return Shown {
+            refusal: 2,
+            least: 0,
+            most: 0,
+            spent: false,
+        };
+    }
+    let held = decode(session);
+    let n = held.days;
+    let mut low = [0i16; 512];
+    let mut high = [0i16; 512];
+    let low_room = least(512, floors.len() / 2);
+    let high_room = least(512, ceilings.len() / 2);
+    let shown = held.show(&mut low[..low_room], &mut high[..high_room]);
+    if shown.refusal != 0 {
+        return shown;
+    }
+    put_points(&low, n, floors);
+    put_points(&high, n, ceilings);
+    shown
+}
+
+// ---- schedules
+
+fn write_for(session: Session, subject: Subject, value: i32, list: &mut [i16]) -> u8
+    requires { ⌜ Sane session × (length (now list) ≡ session .days) ⌝ }
+    ensures { λ r. ⌜ r ≡ refusalFor session subject value ⌝ }
+    ensures { λ r. ⌜ now (list .exit) ≡ lentList r (setpointFor session subject value) (session .days) (now (list .entry)) ⌝ }
+{
+    match subject {
+        Subject::Day(day) => schedules::write_day(session, day, value, list),
+        Subject::Total => schedules::write_total(session, value, list),
+    }
+}
+
+pub fn write(session: &[u8], subject: Subject, value: i32, list: &mut [u8]) -> u8
+    ensures { λ r. ⌜ r ≡ writeRefusal (now (session .entry)) subject value (now (list .entry)) ⌝ }
+    ensures { λ r. ⌜ now (list .exit) ≡ lentPoints r (setpointFor (decoding (now (session .entry))) subject value) (decoding (now (session .entry)) .days) (now (list .entry)) ⌝ }
+{
+    if session.len() != SESSION_BYTES {
+        return 2;
+    }
+    let held = decode(session);
+    let n = held.days;
+    if list.len() != n * 2 {
+        return 2;
+    }
+    let mut schedule = [0i16; 512];
+    let refusal = write_for(held, subject, value, &mut schedule[..n]);
+    if refusal != 0 {
+        return refusal;
+    }
+    put_points(&schedule, n, list);
+    0
+}
+
+// What an answer says by numbers.
+fn number(answer: Inspection) -> Finding
+    ensures { λ r. ⌜ (r .refusal ≡ finding answer .refusal) × (r .rule ≡ finding answer .rule) × (r .place ≡ finding answer .place) ⌝ }
+{
+    match answer {
+        Inspection::Refused(number) => Finding {
+            refusal: number,
+            rule: 0,
+            place: 0,
+        },
+        Inspection::Kept => Finding {
+            refusal: 0,
+            rule: 0,
+            place: 0,
+        },
+        Inspection::BrokenDay(day) => Finding {
+            refusal: 0,
+            rule: 1,
+            place: day,
+        },
+        Inspection::BrokenRise(rise) => Finding {
+            refusal: 0,
+            rule: 2,
+            place: rise,
+        },
+        Inspection::BrokenTotal => Finding {
+            refusal: 0,
+            rule: 3,
+            place: 0,
+        },
+    }
+}
+
+fn judge(session: &[u8], list: &[u8]) -> Inspection
+    ensures { λ r. ⌜ finding r ≡ inspectedOver (now (session .entry)) (now (list .entry)) ⌝ }
+{
+    if session.len() != SESSION_BYTES {
+        return Inspection::Refused(2);
+    }
+    let held = decode(session);
+    let n = held.days;
+    if list.len() != n * 2 {
+        return Inspection::Refused(2);
+    }
+    let mut schedule = [0i16; 512];
+    points(list, n, &mut schedule);
+    inspection::inspect(held, &schedule[..n])
+}
+
+pub fn inspect(session: &[u8], list: &[u8]) -> Finding
+    ensures { λ r. ⌜ (r .refusal ≡ inspectedOver (now (session .entry)) (now (list .entry)) .refusal) × (r .rule ≡ inspectedOver (now (session .entry)) (now (list .entry)) .rule) × (r .place ≡ inspectedOver (now (session .entry)) (now (list .entry)) .place) ⌝ }
+{
+    number(judge(session, list))
+}
