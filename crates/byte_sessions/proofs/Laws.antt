@@ -1,4 +1,4 @@
--- What the entries give, by what their tests found.
+-- What calls on a session's bytes give, by what their tests found.
 use mathlib.Core.Path.{_≡_, refl, ap, sym, _∙_}
 use mathlib.Core.Bool.{Bool, true, false, _&&_}
 use mathlib.Core.List.{List, _++_}

@@ -1,4 +1,4 @@
--- `arrays::carry` meets its contract: the loop of Laws, `Upto`. The measure is the days left. Assumes nothing.
+-- `carry::carry` meets its contract: the loop of Laws, `Upto`. The measure is the days left. Assumes nothing.
 use Prim.Native.Nat.{_-_}
 use Rattle.carry.proofs.Laws.{Upto, upto-none, upto-more, upto-crossed, upto-all}
 use borrow.Author.Needs.{needs}
