@@ -13,7 +13,7 @@ use byte_lists::points;
 use byte_lists::put_points;
 use cuts::Told;
 use cutting::malformed;
-use file_reader::told_at;
+use file_checks::told_at;
 use file_writer::WriteAnswer;
 use file_writer::profile_refusal;
 use file_writer::put_days;

@@ -193,8 +193,13 @@ fn number(answer: Inspection) -> Finding
     ensures { λ r. ⌜ (r .refusal ≡ finding answer .refusal) × (r .rule ≡ finding answer .rule) × (r .place ≡ finding answer .place) ⌝ }
 {
     match answer {
-        Inspection::Refused(number) => Finding {
-            refusal: number,
+        Inspection::WrongLength => Finding {
+            refusal: 2,
+            rule: 0,
+            place: 0,
+        },
+        Inspection::Spent => Finding {
+            refusal: 9,
             rule: 0,
             place: 0,
         },
@@ -225,12 +230,12 @@ fn judge(session: &[u8], list: &[u8]) -> Inspection
     ensures { λ r. ⌜ finding r ≡ inspectedOver (now (session .entry)) (now (list .entry)) ⌝ }
 {
     if session.len() != SESSION_BYTES {
-        return Inspection::Refused(2);
+        return Inspection::WrongLength;
     }
     let held = decode(session);
     let n = held.days;
     if list.len() != n * 2 {
-        return Inspection::Refused(2);
+        return Inspection::WrongLength;
     }
     let mut schedule = [0i16; 512];
     points(list, n, &mut schedule);

@@ -12,7 +12,8 @@ use Rattle.series.specs.Written.{written, lastWritten, last-none, last-more, la
 use Rattle.chains.specs.Fit.{fit, fitted, fitted-one}
 use Rattle.method.specs.Shift.{shift, shiftFrom, shift-start, shift-low, shift-high, shift-step}
 use Rattle.method.specs.Filter.{shifted, overload, loweredFrom, lowered}
-use Rattle.ceilings.specs.Round.{over, window, step, rounded, rounded-is, window-under, window-past, window-is}
+use Rattle.ceilings.specs.Round.{over, window, step, rounded}
+use Rattle.ceilings.proofs.Window.{rounded-is, window-under, window-past, window-is}
 use Rattle.method.specs.Stages.{Ready}
 use Rattle.ceilings.specs.Pass.{Carried, Found, Rounded, Lowest, DaysIn, FoundIn, RoundedIn, LowestIn, Overloaded, Entering}
 

@@ -16,7 +16,7 @@ use Rattle.levels.proofs.Laws.{within-yes}
 use Rattle.method.specs.Filter.{held}
 use Rattle.method.specs.Levels.{rebound}
 use Rattle.session.specs.Profile.{Profile}
-use Rattle.session.specs.Showing.{Within}
+use Rattle.session.proofs.Within.{Within}
 use Rattle.session.specs.declared.Ranges.{Ranges}
 use Rattle.cuts.specs.declared.Cut.{Cut}
 use Rattle.cuts.specs.declared.Cut.the-variants.{DayFloor, DayCeiling, TotalFloor, TotalCeiling}

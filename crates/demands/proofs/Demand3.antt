@@ -18,6 +18,7 @@ use Rattle.session.specs.declared.Ranges.{Ranges}
 use Rattle.session.specs.declared.Session.{Session}
 use Rattle.cuts.specs.declared.Cut.{Cut}
 use Rattle.cuts.specs.declared.Cut.the-variants.{DayFloor, DayCeiling, TotalFloor, TotalCeiling}
+use Rattle.cutting.specs.Cutting.{spend}
 use Rattle.demands.specs.Cuts.{WellFormed, Keeps, Handed, ValidIn, Kept, after}
 use Rattle.demands.specs.Demands.{Exact, Demand3}
 use Rattle.demands.proofs.Bridge.{held-less, CodesOf, levels-of, pointsOf, points-length, points-less, codes-of, coding, of-levels, exact-points}
@@ -61,12 +62,21 @@ module _ (p : Profile) (d : Entered p) where
   kept-points : (hs : List Handed) (y : ℕ → ℕ) → LevelsKept hs y → Kept p hs (pointsOf p d y)
   kept-points hs y = levels-kept hs (pointsOf p d y) (points-length p d y) y (points-less p d y)
 
+  -- levels keep a list where every schedule that keeps one keeps the other
+  also : (hs gs : List Handed) → ((x : List ℤ) → Kept p hs x → Kept p gs x) → (y : ℕ → ℕ) → LevelsKept hs y → LevelsKept gs y
+  also hs gs keep y k =
+      (k .0, λ c v. keeps-same (pointsOf p d y) (points-length p d y) y (points-less p d y) c (v .valid .formed) .0 (keep (pointsOf p d y) (kept-points hs y k) .keeps c v))
+
   -- what a session that is right for the levels says of the schedules
   spent-exactly : (hs : List Handed) {s : Session} → Right (p .days) rs o (LevelsKept hs) s → (s .spent ≡ true) ↔ ((x : List ℤ) → Kept p hs x → ⊥)
   spent-exactly hs (narrowed r e w) =
       let z = some w in
       (λ t. absurd (true≢false (sym t ∙ ap (λ (s : Session). s .spent) e)), λ h. absurd (h (pointsOf p d (z .0)) (kept-points hs (z .0) (z .1))))
   spent-exactly hs (exhausted e h) = (λ t x k. h _ (kept-levels hs x k), λ _. ap (λ (s : Session). s .spent) e)
+
+  opened-again : (hs : List Handed) {s : Session} → Right (p .days) rs o (LevelsKept hs) s → s .spent ≡ true → s ≡ spend (fresh (p .days) rs o)
+  opened-again hs (narrowed r e w) u = absurd (true≢false (sym u ∙ ap (λ (s : Session). s .spent) e))
+  opened-again hs (exhausted e h) u = e
 
   exactly : (hs : List Handed) {s : Session} → Right (p .days) rs o (LevelsKept hs) s → s .spent ≡ false → Exact p (Kept p hs) s
   exactly hs (narrowed r e w) u = rw e (exact-points p d (Kept p hs) (LevelsKept hs) (λ x k. k .schedule) (kept-levels hs) (kept-points hs) _ (w .day) (w .total))
@@ -93,9 +103,17 @@ module _ (p : Profile) (d : Entered p) where
     pub after-right : (hs : List Handed) → Right (p .days) rs o (LevelsKept hs) (after start hs)
     after-right hs = fold p rs o (CodesOf p d) start hs start-right
 
-    same-session : (hs gs : List Handed) → ((c : Cut) → ValidIn p hs c ↔ ValidIn p gs c) → after start hs ≡ after start gs
-    same-session hs gs same =
-        right-one (right-same (λ x k. (k .0, λ c v. k .1 c (same c .1 v))) (λ x k. (k .0, λ c v. k .1 c (same c .0 v))) (after-right hs)) (after-right gs)
+    -- two lists that the same schedules keep end in equal sessions
+    pub same-session : (hs gs : List Handed) → ((x : List ℤ) → Kept p hs x ↔ Kept p gs x) → after start hs ≡ after start gs
+    same-session hs gs same = right-one (right-same (also hs gs (λ x. same x .0)) (also gs hs (λ x. same x .1)) (after-right hs)) (after-right gs)
+
+    -- so do two lists with the same valid cuts
+    same-cuts : (hs gs : List Handed) → ((c : Cut) → ValidIn p hs c ↔ ValidIn p gs c) → after start hs ≡ after start gs
+    same-cuts hs gs same =
+        same-session hs gs (λ x. (
+          λ k. record { schedule = k .schedule; keeps = λ c v. k .keeps c (same c .1 v) },
+          λ k. record { schedule = k .schedule; keeps = λ c v. k .keeps c (same c .0 v) },
+        ))
 
 pub demand-3 : Demand3
 demand-3 p z hs =
@@ -103,6 +121,7 @@ demand-3 p z hs =
     let d = entered p (u .early) in
     record {
       spent = rw (u .session) (spent-exactly p d hs (after-right p d (u .found) hs));
+      as-opened = rw (u .session) (opened-again p d hs (after-right p d (u .found) hs));
       exact = rw (u .session) (exactly p d hs (after-right p d (u .found) hs));
-      order-free = λ gs same. rw (u .session) (same-session p d (u .found) hs gs same);
+      order-free = λ gs same. rw (u .session) (same-cuts p d (u .found) hs gs same);
     }

@@ -12,7 +12,8 @@ use Rattle.method.specs.Filter.{Tight}
 use Rattle.method.proofs.Exact.{none, exact, tighter, looser, exact-in-bounds}
 use Rattle.chains.specs.Spans.{spans-same}
 use Rattle.session.specs.Opening.{rangesOf}
-use Rattle.session.specs.Showing.{Fits, Within}
+use Rattle.session.specs.Showing.{Fits}
+use Rattle.session.proofs.Within.{Within}
 use Rattle.session.specs.Profile.{Profile}
 use Rattle.session.specs.declared.Ranges.{Ranges}
 use Rattle.session.specs.declared.Session.{Session}
@@ -25,7 +26,7 @@ use Rattle.demands.specs.Cuts.{WellFormed, Handed, Valid, ValidIn, after
 use Rattle.demands.proofs.Clip.{KeepsLevels, well-formed, to-clipped, of-clipped, clipped-past}
 use Rattle.demands.proofs.Right.{Narrowed, unspent, spent, Right, narrowed, exhausted, right-same}
 
-known-same : (c d : Cut) → Known c ≡ Known d → c ≡ d
+pub known-same : (c d : Cut) → Known c ≡ Known d → c ≡ d
 known-same c d e = cc
 
 unknown-known : (c : Cut) → Unknown ≡ Known c → ⊥

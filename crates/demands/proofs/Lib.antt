@@ -9,7 +9,8 @@ pub mod Changed
 pub mod Demand1
 pub mod Demand2
 pub mod Demand3
--- Schedules out and in.
+-- The schedules of a session's present ranges: looser cuts, schedules out and in.
 pub mod Reached
+pub mod LooserCuts
 pub mod Inspected
 pub mod Written

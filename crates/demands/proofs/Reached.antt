@@ -13,7 +13,8 @@ use Rattle.levels.proofs.Laws.{point-less, rise-less, total-less, decoded-less}
 use Rattle.session.specs.Profile.{Profile, Schedule}
 use Rattle.session.specs.Opening.{opened, narrowed as tight, codes, rangesOf}
 use Rattle.session.proofs.Entered.{Entered, entered}
-use Rattle.session.specs.Showing.{Within, floorOn, ceilingOn, riseOn}
+use Rattle.session.specs.Showing.{floorOn, ceilingOn, riseOn}
+use Rattle.session.proofs.Within.{Within}
 use Rattle.session.specs.declared.Session.{Session}
 use Rattle.schedules.proofs.Supported.{Supported}
 use Rattle.demands.specs.Cuts.{Handed, Kept, after}

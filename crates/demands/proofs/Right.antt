@@ -10,7 +10,8 @@ use lib.Seq.{ext-getD}
 use Rattle.series.specs.Sum.{at}
 use Rattle.method.specs.Filter.{held}
 use Rattle.chains.specs.Spans.{Spans, spans-same, spans-least, spans-most}
-use Rattle.session.specs.Showing.{Fits, Within}
+use Rattle.session.specs.Showing.{Fits}
+use Rattle.session.proofs.Within.{Within}
 use Rattle.session.specs.declared.Ranges.{Ranges}
 use Rattle.session.specs.declared.Session.{Session}
 

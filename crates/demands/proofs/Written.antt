@@ -18,7 +18,8 @@ use Rattle.levels.proofs.Laws.{point-less, total-less, decoded-less, within-yes
 use Rattle.session.specs.Profile.{Profile, Schedule, total}
 use Rattle.session.specs.Opening.{opened}
 use Rattle.session.proofs.Entered.{Entered, entered}
-use Rattle.session.specs.Showing.{Within, floorOn, ceilingOn, totalFloor, totalCeiling}
+use Rattle.session.specs.Showing.{floorOn, ceilingOn, totalFloor, totalCeiling}
+use Rattle.session.proofs.Within.{Within}
 use Rattle.series.specs.Lent.{list-left, list-filled}
 use Rattle.session.specs.declared.Session.{Session}
 use Rattle.schedules.specs.Writing.{dayRefusal, totalRefusal, dayLevels, totalLevels, dayWritten, totalWritten}

@@ -6,6 +6,7 @@ use lib.IntN.{ℤ}
 use lib.Signed.{_≤ℤ_}
 use Rattle.levels.specs.Code.{lowestPoint, highestPoint, lowestTotal, highestTotal, on}
 use Rattle.session.specs.Profile.{Profile, Schedule, total}
+use Rattle.session.specs.Showing.{floorOn, ceilingOn, totalFloor, totalCeiling}
 use Rattle.session.specs.declared.Session.{Session}
 use Rattle.cuts.specs.declared.Cut.{Cut}
 use Rattle.cuts.specs.declared.Cut.the-variants.{DayFloor, DayCeiling, TotalFloor, TotalCeiling}
@@ -26,6 +27,13 @@ Keeps (DayFloor day value) x = value ≤ℤ on x day
 Keeps (DayCeiling day value) x = on x day ≤ℤ value
 Keeps (TotalFloor day value) x = value ≤ℤ total x
 Keeps (TotalCeiling day value) x = total x ≤ℤ value
+
+-- A cut is looser than the present range (document 01) if every value of the range keeps it
+abbrev pub Looser : Session → Cut → Type 0
+Looser s (DayFloor day value) = value ≤ℤ floorOn s day
+Looser s (DayCeiling day value) = ceilingOn s day ≤ℤ value
+Looser s (TotalFloor day value) = value ≤ℤ totalFloor s
+Looser s (TotalCeiling day value) = totalCeiling s ≤ℤ value
 
 -- a cut as it is handed over: its kind may be unknown, and the list lent for changed days is `room` long
 pub record Handed : Type 0 where

@@ -14,9 +14,9 @@ use Rattle.session.specs.Opening.{earlier, opened}
 use Rattle.session.specs.declared.Session.{Session}
 use Rattle.cuts.specs.declared.Cut.{Cut}
 use Rattle.cuts.specs.declared.Told.{Told}
-use Rattle.cutting.specs.Cutting.{afterTold, listAfter}
+use Rattle.cutting.specs.Cutting.{spend, afterCut, afterTold, listAfter}
 use Rattle.cutting.specs.declared.AfterCut.{AfterCut}
-use Rattle.demands.specs.Cuts.{Handed, ValidIn, Kept, after}
+use Rattle.demands.specs.Cuts.{WellFormed, Looser, Handed, ValidIn, Kept, after}
 
 -- ---- demand 1 at a cut
 
@@ -54,13 +54,24 @@ pub record Demand2 : Type 0 where
 
 -- ---- demand 3
 
--- the session after a whole list of cuts, refused ones included: it is spent exactly where no schedule keeps every valid cut of the list;
--- otherwise its ranges are exact for the schedules that keep them all; and another list with the same valid cuts ends in an equal session
+-- the session after a whole list of cuts, refused ones included: it is spent exactly where no schedule keeps every valid cut of the list, and
+-- then shows the ranges that it had when opened, and holds nothing else of its cuts; otherwise its ranges are exact for the schedules that keep
+-- them all; and another list with the same valid cuts ends in an equal session
 pub record AfterList (p : Profile) (hs : List Handed) : Type 0 where
   pub spent : (after (opened p .session) hs .spent ≡ true) ↔ ((x : List ℤ) → Kept p hs x → ⊥)
+  pub as-opened : after (opened p .session) hs .spent ≡ true → after (opened p .session) hs ≡ spend (opened p .session)
   pub exact : after (opened p .session) hs .spent ≡ false → Exact p (Kept p hs) (after (opened p .session) hs)
   pub order-free : (gs : List Handed) → ((c : Cut) → ValidIn p hs c ↔ ValidIn p gs c) → after (opened p .session) hs ≡ after (opened p .session) gs
 
 -- for every profile that opens unrefused and every list
 abbrev pub Demand3 : Type 0
 Demand3 = (p : Profile) → opened p .refusal ≡ 0 → (hs : List Handed) → AfterList p hs
+
+-- ---- looser cuts
+
+-- a valid cut that is looser than the present range is accepted, and changes nothing
+abbrev pub LooserCuts : Type 0
+LooserCuts =
+    (p : Profile) → opened p .refusal ≡ 0 → (hs : List Handed) (s : Session) → s ≡ after (opened p .session) hs → s .spent ≡ false
+    → (c : Cut) → WellFormed p c → Looser s c → (room : ℕ) → p .days ≤ room
+    → afterCut s c room ≡ record { answer = record { refusal = 0; changed = 0 }; session = s }

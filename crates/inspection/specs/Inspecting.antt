@@ -12,7 +12,7 @@ use Rattle.session.specs.Profile.{total}
 use Rattle.session.specs.Showing.{floorOn, ceilingOn, riseOn, totalFloor, totalCeiling}
 use Rattle.session.specs.declared.Session.{Session}
 use Rattle.inspection.specs.declared.Inspection.{Inspection}
-use Rattle.inspection.specs.declared.Inspection.the-variants.{Refused, Kept, BrokenDay, BrokenRise, BrokenTotal}
+use Rattle.inspection.specs.declared.Inspection.the-variants.{WrongLength, Spent, Kept, BrokenDay, BrokenRise, BrokenTotal}
 
 -- ---- the rules, by the session's present ranges, for a list x of setpoints
 
@@ -46,9 +46,10 @@ kept = record { refusal = 0; rule = 0; place = 0 }
 abbrev pub broken : ℕ → ℕ → Finding
 broken rule place = record { refusal = 0; rule = rule; place = place }
 
--- what each case of the answer says
+-- what each case of the answer says; no two say the same
 abbrev pub finding : Inspection → Finding
-finding (Refused number) = refused number
+finding WrongLength = refused 2
+finding Spent = refused 9
 finding Kept = kept
 finding (BrokenDay day) = broken 1 day
 finding (BrokenRise rise) = broken 2 rise

@@ -10,10 +10,11 @@ ghost use Rattle.inspection.specs.Stages.{outside, dayOutside, fallen, t
 use numbers::wide;
 use session::Session;
 
-// What inspecting answers: a refusal's number; or that the schedule is kept; or the first broken rule: the range of a day, the rise from a day to
-// the next, or the range of the total.
+// What inspecting answers: that the list is not n long (2), or that the session is spent (9); or that the schedule is kept; or the first broken rule: the range
+// of a day, the rise from a day to the next, or the range of the total.
 pub enum Inspection {
-    Refused(u8),
+    WrongLength,
+    Spent,
     Kept,
     BrokenDay(usize),
     BrokenRise(usize),
@@ -146,10 +147,10 @@ pub fn inspect(session: Session, list: &[i16]) -> Inspection
 {
     let n = session.days;
     if list.len() != n {
-        return Inspection::Refused(2);
+        return Inspection::WrongLength;
     }
     if session.spent {
-        return Inspection::Refused(9);
+        return Inspection::Spent;
     }
     judge(session, list)
 }

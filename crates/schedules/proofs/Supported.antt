@@ -15,7 +15,8 @@ use Rattle.method.specs.Filter.{carried, firstCrossed, forwarded, held}
 use Rattle.method.specs.Levels.{Levels, refit-day, rebound}
 use Rattle.method.specs.Stages.{Ready, Rising, crossing, carried-above, forwarded-at, ready}
 use Rattle.method.proofs.Exact.{carried-least}
-use Rattle.session.specs.Showing.{Fits, Within}
+use Rattle.session.specs.Showing.{Fits}
+use Rattle.session.proofs.Within.{Within}
 use Rattle.session.specs.declared.Ranges.{Ranges}
 use Rattle.schedules.specs.Writing.{raisedTo}
 use Rattle.schedules.proofs.Raising.{raised-levels}

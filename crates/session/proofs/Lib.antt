@@ -4,3 +4,4 @@ pub mod Shows
 pub mod Entered
 pub mod Lists
 pub mod Sanity
+pub mod Within

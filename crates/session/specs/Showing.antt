@@ -7,7 +7,6 @@ use lib.Dec.{ltb}
 use Rattle.series.specs.Sum.{at}
 use Rattle.levels.specs.Code.{lowestPoint, lowestRise, lowestTotal, decoded}
 use Rattle.method.specs.Filter.{InBounds}
-use Rattle.method.specs.Levels.{Levels}
 use Rattle.session.specs.declared.Ranges.{Ranges}
 use Rattle.session.specs.declared.Session.{Session}
 use Rattle.session.specs.declared.Shown.{Shown}
@@ -42,10 +41,6 @@ shown s floors ceilings =
 -- ranges of n days are in bounds, with the rises between the days
 abbrev pub Fits : List ℕ → ℕ → Ranges → Type 0
 Fits rs n r = InBounds (r .floors) (r .ceilings) rs n (r .least) (r .most)
-
--- n days' levels are within ranges, and keep the rises
-abbrev pub Within : List ℕ → ℕ → Ranges → (ℕ → ℕ) → Type 0
-Within rs n r = Levels (r .floors) (r .ceilings) rs n (r .least) (r .most)
 
 -- the numbers of a session are in bounds
 pub record Sane (s : Session) : Type 0 where

@@ -134,7 +134,8 @@ fn total_order() {
 
 fn print_answer(answer: Inspection) {
     match answer {
-        Inspection::Refused(number) => line(b"", number),
+        Inspection::WrongLength => line(b"", 2),
+        Inspection::Spent => line(b"", 9),
         Inspection::Kept => {
             io::write_all(1, b"kept\n");
         }

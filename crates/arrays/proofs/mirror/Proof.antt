@@ -1,4 +1,4 @@
--- `arrays::mirror` meets its contract: the loop of Laws, `Filled`, with mirrored levels. The measure is the days left. Assumes nothing.
+-- `arrays::mirror` meets its contract: the loop of series' `Filled`, with mirrored levels. The measure is the days left. Assumes nothing.
 use Prim.Native.Nat.{_+_, _-_}
 use Rattle.method.specs.Filter.{mirrored}
 use Rattle.series.specs.Filled.{Filled, filled-none, filled-more, filled-all}

@@ -1,4 +1,4 @@
--- `arrays::reverse` meets its contract: the loop of Laws, `Filled`, with reversed rises. The measure is the days left. Assumes nothing.
+-- `arrays::reverse` meets its contract: the loop of series' `Filled`, with reversed rises. The measure is the days left. Assumes nothing.
 use Prim.Native.Nat.{_-_}
 use mathlib.Core.Path.{refl}
 use Rattle.method.specs.Filter.{reversed}

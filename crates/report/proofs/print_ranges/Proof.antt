@@ -1,4 +1,4 @@
--- `report::print_ranges` meets its contract: a law of specs for the stage that refuses, or for none. Assumes nothing.
+-- `report::print_ranges` meets its contract: a law of Lines for the stage that refuses, or for none. Assumes nothing.
 use Prim.Native.Nat.{ℕ}
 use mathlib.Core.Path.{_≡_, ap, sym, _∙_}
 use mathlib.Core.List.{List}

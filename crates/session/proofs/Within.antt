@@ -1,0 +1,9 @@
+-- Levels within a session's ranges.
+use mathlib.Core.List.{List}
+use Prim.Native.Nat.{ℕ}
+use Rattle.method.specs.Levels.{Levels}
+use Rattle.session.specs.declared.Ranges.{Ranges}
+
+-- n days' levels are within ranges, and keep the rises
+abbrev pub Within : List ℕ → ℕ → Ranges → (ℕ → ℕ) → Type 0
+Within rs n r = Levels (r .floors) (r .ceilings) rs n (r .least) (r .most)
