@@ -14,10 +14,10 @@ use byte_lists::put_points;
 use cuts::Told;
 use cutting::malformed;
 use file_checks::told_at;
+use file_parts::put_days;
+use file_parts::put_header;
 use file_writer::WriteAnswer;
 use file_writer::profile_refusal;
-use file_writer::put_days;
-use file_writer::put_header;
 use little_endian::u16_at;
 use numbers::wide;
 

@@ -2,8 +2,8 @@ use mir.Facts.{toZ-ofZ}
 use mir.Syntax.{w32}
 use Rattle.profile_file.specs.Format.{cutBytes}
 use borrow.Author.Needs.{needs, sfits-of}
-use Rattle.file_writer.proofs.put_entry.Statement.{statement}
-use Rattle.file_writer.proofs.put_entry.Tie as tie
+use Rattle.file_parts.proofs.put_entry.Statement.{statement}
+use Rattle.file_parts.proofs.put_entry.Tie as tie
 
 put-fields-requires : tie.Need-put-fields-requires
 put-fields-requires c κs = let p = rw (c .before .before .cut .given .1) at (c .before .before .before .before .before .pre) in search needs

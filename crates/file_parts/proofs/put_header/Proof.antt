@@ -5,8 +5,8 @@ use Rattle.little_endian.specs.Fields.{u16Bytes, u32Bytes, i32Bytes}
 use Rattle.profile_file.specs.Format.{header, dayOffset}
 use Rattle.series.specs.Rows.{stored-after}
 use borrow.Author.Needs.{needs}
-use Rattle.file_writer.proofs.put_header.Statement.{statement}
-use Rattle.file_writer.proofs.put_header.Tie as tie
+use Rattle.file_parts.proofs.put_header.Statement.{statement}
+use Rattle.file_parts.proofs.put_header.Tie as tie
 
 returns : tie.Need-returns
 unfolding header u16Bytes u32Bytes i32Bytes

@@ -6,8 +6,8 @@ use Rattle.profile_file.specs.Format.{dayBytes}
 use Rattle.profile_file.proofs.Parts.{day-length}
 use Rattle.series.specs.Rows.{Stored, stored-all, even-none, even-more}
 use borrow.Author.Needs.{needs, sfits-of}
-use Rattle.file_writer.proofs.put_days.Statement.{statement}
-use Rattle.file_writer.proofs.put_days.Tie as tie
+use Rattle.file_parts.proofs.put_days.Statement.{statement}
+use Rattle.file_parts.proofs.put_days.Tie as tie
 
 abbrev Inv-loop : tie.InvT-loop
 Inv-loop floors ceilings rises days out₀ k₀ out k = Stored (λ j. dayBytes (on floors j) (on ceilings j) (on rises j)) days 16 out₀ k (16 + k * 6) out

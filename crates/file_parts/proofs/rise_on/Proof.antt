@@ -2,8 +2,8 @@ use mathlib.Core.Path.{sym}
 use lib.ListN.{List·getD-eq-default}
 use lib.IntN.{pos}
 use borrow.Author.Needs.{needs}
-use Rattle.file_writer.proofs.rise_on.Statement.{statement}
-use Rattle.file_writer.proofs.rise_on.Tie as tie
+use Rattle.file_parts.proofs.rise_on.Statement.{statement}
+use Rattle.file_parts.proofs.rise_on.Tie as tie
 
 returns-2 : tie.Need-returns-2
 returns-2 c = sym (List·getD-eq-default (c .before .args .rises .now) (pos 0) (c .if1 .left))

@@ -4,8 +4,8 @@ use mir.Facts.{toZ-ofZ}
 use Rattle.little_endian.specs.Fields.{u16Bytes, i32Bytes}
 use Rattle.series.specs.Rows.{stored-after}
 use borrow.Author.Needs.{needs}
-use Rattle.file_writer.proofs.put_fields.Statement.{statement}
-use Rattle.file_writer.proofs.put_fields.Tie as tie
+use Rattle.file_parts.proofs.put_fields.Statement.{statement}
+use Rattle.file_parts.proofs.put_fields.Tie as tie
 
 returns : tie.Need-returns
 unfolding u16Bytes

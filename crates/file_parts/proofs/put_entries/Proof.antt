@@ -5,8 +5,8 @@ use Rattle.profile_file.specs.Format.{cutBytes}
 use Rattle.profile_file.proofs.Parts.{cut-length}
 use Rattle.series.specs.Rows.{Stored, stored-all, even-none, even-more}
 use borrow.Author.Needs.{needs}
-use Rattle.file_writer.proofs.put_entries.Statement.{statement}
-use Rattle.file_writer.proofs.put_entries.Tie as tie
+use Rattle.file_parts.proofs.put_entries.Statement.{statement}
+use Rattle.file_parts.proofs.put_entries.Tie as tie
 
 abbrev Inv-loop : tie.InvT-loop
 Inv-loop count from out₀ entries j₀ out j = Stored (λ k. cutBytes (getD entries k blank .cut)) count from out₀ j (from + j * 8) out

@@ -5,8 +5,8 @@ use Rattle.little_endian.specs.Fields.{u16Bytes, i16Bytes}
 use Rattle.profile_file.specs.Format.{dayBytes}
 use Rattle.series.specs.Rows.{stored-after}
 use borrow.Author.Needs.{needs}
-use Rattle.file_writer.proofs.put_day.Statement.{statement}
-use Rattle.file_writer.proofs.put_day.Tie as tie
+use Rattle.file_parts.proofs.put_day.Statement.{statement}
+use Rattle.file_parts.proofs.put_day.Tie as tie
 
 returns : tie.Need-returns
 unfolding dayBytes i16Bytes u16Bytes
