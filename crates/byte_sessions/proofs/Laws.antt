@@ -1,18 +1,16 @@
--- What calls on a session's bytes give, by what their tests found.
+-- What opening, cutting and showing by a session's bytes give, by what their tests found.
 use mathlib.Core.Path.{_≡_, refl, ap, sym, _∙_}
-use mathlib.Core.Bool.{Bool, true, false, _&&_}
 use mathlib.Core.List.{List, _++_}
 use Prim.Native.Nat.{ℕ, _+_, _*_, _/_, _≤_, _<_, min}
 use native.Mathlib.Omega.{arith}
 use native.Mathlib.Decide.{decLt}
 use lib.IntN.{ℤ, pos}
 use lib.Dec.{ltb}
-use lib.ListN.{length, take, drop, replicate, length-append, length-replicate, List·getD-append}
+use lib.ListN.{length, take, drop, length-append, length-replicate, List·getD-append}
 use lib.Seq.{sets, length-take-le}
 use borrow.Author.Tests.{eq-eqb, ne-eqb, lt-ltb, le-ltb}
 use Rattle.series.specs.Sum.{at}
-use Rattle.series.specs.Written.{written, length-written}
-use Rattle.series.specs.Lent.{lentList, list-filled}
+use Rattle.series.specs.Lent.{lentList}
 use Rattle.series.specs.Front.{inFront}
 use Rattle.levels.specs.Code.{on}
 use Rattle.session.specs.Showing.{Sane, shown, listTooShort, floorOn, ceilingOn}
@@ -25,30 +23,12 @@ use Rattle.cutting.specs.Cutting.{earlier, afterCut, afterTold, changedDays, li
 use Rattle.cutting.proofs.Laws.{accepted-list, told-accepted, told-sane, Accepted}
 use Rattle.cutting.specs.declared.AfterCut.{AfterCut}
 use Rattle.cutting.specs.declared.CutAnswer.{CutAnswer}
-use Rattle.schedules.specs.Writing.{dayRefusal, totalRefusal, dayWritten, totalWritten}
-use Rattle.inspection.specs.Inspecting.{Finding, refused, inspected}
-use Rattle.byte_lists.specs.Lists.{isLong, pointAt, pointBytes, cellBytes, lentPoints}
-use Rattle.byte_lists.proofs.Laws.{held, lent-at, points-front, cells-front, points-left, points-filled}
+use Rattle.byte_lists.specs.Lists.{pointBytes, cellBytes, lentPoints}
+use Rattle.byte_lists.proofs.Laws.{cells-front, points-left}
 use Rattle.session_bytes.specs.Layout.{sessionBytes, encoding, decoding}
 use Rattle.session_bytes.proofs.Inverse.{decoding-sane}
-use Rattle.byte_sessions.specs.Sessions.{isSession, cutAnswer, cutBytes, changedBytes, shownOver, refusalFor, setpointFor, writeRefusal, inspectedOver}
-use Rattle.byte_sessions.specs.declared.Subject.{Subject}
-use Rattle.byte_sessions.specs.declared.Subject.the-variants.{Day, Total}
-
--- ---- the session that the bytes hold
-
-pub held-sane : (b : List ℕ) {s : Session} → s ≡ decoding b → Sane s
-held-sane b e = rw e (decoding-sane b)
-
-pub held-few : (b : List ℕ) {s : Session} → s ≡ decoding b → s .days ≤ 512
-held-few b e = held-sane b e .present .most
-
--- the scratch arrays before they are written
-abbrev blank : List ℕ
-blank = replicate 512 0
-
-abbrev blanks : List ℤ
-blanks = replicate 512 (pos 0)
+use Rattle.byte_sessions.specs.Sessions.{cutAnswer, cutBytes, changedBytes, shownOver}
+use Rattle.byte_sessions.proofs.Held.{held-few, blank, blanks, part-stored}
 
 -- ---- cutting
 
@@ -120,21 +100,6 @@ module _ (b : List ℕ) (t : Told) (l : List ℕ) (h : length b ≡ sessionBytes
       rw (eq-eqb (length b) sessionBytes h, ← e, z)
       (refl, (g, cells-front (at days) (at (part ++ rest)) (length days) l (λ k u. rw q (front-still days front rest k u)) room (rw (a .counted) at f)))
 
--- ---- points stored from a scratch array of which a part was lent
-
--- what stands in the array, where m of its places were lent and n are filled
-lent-front : {refusal n m : ℕ} (f : ℕ → ℤ) {part : List ℤ} (rest : List ℤ) → refusal ≡ 0 → n ≤ m → m ≤ 512 → part ≡ lentList refusal f n (take m blanks)
-    → (k : ℕ) → k < n → on (part ++ rest) k ≡ f k
-lent-front {refusal} {n} {m} f {part} rest z few most e k u =
-    let long = length-take-le m blanks (omega (arith, length-replicate 512 (pos 0))) in
-    let whole : length part ≡ m = ap length (e ∙ list-filled refusal f n (take m blanks) z) ∙ length-written f n (take m blanks) ∙ long in
-    List·getD-append part rest (pos 0) k (omega arith) ∙ lent-at f (take m blanks) z (omega arith) e k u
-
-part-stored : {refusal n m : ℕ} (f : ℕ → ℤ) (l : List ℕ) {part : List ℤ} (rest : List ℤ) {out : List ℕ} → refusal ≡ 0 → n ≤ m → m ≤ 512 → n * 2 ≤ length l
-    → part ≡ lentList refusal f n (take m blanks) → out ≡ sets l 0 (pointBytes (on (part ++ rest)) n) → out ≡ lentPoints refusal f n l
-part-stored {refusal} {n} f l {part} rest z few most room e o =
-    rw (points-filled refusal f n l z) (points-front f (on (part ++ rest)) n l (lent-front f rest z few most e) room o)
-
 -- ---- showing
 
 -- of the lists' lengths only whether they are long enough matters
@@ -187,66 +152,3 @@ module _ (b fs cs : List ℕ) {r : Shown} (e : r ≡ shown (decoding b) (length 
       let fits = show-fits b (length fs) (length cs) d e z in
       rw (← d)
       (given h, (part-stored {m = low} (floorOn s) fs rest z (omega arith) (omega arith) (fits .1 .0) first floors, part-stored {m = high} (ceilingOn s) cs more z (omega arith) (omega arith) (fits .1 .1) second ceilings))
-
--- ---- schedules
-
-module _ (s : Session) (value : ℤ) (l : List ℤ) {subject : Subject} {out : List ℤ} {r : ℕ} (h : length l ≡ s .days) where
-  pub wrote-day : (day : ℕ) → subject ≡ Day day → (r ≡ dayRefusal s day value (length l)) × (out ≡ dayWritten s day value l)
-      → (r ≡ refusalFor s subject value) × (out ≡ lentList r (setpointFor s subject value) (s .days) l)
-  unfolding dayWritten
-  wrote-day day q e = rw q (rw h at (e .0), rw (← e .0) at (e .1))
-
-  pub wrote-total : subject ≡ Total → (r ≡ totalRefusal s value (length l)) × (out ≡ totalWritten s value l)
-      → (r ≡ refusalFor s subject value) × (out ≡ lentList r (setpointFor s subject value) (s .days) l)
-  unfolding totalWritten
-  wrote-total q e = rw q (rw h at (e .0), rw (← e .0) at (e .1))
-
--- the session's bytes and the list are as long as asked
-unfoldable pub both : List ℕ → List ℕ → Bool
-both b l = isSession b && isLong l (decoding b .days)
-
-pub no-session : (b l : List ℕ) → (length b ≡ sessionBytes → ⊥) → both b l ≡ false
-unfolding both
-no-session b l h = rw (ne-eqb (length b) sessionBytes h) refl
-
-module _ (b l : List ℕ) {s : Session} (h : length b ≡ sessionBytes) (d : s ≡ decoding b) where
-  pub no-list : (length l ≡ s .days * 2 → ⊥) → both b l ≡ false
-  unfolding both
-  no-list n = rw (eq-eqb (length b) sessionBytes h, ← d) (ne-eqb (length l) (s .days * 2) n)
-
-  pub session-and-list : length l ≡ s .days * 2 → both b l ≡ true
-  unfolding both
-  session-and-list e = rw (eq-eqb (length b) sessionBytes h, ← d) (eq-eqb (length l) (s .days * 2) e)
-
-module _ (b : List ℕ) (subject : Subject) (value : ℤ) (l : List ℕ) where
-  -- what is given, and the list afterwards
-  abbrev Writes : ℕ → List ℕ → Type 0
-  Writes r out = (r ≡ writeRefusal b subject value l) × (out ≡ lentPoints r (setpointFor (decoding b) subject value) (decoding b .days) l)
-
-  pub write-unread : both b l ≡ false → Writes 2 l
-  unfolding both writeRefusal
-  write-unread e = (rw e refl, sym (points-left 2 _ _ l (λ z. absurd (omega arith))))
-
-  module _ {s : Session} {r : ℕ} (d : s ≡ decoding b) (e : both b l ≡ true) (f : r ≡ refusalFor s subject value) where
-    refusal : r ≡ writeRefusal b subject value l
-    unfolding both writeRefusal
-    refusal = rw (e, ← d) f
-
-    pub write-refused : (r ≡ 0 → ⊥) → Writes r l
-    write-refused h = (refusal, sym (points-left r _ _ l h))
-
-    pub write-all : {part : List ℤ} (rest : List ℤ) {out : List ℕ} → r ≡ 0 → length l ≡ s .days * 2
-        → part ≡ lentList r (setpointFor s subject value) (s .days) (take (s .days) blanks) → out ≡ sets l 0 (pointBytes (on (part ++ rest)) (s .days)) → Writes 0 out
-    write-all rest z n p o =
-        let few = held-few b d in
-        (sym z ∙ refusal, rw (← d) (rw z at (part-stored {m = s .days} (setpointFor s subject value) l rest z (omega arith) few (omega arith) p o)))
-
-module _ (b l : List ℕ) where
-  pub inspect-unread : both b l ≡ false → refused 2 ≡ inspectedOver b l
-  unfolding both inspectedOver
-  inspect-unread e = rw e refl
-
-  pub inspect-all : {s : Session} {low : List ℤ} {f : Finding} → s ≡ decoding b → both b l ≡ true → low ≡ written (pointAt l) (s .days) blanks
-      → f ≡ inspected s (take (s .days) low) → f ≡ inspectedOver b l
-  unfolding both inspectedOver
-  inspect-all {s} d e w f = rw (e, ← d, ← held l (s .days) (held-few b d) w .same) f

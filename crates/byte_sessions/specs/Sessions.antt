@@ -1,7 +1,7 @@
 -- What calls on a session's bytes give: what the functions on sessions by value give for the session that the bytes hold. A session's bytes of another length are
 -- refused with 2 before all else. Lists are given as they are, or by their counts of bytes, of which an odd last one counts for nothing where a list may be
 -- longer than its elements ask.
-use mathlib.Core.Bool.{Bool, cond, _&&_, _||_}
+use mathlib.Core.Bool.{Bool, cond, _||_}
 use mathlib.Core.List.{List}
 use Prim.Native.Nat.{ℕ, _/_}
 use lib.IntN.{ℤ}
@@ -9,21 +9,15 @@ use lib.Dec.{eqb}
 use lib.ListN.{length}
 use Rattle.series.specs.Sum.{at}
 use Rattle.series.specs.Front.{inFront}
-use Rattle.levels.specs.Code.{lowestPoint, decoded}
 use Rattle.session.specs.Opening.{opened}
 use Rattle.session.specs.Showing.{shown, listTooShort}
-use Rattle.session.specs.declared.Session.{Session}
 use Rattle.session.specs.declared.Shown.{Shown}
 use Rattle.cuts.specs.declared.Told.{Told}
 use Rattle.cutting.specs.Cutting.{afterTold, changedDays}
 use Rattle.cutting.specs.declared.CutAnswer.{CutAnswer}
-use Rattle.schedules.specs.Writing.{dayRefusal, totalRefusal, dayLevels, totalLevels}
-use Rattle.inspection.specs.Inspecting.{Finding, refused, inspected}
-use Rattle.byte_lists.specs.Lists.{isLong, pointsIn, cellBytes}
+use Rattle.byte_lists.specs.Lists.{cellBytes}
 use Rattle.byte_lists.specs.Profiles.{lengthRefusal, profileOf}
 use Rattle.session_bytes.specs.Layout.{sessionBytes, encoding, decoding}
-use Rattle.byte_sessions.specs.declared.Subject.{Subject}
-use Rattle.byte_sessions.specs.declared.Subject.the-variants.{Day, Total}
 
 abbrev pub isSession : List ℕ → Bool
 isSession b = eqb (length b) sessionBytes
@@ -60,21 +54,3 @@ changedBytes b t l =
 
 unfoldable pub shownOver : List ℕ → ℕ → ℕ → Shown
 shownOver b floors ceilings = cond (isSession b) (shown (decoding b) (floors / 2) (ceilings / 2)) listTooShort
-
--- ---- schedules
-
--- the first refusal of writing a schedule for a day, or for the total, into a list that is n long
-abbrev pub refusalFor : Session → Subject → ℤ → ℕ
-refusalFor s (Day day) value = dayRefusal s day value (s .days)
-refusalFor s Total value = totalRefusal s value (s .days)
-
--- the schedule's setpoint on each day
-abbrev pub setpointFor : Session → Subject → ℤ → ℕ → ℤ
-setpointFor s (Day day) value k = decoded lowestPoint (dayLevels s day value k)
-setpointFor s Total value k = decoded lowestPoint (totalLevels s value k)
-
-unfoldable pub writeRefusal : List ℕ → Subject → ℤ → List ℕ → ℕ
-writeRefusal b subject value l = cond (isSession b && isLong l (decoding b .days)) (refusalFor (decoding b) subject value) 2
-
-unfoldable pub inspectedOver : List ℕ → List ℕ → Finding
-inspectedOver b l = cond (isSession b && isLong l (decoding b .days)) (inspected (decoding b) (pointsIn l (decoding b .days))) (refused 2)

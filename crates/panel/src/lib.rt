@@ -11,9 +11,10 @@ ghost use Rattle.byte_lists.specs.Lists.{lentPoints};
 ghost use Rattle.session_bytes.specs.Layout.{sessionBytes, decoding};
 ghost use Rattle.byte_files.specs.Reading.{readInto, cutsLent};
 ghost use Rattle.byte_files.specs.Writing.{writeOver, outputOver};
-ghost use Rattle.byte_sessions.specs.Sessions.{openRefusal, openBytes, cutAnswer, cutBytes, changedBytes, shownOver, setpointFor, writeRefusal, inspectedOver};
-ghost use Rattle.byte_sessions.specs.declared.Subject.the-variants.{Day, Total};
-use byte_sessions::Subject;
+ghost use Rattle.byte_sessions.specs.Sessions.{openRefusal, openBytes, cutAnswer, cutBytes, changedBytes, shownOver};
+ghost use Rattle.byte_schedules.specs.Schedules.{setpointFor, writeRefusal, inspectedOver};
+ghost use Rattle.byte_schedules.specs.declared.Subject.the-variants.{Day, Total};
+use byte_schedules::Subject;
 use session_bytes::SESSION_BYTES;
 
 // How many bytes a session has.
@@ -109,7 +110,7 @@ pub extern "C" fn cloverdrum_write_day(
     ensures { λ r. ⌜ r ≡ writeRefusal (now (session .entry)) (Day day) value (now (list .entry)) ⌝ }
     ensures { λ r. ⌜ now (list .exit) ≡ lentPoints r (setpointFor (decoding (now (session .entry))) (Day day) value) (decoding (now (session .entry)) .days) (now (list .entry)) ⌝ }
 {
-    byte_sessions::write(session, Subject::Day(day), value, list)
+    byte_schedules::write(session, Subject::Day(day), value, list)
 }
 
 #[no_mangle]
@@ -117,7 +118,7 @@ pub extern "C" fn cloverdrum_write_total(session: &[u8], value: i32, list: &mut 
     ensures { λ r. ⌜ r ≡ writeRefusal (now (session .entry)) Total value (now (list .entry)) ⌝ }
     ensures { λ r. ⌜ now (list .exit) ≡ lentPoints r (setpointFor (decoding (now (session .entry))) Total value) (decoding (now (session .entry)) .days) (now (list .entry)) ⌝ }
 {
-    byte_sessions::write(session, Subject::Total, value, list)
+    byte_schedules::write(session, Subject::Total, value, list)
 }
 
 #[no_mangle]
@@ -131,7 +132,7 @@ pub extern "C" fn cloverdrum_inspect(
     ensures { λ r. ⌜ now (rule .exit) ≡ inspectedOver (now (session .entry)) (now (list .entry)) .rule ⌝ }
     ensures { λ r. ⌜ now (place .exit) ≡ inspectedOver (now (session .entry)) (now (list .entry)) .place ⌝ }
 {
-    let found = byte_sessions::inspect(session, list);
+    let found = byte_schedules::inspect(session, list);
     *rule = found.rule;
     *place = found.place;
     found.refusal

@@ -6,7 +6,8 @@ use mir.Facts.{toZ-ofZ}
 use Rattle.cuts.specs.Told.{told}
 use Rattle.cutting.specs.Cutting.{afterTold}
 use Rattle.session_bytes.specs.Layout.{decoding}
-use Rattle.byte_sessions.proofs.Laws.{held-sane, cut-room, cut-unread, cut-refused, cut-spent, cut-keeps, cut-fits, cut-listed}
+use Rattle.byte_sessions.proofs.Held.{held-sane}
+use Rattle.byte_sessions.proofs.Laws.{cut-room, cut-unread, cut-refused, cut-spent, cut-keeps, cut-fits, cut-listed}
 use borrow.Author.Needs.{needs}
 use Rattle.byte_sessions.proofs.cut.Statement.{statement}
 use Rattle.byte_sessions.proofs.cut.Tie as tie

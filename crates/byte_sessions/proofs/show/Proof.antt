@@ -4,7 +4,8 @@ use lib.ListN.{length}
 use lib.Seq.{length-take-le}
 use Rattle.session.specs.Showing.{shown}
 use Rattle.session_bytes.specs.Layout.{decoding}
-use Rattle.byte_sessions.proofs.Laws.{held-sane, show-room, show-fits, show-unread, show-refused, show-all}
+use Rattle.byte_sessions.proofs.Held.{held-sane}
+use Rattle.byte_sessions.proofs.Laws.{show-room, show-fits, show-unread, show-refused, show-all}
 use borrow.Author.Needs.{needs}
 use Rattle.byte_sessions.proofs.show.Statement.{statement}
 use Rattle.byte_sessions.proofs.show.Tie as tie

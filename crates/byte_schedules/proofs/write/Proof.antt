@@ -1,11 +1,12 @@
 use mathlib.Core.Path.{sym}
 use lib.Seq.{length-take-le}
 use mir.Facts.{toZ-ofZ}
-use Rattle.byte_sessions.proofs.Laws.{held-sane, held-few, no-session, no-list, session-and-list, write-unread, write-refused, write-all}
+use Rattle.byte_sessions.proofs.Held.{held-sane, held-few}
+use Rattle.byte_schedules.proofs.Laws.{no-session, no-list, session-and-list, write-unread, write-refused, write-all}
 use native.Mathlib.Omega.{arith}
 use borrow.Author.Needs.{needs}
-use Rattle.byte_sessions.proofs.write.Statement.{statement}
-use Rattle.byte_sessions.proofs.write.Tie as tie
+use Rattle.byte_schedules.proofs.write.Statement.{statement}
+use Rattle.byte_schedules.proofs.write.Tie as tie
 
 returns : tie.Need-returns
 returns c = write-unread _ _ _ _ (no-session _ _ (c .if1 .taken))

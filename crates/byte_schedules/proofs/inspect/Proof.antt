@@ -1,6 +1,6 @@
 use borrow.Author.Needs.{needs}
-use Rattle.byte_sessions.proofs.inspect.Statement.{statement}
-use Rattle.byte_sessions.proofs.inspect.Tie as tie
+use Rattle.byte_schedules.proofs.inspect.Statement.{statement}
+use Rattle.byte_schedules.proofs.inspect.Tie as tie
 
 returns : tie.Need-returns
 returns c = rw (c .before .judge .ensures) at (c .number .ensures)

@@ -1,9 +1,10 @@
 use Rattle.byte_lists.proofs.Laws.{held}
-use Rattle.byte_sessions.proofs.Laws.{held-sane, held-few, no-session, no-list, session-and-list, inspect-unread, inspect-all}
+use Rattle.byte_sessions.proofs.Held.{held-sane, held-few}
+use Rattle.byte_schedules.proofs.Laws.{no-session, no-list, session-and-list, inspect-unread, inspect-all}
 use native.Mathlib.Omega.{arith}
 use borrow.Author.Needs.{needs}
-use Rattle.byte_sessions.proofs.judge.Statement.{statement}
-use Rattle.byte_sessions.proofs.judge.Tie as tie
+use Rattle.byte_schedules.proofs.judge.Statement.{statement}
+use Rattle.byte_schedules.proofs.judge.Tie as tie
 
 returns : tie.Need-returns
 returns c = inspect-unread _ _ (no-session _ _ (c .if1 .taken))

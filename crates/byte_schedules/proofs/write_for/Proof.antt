@@ -1,8 +1,8 @@
 use mir.Facts.{toZ-ofZ}
-use Rattle.byte_sessions.proofs.Laws.{wrote-day, wrote-total}
+use Rattle.byte_schedules.proofs.Laws.{wrote-day, wrote-total}
 use borrow.Author.Needs.{needs}
-use Rattle.byte_sessions.proofs.write_for.Statement.{statement}
-use Rattle.byte_sessions.proofs.write_for.Tie as tie
+use Rattle.byte_schedules.proofs.write_for.Statement.{statement}
+use Rattle.byte_schedules.proofs.write_for.Tie as tie
 
 returns : tie.Need-returns
 returns c = wrote-day _ _ _ (c .before .before .before .before .before .before .pre .1) _ (c .before .before .before .before .subject .given .1) (rw (toZ-ofZ (c .before .before .before .before .before .before .fits .value)) at (c .before .write-day .ensures))
