@@ -13,7 +13,8 @@
  * signed, days are unsigned. A list of cuts has 8 bytes for each cut, as in a profile file: kind (2 bytes), day (2), value (4, signed).
  *     "n long"          exactly 2n bytes
  *     "at least n long" 2n bytes or more; an odd last byte counts for nothing
- * What lies past the elements that an entry writes is left as it is. An address may be anything where its count is 0, else it must not be null. No two of
+ * What lies past the elements that an entry writes is left as it is. An address may be anything where its count is 0, else it must not be null; nor may
+ * the address of a number that an entry stores. No two of
  * the byte strings and numbers of one call may overlap, unless the call only reads both.
  *
  * Results. An entry returns 0, or the number of the first refusal that applies, in the order in which the entry names them. Other results are stored
@@ -99,7 +100,8 @@ uint8_t cloverdrum_open(uint8_t *session, size_t session_length, size_t days, co
 
 /* Cuts one range of a session, and tightens every other: the day's setpoint, or the total, is to be at least (floors) or at most (ceilings) the value.
  * `day` is 0 for the total's kinds. A cut that is looser than the present range is accepted and changes nothing. On 0 *changed_days is the number of days
- * whose floor or ceiling differs from before, and the list `changed` begins with these days, each one time, in any order.
+ * whose floor or ceiling differs from before, and the list `changed` begins with these days, each one time, in any order; the list has to be lent whether the
+ * caller reads it or not. `kind` is a cloverdrum_kind.
  *   2   session_length is not CLOVERDRUM_SESSION_BYTES
  *   12  the kind is unknown, or a total's cut has a day other than 0
  *   7   a day's cut has a day that is not in the profile
@@ -137,7 +139,7 @@ uint8_t cloverdrum_write_day(const uint8_t *session, size_t session_length, size
  * A refusal leaves the list. */
 uint8_t cloverdrum_write_total(const uint8_t *session, size_t session_length, int32_t value, uint8_t *schedule, size_t schedule_length);
 
-/* Inspects a schedule that somebody wrote. On 0 *rule says whether it is kept (CLOVERDRUM_KEPT) or which rule it breaks first: days in order, then rises in
+/* Inspects a schedule that somebody wrote. On 0 *rule, a cloverdrum_rule, says whether it is kept or which rule it breaks first: days in order, then rises in
  * order, then the total; *place is the number of the day, or of the rise (from day *place to the next), and else 0. Days and the total are judged by the
  * session's present ranges. Setpoints may be any numbers of 2 bytes.
  *   2   session_length is not CLOVERDRUM_SESSION_BYTES
@@ -157,9 +159,9 @@ uint8_t cloverdrum_read_file(const uint8_t *file, size_t file_length, uint8_t *f
                              uint8_t *rises, size_t rises_length, uint8_t *cuts, size_t cuts_length, size_t *days, size_t *cuts_count,
                              int32_t *total_floor, int32_t *total_ceiling);
 
-/* Writes a profile and its cuts, cuts_length / 8 (rounded down) of them, as a profile file. On 0 *file_bytes is the file's length. Whether a
+/* Writes a profile and its cuts, 8 bytes each, as a profile file. On 0 *file_bytes is the file's length. Whether a
  * schedule exists is not judged.
- *   1   days is 0 or over 512, or there are more than 512 cuts
+ *   1   days is 0 or over 512, or cuts_length / 8 (rounded down) is over 512
  *   2   floors or ceilings is not n long, rises is not n - 1 long (n = days), or cuts_length is no multiple of 8
  *   3   a floor or a ceiling is outside the bounds of a point
  *   4   a rise is outside its bounds

@@ -39,7 +39,7 @@ def _cutting(profile: Profile) -> Checks:
         yield cut_place(index, day_count, "value"), cut_value_fault(cut)
         clipped = _clip(clipped, cut)
         fault = no_schedule_fault(clipped)
-        context = f"with `{cut}` and the cuts before it"
+        context = f"with `{cut}` and the cuts before it" if index else f"with `{cut}`"
         yield cut_place(index, day_count, "kind"), fault and fault._replace(cause=f"{context}, {fault.cause}")
 
 
@@ -76,7 +76,7 @@ def _chain_words(profile: Profile, source: int, day: int, carried: int) -> str:
     floor, ceiling = degrees(profile.days[source].floor), degrees(profile.days[day].ceiling)
     if source == day:
         return f"the floor {floor} of day {day} is above its ceiling {ceiling}"
-    rises = f"the rise to day {day}" if source + 1 == day else f"the rises up to day {day}"
+    rises = f"the rise {degrees(profile.rises[source])} to day {day}" if source + 1 == day else f"the rises up to day {day}"
     return (
         f"day {day} can't be below {degrees(carried)} (the floor {floor} of day {source} and {rises}), "
         f"and its ceiling is {ceiling}"

@@ -75,7 +75,7 @@ def _days(svg: ET.Element, answer: Answer) -> None:
     cuts = [cut for cut in answer.profile.cuts if not cut.kind.of_total]
     values = [value for day in answer.profile.days for value in day] + [cut.value for cut in cuts]
     x = Scale(range(count + 1), LEFT, RIGHT)
-    y = Scale(round_ticks(min(values), max(values), 8), BOTTOM - INSET, TOP + INSET)
+    y = Scale(round_ticks(min(values), max(values), 12), BOTTOM - INSET, TOP + INSET)
     _degrees_axis(svg, y)
     for day, stages in enumerate(answer.day_stages()):
         group = _add(svg, "g", class_="day", shape_rendering="crispEdges")

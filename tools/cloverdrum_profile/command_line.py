@@ -50,9 +50,9 @@ def _run(arguments: list[str]) -> int:
         case ["make", text, file]:
             _write(file, encode(parse_text(_read_text(text), _name(text))))
         case ["text", file]:
-            _write("-", format_text(decode(_read(file))).encode())
+            _write("-", format_text(decode(_read_profile(file))).encode())
         case ["chart", file, svg]:
-            _write(svg, draw(ask(_read(file)), Path(_name(file)).stem).encode())
+            _write(svg, draw(ask(_read_profile(file)), Path(_name(file)).stem).encode())
         case ["explain", file]:
             return _explain(file)
         case ["-h" | "--help"]:
@@ -65,7 +65,7 @@ def _run(arguments: list[str]) -> int:
 
 def _explain(file: str) -> int:
     try:
-        _write("-", explain(ask(_read(file))).encode())
+        _write("-", explain(ask(_read_profile(file))).encode())
     except Refused as refused:
         _write("-", f"{refused}\n".encode())
         return 1
@@ -78,6 +78,14 @@ def _name(path: str) -> str:
 
 def _read(path: str) -> bytes:
     return sys.stdin.buffer.read() if path == "-" else Path(path).read_bytes()
+
+
+def _read_profile(path: str) -> bytes:
+    """The bytes of a profile file; two letters would be the count of over 8,000 days, so that a text is told by them."""
+    data = _read(path)
+    if len(data) >= 2 and all(byte in b"\t\n\r" or 32 <= byte < 127 for byte in data[:2]):
+        raise TextError(f"{_name(path)}: this is a text: tools/profile make makes a profile file of it")
+    return data
 
 
 def _read_text(path: str) -> str:

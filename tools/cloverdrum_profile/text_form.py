@@ -123,6 +123,8 @@ class _Parser:
 
     def _take_day(self, values: list[str], is_last: bool) -> None:
         match values:
+            case [_, _] if not is_last:
+                raise _LineError("the rise to the next day is missing: rise 0.00 if it may not cool, rise -2.00 if by at most 2")
             case [floor, ceiling]:
                 day, rise = Range(_points(floor), _points(ceiling)), 0
             case [floor, ceiling, "rise", rise]:

@@ -147,11 +147,11 @@ class Words(unittest.TestCase):
             (
                 f"total 0 99\n{days}cut total floor 1\ncut day 1 floor 20.51",
                 "cut 1, byte 42: with `cut day 1 floor 20.51` and the cuts before it, day 2 can't be below 21.51 "
-                "(the floor 20.51 of day 1 and the rise to day 2), and its ceiling is 21.50",
+                "(the floor 20.51 of day 1 and the rise 1.00 to day 2), and its ceiling is 21.50",
             ),
             (
                 f"total 0 99\n{days}cut day 0 ceiling 19",
-                "cut 0, byte 34: with `cut day 0 ceiling 19.00` and the cuts before it, "
+                "cut 0, byte 34: with `cut day 0 ceiling 19.00`, "
                 "the floor 20.00 of day 0 is above its ceiling 19.00",
             ),
             (

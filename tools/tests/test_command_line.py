@@ -110,6 +110,10 @@ class Errors(InFolder):
     def test_bytes_in_place_of_a_text(self):
         self.assert_error("make", "-", "-", data=b"total \xff", says="this is not a text: byte 6 is not UTF-8")
 
+    def test_a_text_in_place_of_bytes(self):
+        for command in (("text", "-"), ("chart", "-", "-"), ("explain", "-")):
+            self.assert_error(*command, data=b"# An ale\n", says="this is a text: tools/profile make makes")
+
     def test_without_the_program(self):
         tools = self.copy_of_tools()
         self.assert_error("explain", ALE, tools=tools, says="ranges can't be run: No such file or directory")

@@ -33,8 +33,12 @@ FAULTS = [
     ("day 0 17 19 rise 0.01", "2: the last day has no next day to rise to: leave out rise 0.01"),
     ("day 0 17 19 rise -20.01\nday 1 17 19", "2: the rise -20.01 is below -20.00, the lowest rise (refused 4)"),
     ("day 0 17 19 rise 20.01\nday 1 17 19", "2: the rise 20.01 is above 20.00, the highest rise (refused 4)"),
+    (
+        "day 0 17 19\nday 1 17 19",
+        "2: the rise to the next day is missing: rise 0.00 if it may not cool, rise -2.00 if by at most 2",
+    ),
     ("day 1 17 19", "2: day 0 is missing: this line says day 1"),
-    ("day 0 17 19\nday 0 17 19", "3: day 0 stands in an earlier line: this line should say day 1"),
+    ("day 0 17 19 rise 0\nday 0 17 19", "3: day 0 stands in an earlier line: this line should say day 1"),
     ("day 0 17 19\ncut day 1 floor 17", "3: the profile has no day 1, its days are 0 to 0 (refused 7)"),
     ("day 0 17 19\ncut day 0 floor 40.01", "3: the floor 40.01 is above 40.00, the highest temperature (refused 3)"),
     ("day 0 17 19\ncut total ceiling -6000", "3: the ceiling -6000.00 is below -5120.00, the lowest total (refused 5)"),
@@ -86,7 +90,7 @@ class Text(unittest.TestCase):
         )
 
     def test_reading_is_lenient(self):
-        text = "\n# A comment\r\n  total\t1 +2.5#another\n\nday 00 17 17.5\nday 1 17.50 19 rise 0\ncut total floor -0.5"
+        text = "\n# A comment\r\n  total\t1 +2.5#another\n\nday 00 17 17.5 rise +0\nday 1 17.50 19 rise 0\ncut total floor -0.5"
         days, cuts = [Range(1700, 1750), Range(1750, 1900)], [Cut(Kind.TOTAL_FLOOR, 0, -50)]
         self.assertEqual(parse_text(text, "text"), Profile(Range(100, 250), days, [0], cuts))
 
@@ -130,7 +134,7 @@ class Faults(unittest.TestCase):
         self.assertEqual(self.faults("day 0 17 19\ntotal 1 2"), [message])
 
     def test_too_many_days_and_cuts(self):
-        days = "".join(f"\nday {day} 17 19" for day in range(513))
+        days = "".join(f"\nday {day} 17 19 rise 0" for day in range(513))
         self.assertEqual(
             self.faults("total 1 2" + days),
             ["ale.txt:514: there is no room for day 512: a profile has at most 512 days (refused 1)"],
