@@ -76,7 +76,9 @@ def _chain_words(profile: Profile, source: int, day: int, carried: int) -> str:
     floor, ceiling = degrees(profile.days[source].floor), degrees(profile.days[day].ceiling)
     if source == day:
         return f"the floor {floor} of day {day} is above its ceiling {ceiling}"
-    rises = f"the rise {degrees(profile.rises[source])} to day {day}" if source + 1 == day else f"the rises up to day {day}"
+    rises = f"the rises up to day {day}"
+    if source + 1 == day:
+        rises = f"the rise {degrees(profile.rises[source])} to day {day}"
     return (
         f"day {day} can't be below {degrees(carried)} (the floor {floor} of day {source} and {rises}), "
         f"and its ceiling is {ceiling}"

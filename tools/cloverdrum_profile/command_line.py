@@ -81,7 +81,7 @@ def _read(path: str) -> bytes:
 
 
 def _read_profile(path: str) -> bytes:
-    """The bytes of a profile file; two letters would be the count of over 8,000 days, so that a text is told by them."""
+    """The bytes of a profile file. Two letters would count over 8,000 days, so that a text is told by them."""
     data = _read(path)
     if len(data) >= 2 and all(byte in b"\t\n\r" or 32 <= byte < 127 for byte in data[:2]):
         raise TextError(f"{_name(path)}: this is a text: tools/profile make makes a profile file of it")

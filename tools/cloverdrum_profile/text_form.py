@@ -15,6 +15,7 @@ FORMS = {
     "day": "a day's line reads: day NUMBER FLOOR CEILING rise RISE",
     "cut": "a cut's line reads: cut day NUMBER floor VALUE (or ceiling; or cut total floor VALUE)",
 }
+NO_RISE = "the rise to the next day is missing: rise 0.00 if it may not cool, rise -2.00 if by at most 2"
 NUMBER = re.compile(r"([+-]?)([0-9]{1,9})(?:\.([0-9]+))?")
 DAY_NUMBER = re.compile(r"[0-9]{1,9}")
 
@@ -124,7 +125,7 @@ class _Parser:
     def _take_day(self, values: list[str], is_last: bool) -> None:
         match values:
             case [_, _] if not is_last:
-                raise _LineError("the rise to the next day is missing: rise 0.00 if it may not cool, rise -2.00 if by at most 2")
+                raise _LineError(NO_RISE)
             case [floor, ceiling]:
                 day, rise = Range(_points(floor), _points(ceiling)), 0
             case [floor, ceiling, "rise", rise]:

@@ -90,7 +90,10 @@ class Text(unittest.TestCase):
         )
 
     def test_reading_is_lenient(self):
-        text = "\n# A comment\r\n  total\t1 +2.5#another\n\nday 00 17 17.5 rise +0\nday 1 17.50 19 rise 0\ncut total floor -0.5"
+        text = (
+            "\n# A comment\r\n  total\t1 +2.5#another\n\n"
+            "day 00 17 17.5 rise +0\nday 1 17.50 19 rise 0\ncut total floor -0.5"
+        )
         days, cuts = [Range(1700, 1750), Range(1750, 1900)], [Cut(Kind.TOTAL_FLOOR, 0, -50)]
         self.assertEqual(parse_text(text, "text"), Profile(Range(100, 250), days, [0], cuts))
 
