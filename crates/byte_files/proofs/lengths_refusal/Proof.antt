@@ -22,4 +22,4 @@ unfolding lengthsRefusal
 returns-4 c = rw (le-ltb _ _ (c .before .before .before .if1 .left), ← c .before .before .length-refusal .ensures, eq-eqb _ _ (c .before .if2 .left), eq-eqb _ _ (c .if3 .left)) refl
 
 pub lengths-refusal-spec : {M : Type 1} → statement M
-lengths-refusal-spec = tie.close (tie.spec returns (search needs) returns-2 returns-3 returns-4)
+lengths-refusal-spec = tie.close (tie.spec returns (λ c. search needs) returns-2 returns-3 returns-4)

@@ -27,14 +27,14 @@ put-rest-spec =
     (tie.spec
     Inv-loop
     μ-loop
-    (search needs)
+    (λ c. search needs)
     loop-holds
-    (search needs)
-    (search needs)
-    (search needs)
-    (search needs)
-    (search needs)
-    (search needs)
+    (λ c. search needs)
+    (λ c. search needs)
+    (λ c. search needs)
+    (λ c. search needs)
+    (λ c. search needs)
+    (λ c. search needs)
     loop-again
-    (search needs)
+    (λ c. search needs)
     returns)

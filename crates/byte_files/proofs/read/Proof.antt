@@ -68,16 +68,16 @@ pub read-spec : {M : Type 1} → statement M
 read-spec =
     tie.close
     (tie.spec
-    (search needs)
-    (search needs)
-    (search needs)
-    (search needs)
-    (search needs)
+    (λ c. search needs)
+    (λ c. search needs)
+    (λ c. search needs)
+    (λ c. search needs)
+    (λ c. search needs)
     returns
     u16-at-requires
-    (search needs)
+    (λ c. search needs)
     has-no-room-requires
-    (search needs)
+    (λ c. search needs)
     returns-2
     put-points-requires
     put-points-requires-2
@@ -86,8 +86,8 @@ read-spec =
     mul-put-rest
     add-put-rest
     put-rest-requires
-    (search needs)
-    (search needs)
-    (search needs)
-    (search needs)
+    (λ c. search needs)
+    (λ c. search needs)
+    (λ c. search needs)
+    (λ c. search needs)
     returns-3)

@@ -6,4 +6,4 @@ returns-2 : tie.Need-returns-2
 returns-2 c = rw (c .before .before .told .given .1) (c .malformed .ensures)
 
 pub told-refusal-spec : {M : Type 1} → statement M
-told-refusal-spec = tie.close (tie.spec (search needs) (search needs) (λ c. search needs) (search needs) returns-2)
+told-refusal-spec = tie.close (tie.spec (λ c. search needs) (λ c. search needs) (λ c. search needs) (λ c. search needs) returns-2)

@@ -134,8 +134,8 @@ pub write-spec : {M : Type 1} → statement M
 write-spec =
     tie.close
     (tie.spec
-    (search needs)
-    (search needs)
+    (λ c. search needs)
+    (λ c. search needs)
     returns
     points-requires
     points-requires-2
@@ -148,17 +148,17 @@ write-spec =
     sub-steps
     array-share-prefix-steps
     slice-aggregate-profile-refusal-3
-    (search needs)
-    (search needs)
+    (λ c. search needs)
+    (λ c. search needs)
     returns-2
     cuts-refusal-requires
-    (search needs)
+    (λ c. search needs)
     returns-3
     mul-from
     add-from
     mul-length
     add-length
-    (search needs)
+    (λ c. search needs)
     returns-4
     put-header-requires
     array-share-prefix-low-2
@@ -170,5 +170,5 @@ write-spec =
     slice-aggregate-put-days-3
     put-days-requires
     put-rest-requires
-    (search needs)
+    (λ c. search needs)
     returns-5)

@@ -22,4 +22,4 @@ unfolding lengthRefusal
 returns-4 c = simp (ne-eqb _ _ (c .before .before .before .if1 .left), le-ltb _ _ (c .before .before .if2 .left), sym (c .before .have-lengths .ensures) ∙ not-false _ (c .if3 .left))
 
 pub length-refusal-spec : {M : Type 1} → statement M
-length-refusal-spec = tie.close (tie.spec returns returns-2 (search needs) returns-3 returns-4)
+length-refusal-spec = tie.close (tie.spec returns returns-2 (λ c. search needs) returns-3 returns-4)

@@ -6,4 +6,4 @@ returns : tie.Need-returns
 returns c = rw (c .before .judge .ensures) at (c .number .ensures)
 
 pub inspect-spec : {M : Type 1} → statement M
-inspect-spec = tie.close (tie.spec (search needs) (search needs) returns)
+inspect-spec = tie.close (tie.spec (λ c. search needs) (λ c. search needs) returns)

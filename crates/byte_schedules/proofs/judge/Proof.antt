@@ -35,7 +35,7 @@ judge-spec =
     tie.close
     (tie.spec
     returns
-    (search needs)
+    (λ c. search needs)
     mul-if2
     returns-2
     points-requires

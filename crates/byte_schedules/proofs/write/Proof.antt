@@ -40,7 +40,7 @@ write-spec =
     tie.close
     (tie.spec
     returns
-    (search needs)
+    (λ c. search needs)
     mul-if2
     returns-2
     array-borrow-prefix-schedule
@@ -48,5 +48,5 @@ write-spec =
     write-for-requires
     returns-3
     put-points-requires
-    (search needs)
+    (λ c. search needs)
     returns-4)

@@ -14,11 +14,11 @@ pub write-for-spec : {M : Type 1} → statement M
 write-for-spec =
     tie.close
     (tie.spec
-    (search needs)
     (λ c. search needs)
-    (search needs)
     (λ c. search needs)
-    (search needs)
+    (λ c. search needs)
+    (λ c. search needs)
+    (λ c. search needs)
     returns
-    (search needs)
+    (λ c. search needs)
     returns-2)

@@ -31,10 +31,10 @@ open-spec =
     tie.close
     (tie.spec
     returns
-    (search needs)
+    (λ c. search needs)
     returns-2
-    (search needs)
+    (λ c. search needs)
     returns-3
     encode-requires
-    (search needs)
+    (λ c. search needs)
     returns-4)

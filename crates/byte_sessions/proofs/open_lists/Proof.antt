@@ -72,5 +72,5 @@ open-lists-spec =
     sub-steps
     array-share-prefix-steps
     slice-aggregate-open-3
-    (search needs)
+    (λ c. search needs)
     returns)

@@ -43,17 +43,17 @@ show-spec =
     tie.close
     (tie.spec
     returns
-    (search needs)
-    (search needs)
-    (search needs)
-    (search needs)
+    (λ c. search needs)
+    (λ c. search needs)
+    (λ c. search needs)
+    (λ c. search needs)
     slice-aggregate-show
-    (search needs)
+    (λ c. search needs)
     slice-aggregate-show-2
     show-requires
     returns-2
     put-points-requires
     put-points-requires-2
-    (search needs)
-    (search needs)
+    (λ c. search needs)
+    (λ c. search needs)
     returns-3)

@@ -9,4 +9,4 @@ mul-result : tie.Need-mul-result
 mul-result c = omega (arith, mul-le-mul (c .before .pre .0) (c .before .pre .1))
 
 pub overload-of-spec : {M : Type 1} → statement M
-overload-of-spec = tie.close (tie.spec mul-result (search needs) (search needs))
+overload-of-spec = tie.close (tie.spec mul-result (λ c. search needs) (λ c. search needs))

@@ -32,14 +32,14 @@ round-spec =
     (tie.spec
     overload-of-requires
     sub-excess
-    (search needs)
-    (search needs)
-    (search needs)
-    (search needs)
-    (search needs)
+    (λ c. search needs)
+    (λ c. search needs)
+    (λ c. search needs)
+    (λ c. search needs)
+    (λ c. search needs)
     add-room
     sub-room
     step-of-requires
-    (search needs)
+    (λ c. search needs)
     settle-requires
     returns)

@@ -10,4 +10,4 @@ returns c = rw (c .if1 .taken) (refl, refl)
 pub note-spec : {M : Type 1} → statement M
 note-spec =
     tie.close
-    (tie.spec (search needs) (search needs) (search needs) (search needs) (search needs) returns (λ c. search needs))
+    (tie.spec (λ c. search needs) (λ c. search needs) (λ c. search needs) (λ c. search needs) (λ c. search needs) returns (λ c. search needs))

@@ -18,4 +18,4 @@ unfolding checkedValue
 returns-3 c = rw (not-false (c .before .before .before .before .args .placed) (c .before .before .before .if1 .left), c .before .value .given .1)
 
 pub check-value-spec : {M : Type 1} → statement M
-check-value-spec = tie.close (tie.spec returns (search needs) (search needs) returns-2 returns-3)
+check-value-spec = tie.close (tie.spec returns (λ c. search needs) (λ c. search needs) returns-2 returns-3)

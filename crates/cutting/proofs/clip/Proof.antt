@@ -54,26 +54,26 @@ pub clip-spec : {M : Type 1} → statement M
 clip-spec =
     tie.close
     (tie.spec
-    (search needs)
+    (λ c. search needs)
     mul-wide
     element-copy-out-wide
-    (search needs)
-    (search needs)
+    (λ c. search needs)
+    (λ c. search needs)
     cast-floors
     mul-floors
     element-write-floors
-    (search needs)
+    (λ c. search needs)
     mul-wide-2
     element-copy-out-wide-2
-    (search needs)
-    (search needs)
+    (λ c. search needs)
+    (λ c. search needs)
     cast-ceilings
     mul-ceilings
     element-write-ceilings
-    (search needs)
-    (search needs)
-    (search needs)
-    (search needs)
+    (λ c. search needs)
+    (λ c. search needs)
+    (λ c. search needs)
+    (λ c. search needs)
     returns
     returns-2
     returns-3

@@ -17,11 +17,11 @@ pub cut-told-spec : {M : Type 1} → statement M
 cut-told-spec =
     tie.close
     (tie.spec
-    (search needs)
-    (search needs)
-    (search needs)
-    (search needs)
+    (λ c. search needs)
+    (λ c. search needs)
+    (λ c. search needs)
+    (λ c. search needs)
     returns
     (λ c. search needs)
-    (search needs)
+    (λ c. search needs)
     returns-2)

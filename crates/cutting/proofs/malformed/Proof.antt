@@ -7,4 +7,4 @@ returns : tie.Need-returns
 returns c = checked-refusal _ _ (c .check .ensures)
 
 pub malformed-spec : {M : Type 1} → statement M
-malformed-spec = tie.close (tie.spec (search needs) returns)
+malformed-spec = tie.close (tie.spec (λ c. search needs) returns)

@@ -22,9 +22,9 @@ tighten-again-spec =
     (tie.spec
     (λ c. search needs)
     tighten-requires
-    (search needs)
+    (λ c. search needs)
     returns
-    (search needs)
-    (search needs)
-    (search needs)
+    (λ c. search needs)
+    (λ c. search needs)
+    (λ c. search needs)
     returns-2)

@@ -20,10 +20,10 @@ pub with-byte-spec : {M : Type 1} → statement M
 with-byte-spec =
     tie.close
     (tie.spec
-    (search needs)
-    (search needs)
-    (search needs)
+    (λ c. search needs)
+    (λ c. search needs)
+    (λ c. search needs)
     array-share-prefix-bytes
     slice-aggregate-noted
-    (search needs)
-    (search needs))
+    (λ c. search needs)
+    (λ c. search needs))

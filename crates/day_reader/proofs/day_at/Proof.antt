@@ -10,4 +10,4 @@ returns c = cc (toZ-ofZ {w = w16} {z = c .before .before .i16-at .result} (sfits
 pub day-at-spec : {M : Type 1} → statement M
 day-at-spec =
     tie.close
-    (tie.spec (search needs) (search needs) (search needs) (search needs) (search needs) returns)
+    (tie.spec (λ c. search needs) (λ c. search needs) (λ c. search needs) (λ c. search needs) (λ c. search needs) returns)

@@ -16,11 +16,11 @@ pub fields-refusal-spec : {M : Type 1} → statement M
 fields-refusal-spec =
     tie.close
     (tie.spec
-    (search needs)
-    (search needs)
-    (search needs)
-    (search needs)
+    (λ c. search needs)
+    (λ c. search needs)
+    (λ c. search needs)
+    (λ c. search needs)
     returns
-    (search needs)
+    (λ c. search needs)
     returns-2
     returns-3)

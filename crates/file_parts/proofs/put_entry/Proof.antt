@@ -37,19 +37,19 @@ pub put-entry-spec : {M : Type 1} → statement M
 put-entry-spec =
     tie.close
     (tie.spec
-    (search needs)
+    (λ c. search needs)
     put-fields-requires
-    (search needs)
+    (λ c. search needs)
     put-fields-requires-2
-    (search needs)
+    (λ c. search needs)
     put-fields-requires-3
-    (search needs)
+    (λ c. search needs)
     put-fields-requires-4
-    (search needs)
+    (λ c. search needs)
     returns
-    (search needs)
+    (λ c. search needs)
     returns-2
-    (search needs)
+    (λ c. search needs)
     returns-3
-    (search needs)
+    (λ c. search needs)
     returns-4)

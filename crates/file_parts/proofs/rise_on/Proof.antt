@@ -9,4 +9,4 @@ returns-2 : tie.Need-returns-2
 returns-2 c = sym (List·getD-eq-default (c .before .args .rises .now) (pos 0) (c .if1 .left))
 
 pub rise-on-spec : {M : Type 1} → statement M
-rise-on-spec = tie.close (tie.spec (search needs) (search needs) (λ c. search needs) returns-2)
+rise-on-spec = tie.close (tie.spec (λ c. search needs) (λ c. search needs) (λ c. search needs) returns-2)

@@ -9,4 +9,4 @@ returns-2 : tie.Need-returns-2
 returns-2 c = rw (← c .before .before .before .told-at .ensures, c .before .cut .given .1)
 
 pub entry-at-spec : {M : Type 1} → statement M
-entry-at-spec = tie.close (tie.spec (search needs) (search needs) (search needs) returns returns-2)
+entry-at-spec = tie.close (tie.spec (λ c. search needs) (λ c. search needs) (λ c. search needs) returns returns-2)

@@ -19,4 +19,4 @@ returns-2 c =
     e ∙ opened-refusal _ .1 (λ h. c .if1 .left (e ∙ h))
 
 pub profile-refusal-spec : {M : Type 1} → statement M
-profile-refusal-spec = tie.close (tie.spec (search needs) returns returns-2)
+profile-refusal-spec = tie.close (tie.spec (λ c. search needs) returns returns-2)

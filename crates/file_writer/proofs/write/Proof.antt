@@ -67,22 +67,22 @@ pub write-spec : {M : Type 1} → statement M
 write-spec =
     tie.close
     (tie.spec
-    (search needs)
+    (λ c. search needs)
     returns
-    (search needs)
-    (search needs)
-    (search needs)
+    (λ c. search needs)
+    (λ c. search needs)
+    (λ c. search needs)
     returns-2
-    (search needs)
+    (λ c. search needs)
     returns-3
     mul-from
     add-from
-    (search needs)
+    (λ c. search needs)
     add-length
-    (search needs)
+    (λ c. search needs)
     returns-4
     put-header-requires
     put-days-requires
     put-entries-requires
-    (search needs)
+    (λ c. search needs)
     returns-5)

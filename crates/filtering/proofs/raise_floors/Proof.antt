@@ -22,7 +22,7 @@ raise-floors-spec =
     (tie.spec
     (λ c. search needs)
     mirror-requires-2
-    (search needs)
+    (λ c. search needs)
     lower-ceilings-requires
     mirror-requires-3
     returns)

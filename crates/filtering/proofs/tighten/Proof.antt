@@ -26,17 +26,17 @@ tighten-spec =
     tie.close
     (tie.spec
     (λ c. search needs)
-    (search needs)
+    (λ c. search needs)
     returns
-    (search needs)
-    (search needs)
+    (λ c. search needs)
+    (λ c. search needs)
     returns-2
     lower-ceilings-requires
-    (search needs)
-    (search needs)
-    (search needs)
-    (search needs)
+    (λ c. search needs)
+    (λ c. search needs)
+    (λ c. search needs)
+    (λ c. search needs)
     returns-3
-    (search needs)
+    (λ c. search needs)
     raise-floors-requires
     returns-4)

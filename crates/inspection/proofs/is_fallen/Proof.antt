@@ -8,4 +8,4 @@ returns c = cc
 pub is-fallen-spec : {M : Type 1} → statement M
 is-fallen-spec =
     tie.close
-    (tie.spec (search needs) (search needs) (search needs) (search needs) (search needs) returns)
+    (tie.spec (λ c. search needs) (λ c. search needs) (λ c. search needs) (λ c. search needs) (λ c. search needs) returns)

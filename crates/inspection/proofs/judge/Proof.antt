@@ -11,4 +11,4 @@ returns c =
     c .judge-codes .ensures ∙ judged-codes _ _ (p .0 .present .most) (p .1) (e .1) (e .0)
 
 pub judge-spec : {M : Type 1} → statement M
-judge-spec = tie.close (tie.spec (search needs) (search needs) returns)
+judge-spec = tie.close (tie.spec (λ c. search needs) (λ c. search needs) returns)

@@ -20,11 +20,11 @@ pub judge-codes-spec : {M : Type 1} → statement M
 judge-codes-spec =
     tie.close
     (tie.spec
-    (search needs)
+    (λ c. search needs)
     returns
-    (search needs)
-    (search needs)
+    (λ c. search needs)
+    (λ c. search needs)
     returns-2
-    (search needs)
+    (λ c. search needs)
     returns-3
     returns-4)

@@ -9,4 +9,4 @@ returns : tie.Need-returns
 returns c = c .coded-from .ensures ∙ ap (coded lowestPoint highestPoint) (toZ-ofZ (c .before .fits .z))
 
 pub point-spec : {M : Type 1} → statement M
-point-spec = tie.close (tie.spec (search needs) returns)
+point-spec = tie.close (tie.spec (λ c. search needs) returns)

@@ -13,4 +13,4 @@ returns : tie.Need-returns
 returns c = let f = point-fits (c .signed .ensures) (c .before .pre) in recast w32 w16 (sfits-widen tt f) f ∙ c .signed .ensures
 
 pub point-of-spec : {M : Type 1} → statement M
-point-of-spec = tie.close (tie.spec (search needs) cast-result returns)
+point-of-spec = tie.close (tie.spec (λ c. search needs) cast-result returns)

@@ -12,4 +12,4 @@ returns c =
     (rw whole at (e .1 .0), sym (e .0) ∙ whole)
 
 pub setpoints-spec : {M : Type 1} → statement M
-setpoints-spec = tie.close (tie.spec (search needs) returns)
+setpoints-spec = tie.close (tie.spec (λ c. search needs) returns)

@@ -10,4 +10,4 @@ returns : tie.Need-returns
 returns c = shown (c .fits .low) (c .pre)
 
 pub signed-spec : {M : Type 1} → statement M
-signed-spec = tie.close (tie.spec (search needs) add-result returns)
+signed-spec = tie.close (tie.spec (λ c. search needs) add-result returns)

@@ -9,4 +9,4 @@ returns : tie.Need-returns
 returns c = c .coded-from .ensures ∙ ap (coded lowestTotal highestTotal) (toZ-ofZ (c .before .fits .z))
 
 pub total-spec : {M : Type 1} → statement M
-total-spec = tie.close (tie.spec (search needs) returns)
+total-spec = tie.close (tie.spec (λ c. search needs) returns)

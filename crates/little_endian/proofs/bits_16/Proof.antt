@@ -10,4 +10,4 @@ returns : tie.Need-returns
 returns c = widened-bits (c .before .fits .z) (c .bits-32 .ensures)
 
 pub bits-16-spec : {M : Type 1} → statement M
-bits-16-spec = tie.close (tie.spec cast-bits-32 (search needs) (search needs) returns)
+bits-16-spec = tie.close (tie.spec cast-bits-32 (λ c. search needs) (λ c. search needs) returns)

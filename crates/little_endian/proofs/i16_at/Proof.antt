@@ -12,4 +12,4 @@ unfolding i16At
 returns c = toZ-ofZ (sfits-of (c .signed-16 .ok)) ∙ c .signed-16 .ensures ∙ ap (toZ w16) (c .before .u16-at .ensures)
 
 pub i16-at-spec : {M : Type 1} → statement M
-i16-at-spec = tie.close (tie.spec (search needs) (search needs) returns)
+i16-at-spec = tie.close (tie.spec (λ c. search needs) (λ c. search needs) returns)

@@ -12,4 +12,4 @@ unfolding i32At
 returns c = toZ-ofZ (sfits-of (c .signed-32 .ok)) ∙ c .signed-32 .ensures ∙ ap (toZ w32) (c .before .u32-at .ensures)
 
 pub i32-at-spec : {M : Type 1} → statement M
-i32-at-spec = tie.close (tie.spec (search needs) (search needs) returns)
+i32-at-spec = tie.close (tie.spec (λ c. search needs) (λ c. search needs) returns)

@@ -11,4 +11,4 @@ returns c =
     rw (c .before .before .before .bits-16 .ensures, toZ-ofZ (s .fits .z)) at (c .before .before .put-u16 .ensures)
 
 pub put-i16-spec : {M : Type 1} → statement M
-put-i16-spec = tie.close (tie.spec (search needs) (search needs) (search needs) returns)
+put-i16-spec = tie.close (tie.spec (λ c. search needs) (λ c. search needs) (λ c. search needs) returns)

@@ -11,4 +11,4 @@ returns c =
     rw (c .before .before .before .bits-32 .ensures, toZ-ofZ (s .fits .z)) at (c .before .before .put-u32 .ensures)
 
 pub put-i32-spec : {M : Type 1} → statement M
-put-i32-spec = tie.close (tie.spec (search needs) (search needs) (search needs) returns)
+put-i32-spec = tie.close (tie.spec (λ c. search needs) (λ c. search needs) (λ c. search needs) returns)

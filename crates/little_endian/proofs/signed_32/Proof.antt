@@ -12,4 +12,4 @@ returns-2 : tie.Need-returns-2
 returns-2 c = signed w32 (c .before .fits .x) (omega arith)
 
 pub signed-32-spec : {M : Type 1} → statement M
-signed-32-spec = tie.close (tie.spec (search needs) (search needs) (search needs) add-result returns-2)
+signed-32-spec = tie.close (tie.spec (λ c. search needs) (λ c. search needs) (λ c. search needs) add-result returns-2)

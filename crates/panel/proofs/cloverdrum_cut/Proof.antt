@@ -8,4 +8,4 @@ returns : tie.Need-returns
 returns c = let e = rw (toZ-ofZ (c .before .before .before .before .before .before .before .before .before .fits .value)) at (c .before .before .before .before .cut .ensures) in (ap (λ a. a .refusal) (e .0), (e .1 .0, (e .1 .1, ap (λ a. a .changed) (e .0))))
 
 pub cloverdrum-cut-spec : {M : Type 1} → statement M
-cloverdrum-cut-spec = tie.close (tie.spec (search needs) (search needs) (search needs) returns)
+cloverdrum-cut-spec = tie.close (tie.spec (λ c. search needs) (λ c. search needs) (λ c. search needs) returns)

@@ -11,4 +11,4 @@ returns c = let e = c .before .before .before .before .before .before .before .s
 
 pub cloverdrum-read-spec : {M : Type 1} → statement M
 cloverdrum-read-spec =
-    tie.close (tie.spec (search needs) (search needs) (search needs) (search needs) returns)
+    tie.close (tie.spec (λ c. search needs) (λ c. search needs) (λ c. search needs) (λ c. search needs) returns)

@@ -10,4 +10,4 @@ returns c = let e = c .before .before .before .before .before .before .before .b
 pub cloverdrum-read-file-spec : {M : Type 1} → statement M
 cloverdrum-read-file-spec =
     tie.close
-    (tie.spec (search needs) (search needs) (search needs) (search needs) (search needs) returns)
+    (tie.spec (λ c. search needs) (λ c. search needs) (λ c. search needs) (λ c. search needs) (λ c. search needs) returns)

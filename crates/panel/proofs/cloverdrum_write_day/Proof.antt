@@ -7,4 +7,4 @@ returns : tie.Need-returns
 returns c = rw (toZ-ofZ (c .before .before .before .before .before .before .fits .value)) at (c .before .before .write .ensures)
 
 pub cloverdrum-write-day-spec : {M : Type 1} → statement M
-cloverdrum-write-day-spec = tie.close (tie.spec (search needs) (search needs) returns)
+cloverdrum-write-day-spec = tie.close (tie.spec (λ c. search needs) (λ c. search needs) returns)

@@ -7,4 +7,4 @@ returns : tie.Need-returns
 returns c = rw (toZ-ofZ (c .before .before .before .before .before .before .before .before .before .fits .lowest), toZ-ofZ (c .before .before .before .before .before .before .before .before .before .fits .highest)) at (c .before .before .write .ensures)
 
 pub cloverdrum-write-file-spec : {M : Type 1} → statement M
-cloverdrum-write-file-spec = tie.close (tie.spec (search needs) (search needs) returns)
+cloverdrum-write-file-spec = tie.close (tie.spec (λ c. search needs) (λ c. search needs) returns)

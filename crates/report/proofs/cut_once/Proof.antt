@@ -14,4 +14,4 @@ returns-2 : tie.Need-returns-2
 returns-2 c = (ap afterEntry (c .before .before .before .cut .ensures .0) ∙ sym (once-applied (c .before .before .before .before .before .before .before .before .args .opened) (c .before .before .before .before .before .before .before .before .args .entry .cut) (c .before .before .before .before .before .before .if1 .left)), rw (c .before .before .before .cut .ensures .0) (cut-sane (c .before .before .before .before .before .before .before .before .args .opened .session) (c .before .before .before .before .before .before .before .before .args .entry .cut) 512 (c .before .before .before .before .before .before .before .before .pre)))
 
 pub cut-once-spec : {M : Type 1} → statement M
-cut-once-spec = tie.close (tie.spec returns (search needs) (λ c. search needs) returns-2)
+cut-once-spec = tie.close (tie.spec returns (λ c. search needs) (λ c. search needs) returns-2)

@@ -23,9 +23,9 @@ pub open-read-spec : {M : Type 1} → statement M
 open-read-spec =
     tie.close
     (tie.spec
-    (search needs)
+    (λ c. search needs)
     slice-aggregate-open
     slice-aggregate-open-2
     slice-aggregate-open-3
-    (search needs)
+    (λ c. search needs)
     returns)

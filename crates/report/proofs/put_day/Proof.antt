@@ -62,11 +62,11 @@ pub put-day-spec : {M : Type 1} → statement M
 put-day-spec =
     tie.close
     (tie.spec
-    (search needs)
+    (λ c. search needs)
     put-requires
     put-decimal-requires
     cast-put-range
     cast-put-range-2
     put-range-requires
-    (search needs)
+    (λ c. search needs)
     returns)

@@ -48,13 +48,13 @@ pub put-range-spec : {M : Type 1} → statement M
 put-range-spec =
     tie.close
     (tie.spec
-    (search needs)
-    (search needs)
+    (λ c. search needs)
+    (λ c. search needs)
     put-number-requires
-    (search needs)
+    (λ c. search needs)
     put-requires-2
     put-number-requires-2
-    (search needs)
+    (λ c. search needs)
     put-requires-3
-    (search needs)
+    (λ c. search needs)
     returns)

@@ -60,8 +60,8 @@ pub put-ranges-spec : {M : Type 1} → statement M
 put-ranges-spec =
     tie.close
     (tie.spec
-    (search needs)
-    (search needs)
+    (λ c. search needs)
+    (λ c. search needs)
     (λ c. search needs)
     put-total-requires
     put-days-requires

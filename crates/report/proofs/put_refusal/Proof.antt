@@ -30,9 +30,9 @@ pub put-refusal-spec : {M : Type 1} → statement M
 put-refusal-spec =
     tie.close
     (tie.spec
-    (search needs)
-    (search needs)
+    (λ c. search needs)
+    (λ c. search needs)
     put-decimal-requires
-    (search needs)
+    (λ c. search needs)
     put-requires-2
     returns)

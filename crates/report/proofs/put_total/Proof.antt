@@ -25,4 +25,4 @@ returns c = let e = left-none (one (c .before .before .before .before .before .b
 
 pub put-total-spec : {M : Type 1} → statement M
 put-total-spec =
-    tie.close (tie.spec (search needs) put-requires put-range-requires (search needs) returns)
+    tie.close (tie.spec (λ c. search needs) put-requires put-range-requires (λ c. search needs) returns)

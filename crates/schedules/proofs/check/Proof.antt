@@ -10,4 +10,4 @@ returns-2 : tie.Need-returns-2
 returns-2 c = rw (c .before .value .given .1)
 
 pub check-spec : {M : Type 1} → statement M
-check-spec = tie.close (tie.spec (search needs) (search needs) returns returns-2)
+check-spec = tie.close (tie.spec (λ c. search needs) (λ c. search needs) returns returns-2)

@@ -8,4 +8,4 @@ returns : tie.Need-returns
 returns c = rw (c .narrow .ensures) refl
 
 pub set-level-spec : {M : Type 1} → statement M
-set-level-spec = tie.close (tie.spec (search needs) (search needs) (search needs) returns)
+set-level-spec = tie.close (tie.spec (λ c. search needs) (λ c. search needs) (λ c. search needs) returns)

@@ -12,4 +12,4 @@ returns : tie.Need-returns
 returns c = c .before .show-points .ensures ∙ written-shown (c .before .before .before .before .before .before .pre .0) _ (c .before .before .before .before .raise-to .ensures) _
 
 pub write-spec : {M : Type 1} → statement M
-write-spec = tie.close (tie.spec (λ c. search needs) show-points-requires (search needs) returns)
+write-spec = tie.close (tie.spec (λ c. search needs) show-points-requires (λ c. search needs) returns)

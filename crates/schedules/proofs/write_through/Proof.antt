@@ -18,9 +18,9 @@ pub write-through-spec : {M : Type 1} → statement M
 write-through-spec =
     tie.close
     (tie.spec
-    (search needs)
-    (search needs)
+    (λ c. search needs)
+    (λ c. search needs)
     carry-requires
     write-requires
-    (search needs)
+    (λ c. search needs)
     returns)

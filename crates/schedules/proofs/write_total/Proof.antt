@@ -22,10 +22,10 @@ write-total-spec =
     tie.close
     (tie.spec
     returns
-    (search needs)
-    (search needs)
-    (search needs)
+    (λ c. search needs)
+    (λ c. search needs)
+    (λ c. search needs)
     returns-2
     write-requires
-    (search needs)
+    (λ c. search needs)
     returns-3)

@@ -23,4 +23,4 @@ returns-6 c = simp (ne-eqb _ _ (c .before .before .before .before .if1 .left), l
 
 pub length-refusal-spec : {M : Type 1} → statement M
 length-refusal-spec =
-    tie.close (tie.spec returns returns-2 returns-3 returns-4 (search needs) returns-5 returns-6)
+    tie.close (tie.spec returns returns-2 returns-3 returns-4 (λ c. search needs) returns-5 returns-6)

@@ -20,12 +20,12 @@ pub open-codes-spec : {M : Type 1} → statement M
 open-codes-spec =
     tie.close
     (tie.spec
-    (search needs)
-    (search needs)
+    (λ c. search needs)
+    (λ c. search needs)
     returns
-    (search needs)
+    (λ c. search needs)
     returns-2
     (λ c. search needs)
     returns-3
-    (search needs)
+    (λ c. search needs)
     returns-4)

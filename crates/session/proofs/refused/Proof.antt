@@ -9,4 +9,4 @@ unfolding written
 returns c = refl
 
 pub refused-spec : {M : Type 1} → statement M
-refused-spec = tie.close (tie.spec (search needs) returns)
+refused-spec = tie.close (tie.spec (λ c. search needs) returns)

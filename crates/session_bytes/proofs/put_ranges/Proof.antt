@@ -14,4 +14,4 @@ returns c =
 
 pub put-ranges-spec : {M : Type 1} → statement M
 put-ranges-spec =
-    tie.close (tie.spec (search needs) (search needs) (search needs) (search needs) returns)
+    tie.close (tie.spec (λ c. search needs) (λ c. search needs) (λ c. search needs) (λ c. search needs) returns)

@@ -25,4 +25,4 @@ returns-2 c =
 
 pub total-spec : {M : Type 1} → statement M
 total-spec =
-    tie.close (tie.spec (search needs) (search needs) (search needs) (search needs) returns returns-2)
+    tie.close (tie.spec (λ c. search needs) (λ c. search needs) (λ c. search needs) (λ c. search needs) returns returns-2)

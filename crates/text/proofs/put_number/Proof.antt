@@ -36,12 +36,12 @@ put-number-spec =
     tie.close
     (tie.spec
     slice-write-out
-    (search needs)
+    (λ c. search needs)
     (λ c. search needs)
     put-decimal-requires
     same-length
     returns
     cast-put-decimal
     put-decimal-requires-2
-    (search needs)
+    (λ c. search needs)
     returns-2)

@@ -50,28 +50,28 @@ pub open-spec : {M : Type 1} → statement M
 open-spec =
     tie.close
     (tie.spec
-    (search needs)
-    (search needs)
+    (λ c. search needs)
+    (λ c. search needs)
     returns
     points-requires
-    (search needs)
+    (λ c. search needs)
     returns-2
     points-requires-2
-    (search needs)
+    (λ c. search needs)
     returns-3
     rises-requires
     add-if4
-    (search needs)
+    (λ c. search needs)
     returns-4
-    (search needs)
-    (search needs)
-    (search needs)
-    (search needs)
+    (λ c. search needs)
+    (λ c. search needs)
+    (λ c. search needs)
+    (λ c. search needs)
     returns-5
-    (search needs)
-    (search needs)
-    (search needs)
-    (search needs)
+    (λ c. search needs)
+    (λ c. search needs)
+    (λ c. search needs)
+    (λ c. search needs)
     returns-6
     open-codes-requires
     returns-7)

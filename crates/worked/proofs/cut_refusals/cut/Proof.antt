@@ -16,4 +16,4 @@ returns c = rw (c .before .cut-told .ensures .0) (told-sane _ _ _ (c .before .be
 pub cut-spec : {M : Type 1} → statement M
 cut-spec =
     tie.close
-    (tie.spec (search needs) slice-aggregate-cut-told (λ c. search needs) returns)
+    (tie.spec (λ c. search needs) slice-aggregate-cut-told (λ c. search needs) returns)

@@ -11,8 +11,8 @@ pub profile-a-spec : {M : Type 1} → statement M
 profile-a-spec =
     tie.close
     (tie.spec
-    (search needs)
-    (search needs)
-    (search needs)
-    (search needs)
+    (λ c. search needs)
+    (λ c. search needs)
+    (λ c. search needs)
+    (λ c. search needs)
     returns)

@@ -21,5 +21,5 @@ lengths-spec =
     slice-aggregate-refusal
     slice-aggregate-refusal-2
     slice-aggregate-refusal-3
-    (search needs)
-    (search needs))
+    (λ c. search needs)
+    (λ c. search needs))

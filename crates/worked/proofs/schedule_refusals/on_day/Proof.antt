@@ -12,4 +12,4 @@ slice-aggregate-write-day c = sym (length-take-le _ _ (omega arith))
 pub on-day-spec : {M : Type 1} → statement M
 on-day-spec =
     tie.close
-    (tie.spec (search needs) slice-aggregate-write-day (λ c. search needs) (search needs))
+    (tie.spec (λ c. search needs) slice-aggregate-write-day (λ c. search needs) (λ c. search needs))

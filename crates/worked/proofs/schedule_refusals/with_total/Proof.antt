@@ -12,4 +12,4 @@ slice-aggregate-write-total c = sym (length-take-le _ _ (omega arith))
 pub with-total-spec : {M : Type 1} → statement M
 with-total-spec =
     tie.close
-    (tie.spec (search needs) slice-aggregate-write-total (λ c. search needs) (search needs))
+    (tie.spec (λ c. search needs) slice-aggregate-write-total (λ c. search needs) (λ c. search needs))
