@@ -1,4 +1,2 @@
-pub mod Laws
 pub mod Stages
-pub mod Raising
 pub mod Supported

@@ -10,7 +10,7 @@ use lib.Dec.{ltb, leb}
 use lib.ListN.{length, set}
 use borrow.Author.Tests.{eq-eqb, ne-eqb, lt-ltb, le-ltb, le-leb, lt-leb}
 use Rattle.series.specs.Sum.{at}
-use Rattle.series.specs.Written.{written, length-written, written-below, written-past}
+use Rattle.series.specs.Written.{written, length-written, written-below, written-past, written-same}
 use Rattle.levels.specs.Code.{lowestPoint, highestPoint, lowestTotal, highestTotal, within, code, decoded, coded}
 use Rattle.levels.specs.declared.Coded.{Coded}
 use Rattle.levels.proofs.Offset.{Less, less-le}
@@ -23,7 +23,9 @@ use Rattle.carry.specs.Carriable.{Carriable}
 use Rattle.session.specs.Showing.{Sane}
 use Rattle.series.specs.Lent.{list-left, list-filled}
 use Rattle.session.specs.declared.Session.{Session}
-use Rattle.schedules.specs.Writing.{raisedTo, dayRefusal, totalRefusal, dayLevels, totalLevels, dayWritten, totalWritten}
+use Rattle.raising.specs.Raising.{raisedTo}
+use Rattle.raising.proofs.Laws.{raised-stands}
+use Rattle.schedules.specs.Writing.{dayRefusal, totalRefusal, dayLevels, totalLevels, dayWritten, totalWritten}
 use Rattle.schedules.specs.Stages.{checked}
 use Rattle.schedules.specs.declared.Checked.{Checked}
 
@@ -109,6 +111,12 @@ module _ (s : Session) (value : ℤ) (sane : Sane s) {v : Coded} {q : Checked} {
   pub total-judged : v ≡ coded lowestTotal highestTotal value → q ≡ checked v (s .present .least) (s .present .most)
       → r ≡ cond (s .spent) 9 (cond (not (q .within)) 10 0) → TotalJudged s value r (q .code)
   total-judged ev eq er = judged lowestTotal value 512000 2560000 (s .present .least) (s .present .most) total-less (sane .present .highest) ev eq (s .spent) er
+
+-- ---- write
+
+pub raised-shown : {fs cs rs : List ℕ} {n L U : ℕ} → InBounds fs cs rs n L U → (t : ℕ) {out : List ℕ} → out ≡ written (raisedTo fs cs rs n t) n fs → (l : List ℤ)
+    → written (λ k. decoded lowestPoint (at out k)) n l ≡ written (λ k. decoded lowestPoint (raisedTo fs cs rs n t k)) n l
+raised-shown b t e l = written-same _ _ _ l (λ k h. ap (decoded lowestPoint) (raised-stands b t e k h))
 
 -- ---- write_through
 

@@ -18,8 +18,8 @@ use Rattle.method.proofs.Exact.{carried-least}
 use Rattle.session.specs.Showing.{Fits}
 use Rattle.session.proofs.Within.{Within}
 use Rattle.session.specs.declared.Ranges.{Ranges}
-use Rattle.schedules.specs.Writing.{raisedTo}
-use Rattle.schedules.proofs.Raising.{raised-levels}
+use Rattle.raising.specs.Raising.{raisedTo}
+use Rattle.raising.proofs.Levels.{raised-levels}
 
 pub record Supported (rs : List ℕ) (n : ℕ) (r : Ranges) : Type 0 where
   pub bounds : Fits rs n r

@@ -2,17 +2,17 @@
 -- is `Writing` of demands.
 use mathlib.Core.Bool.{cond, not}
 use mathlib.Core.List.{List}
-use Prim.Native.Nat.{ℕ, zero, suc, _+_, _-_, min, max}
+use Prim.Native.Nat.{ℕ}
 use lib.IntN.{ℤ}
 use lib.Dec.{eqb, ltb}
 use lib.ListN.{length, set}
 use Rattle.series.specs.Sum.{at}
 use Rattle.levels.specs.Code.{lowestPoint, lowestTotal, within, code, decoded}
-use Rattle.method.specs.Filter.{carried, firstCrossed, forwarded, held}
+use Rattle.method.specs.Filter.{carried, firstCrossed, forwarded}
 use Rattle.series.specs.Lent.{lentList}
 use Rattle.session.specs.Showing.{floorOn, ceilingOn, totalFloor, totalCeiling}
 use Rattle.session.specs.declared.Session.{Session}
-use Rattle.schedules.specs.declared.Raised.{Raised}
+use Rattle.raising.specs.Raising.{raisedTo}
 
 -- ---- the refusals
 
@@ -32,23 +32,7 @@ totalRefusal s value room =
     (cond (s .spent) 9
     (cond (not (within (totalFloor s) (totalCeiling s) value)) 10 0))
 
--- ---- the schedule, in levels: floors, raised from the last day on
-
--- a day's level where `next` has the following day's and what the sum still lacks: as far above the floor as the sum, the ceiling and the rise
--- to the following day allow; and what the sum lacks then
-unfoldable pub raisedDay : ℕ → ℕ → ℕ → Raised → Raised
-raisedDay floor ceiling rise next =
-    let level : ℕ = max floor (min (floor + next .rest) (min ceiling (next .level + 2000 - rise))) in
-    record { level = level; rest = floor + next .rest - level }
-
--- the m-th day from the end; past the last day stands a level that limits none
-unfoldable pub raisedFrom : List ℕ → List ℕ → List ℕ → ℕ → ℕ → ℕ → Raised
-raisedFrom fs cs rs n rest zero = record { level = 7000; rest = rest }
-raisedFrom fs cs rs n rest (suc m) = raisedDay (at fs (n - suc m)) (at cs (n - suc m)) (at rs (n - suc m)) (raisedFrom fs cs rs n rest m)
-
--- the level of day k, where the floors are raised until the held total is t
-abbrev pub raisedTo : List ℕ → List ℕ → List ℕ → ℕ → ℕ → ℕ → ℕ
-raisedTo fs cs rs n t k = raisedFrom fs cs rs n (t - held n (at fs)) (n - k) .level
+-- ---- the schedule, in levels: floors, raised from the last day on (`raisedTo` of raising)
 
 -- with the total's value: the present floors, raised to it
 unfoldable pub totalLevels : Session → ℤ → ℕ → ℕ

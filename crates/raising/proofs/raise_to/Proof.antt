@@ -3,10 +3,10 @@ use Prim.Native.Nat.{_-_}
 use native.Mathlib.Omega.{arith}
 use Rattle.series.specs.Sum.{at}
 use Rattle.method.specs.Filter.{held}
-use Rattle.schedules.proofs.Laws.{Raising, raising-start, raising-asks, raising-level, raising-turn, raising-end}
+use Rattle.raising.proofs.Laws.{Raising, raising-start, raising-asks, raising-level, raising-turn, raising-end}
 use borrow.Author.Needs.{needs}
-use Rattle.schedules.proofs.raise_to.Statement.{statement}
-use Rattle.schedules.proofs.raise_to.Tie as tie
+use Rattle.raising.proofs.raise_to.Statement.{statement}
+use Rattle.raising.proofs.raise_to.Tie as tie
 
 abbrev Inv-loop : tie.InvT-loop
 Inv-loop floors₀ ceilings rises n total day₀ k₀ floors day k = Raising floors₀ ceilings rises n (total - held n (at floors₀)) floors day k

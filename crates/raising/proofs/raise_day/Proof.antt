@@ -1,8 +1,8 @@
 -- `raise_day` meets its contract: each callee gives a part of the definition.
-use Rattle.schedules.proofs.Laws.{day-is}
+use Rattle.raising.proofs.Laws.{day-is}
 use borrow.Author.Needs.{needs}
-use Rattle.schedules.proofs.raise_day.Statement.{statement}
-use Rattle.schedules.proofs.raise_day.Tie as tie
+use Rattle.raising.proofs.raise_day.Statement.{statement}
+use Rattle.raising.proofs.raise_day.Tie as tie
 
 returns : tie.Need-returns
 returns c = day-is _ _ _ _ (c .before .before .before .most-before .ensures) (c .before .before .least .ensures) (c .before .least2 .ensures) (c .greatest .ensures)

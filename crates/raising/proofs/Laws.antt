@@ -3,14 +3,12 @@ use Prim.Native.Nat.{ℕ, suc, _+_, _-_, _≤_, _<_, min, max}
 use mathlib.Core.Path.{_≡_, refl, ap, sym, _∙_}
 use mathlib.Core.List.{List}
 use native.Mathlib.Omega.{arith}
-use lib.IntN.{ℤ}
 use lib.ListN.{set}
 use Rattle.series.specs.Sum.{at}
-use Rattle.series.specs.Written.{written, written-below, written-same, lastWritten, last-none, last-more, last-before, last-all}
-use Rattle.levels.specs.Code.{lowestPoint, decoded}
+use Rattle.series.specs.Written.{written, written-below, lastWritten, last-none, last-more, last-before, last-all}
 use Rattle.method.specs.Filter.{InBounds, held}
-use Rattle.schedules.specs.Writing.{raisedDay, raisedFrom, raisedTo}
-use Rattle.schedules.specs.declared.Raised.{Raised}
+use Rattle.raising.specs.Raising.{raisedDay, raisedFrom, raisedTo}
+use Rattle.raising.specs.declared.Raised.{Raised}
 
 -- ---- raise_day
 
@@ -103,21 +101,17 @@ module _ {fs cs rs : List ℕ} {n rest : ℕ} where
             left = rw e (omega (arith, day-rest x y z day, p .left));
           }
 
--- ---- write
+-- ---- the raised levels, as they stand in an array
 
 module _ {fs cs rs : List ℕ} {n L U : ℕ} (b : InBounds fs cs rs n L U) where
-  raised-small : (rest k : ℕ) → k < n → raisedFrom fs cs rs n rest (n - k) .level ≤ 5000
-  raised-small rest k h =
+  level-small : (rest k : ℕ) → k < n → raisedFrom fs cs rs n rest (n - k) .level ≤ 5000
+  level-small rest k h =
       rw (raised-at fs cs rs n rest k h)
       (omega (arith, day-level (at fs k) (at cs k) (at rs k) (raisedFrom fs cs rs n rest (n - (k + 1))), b .floor k h, b .ceiling k h))
 
-  -- the raised levels, as they stand in an array
   module _ (t : ℕ) {out : List ℕ} (e : out ≡ written (raisedTo fs cs rs n t) n fs) where
-    stands : (k : ℕ) → k < n → at out k ≡ raisedTo fs cs rs n t k
-    stands k h = rw e (written-below (raisedTo fs cs rs n t) 0 n fs k h (omega (arith, b .floors, b .most)))
+    pub raised-stands : (k : ℕ) → k < n → at out k ≡ raisedTo fs cs rs n t k
+    raised-stands k h = rw e (written-below (raisedTo fs cs rs n t) 0 n fs k h (omega (arith, b .floors, b .most)))
 
-    pub written-small : (k : ℕ) → k < n → at out k ≤ 5000
-    written-small k h = omega (arith, stands k h, raised-small (t - held n (at fs)) k h)
-
-    pub written-shown : (l : List ℤ) → written (λ k. decoded lowestPoint (at out k)) n l ≡ written (λ k. decoded lowestPoint (raisedTo fs cs rs n t k)) n l
-    written-shown l = written-same _ _ n l (λ k h. ap (decoded lowestPoint) (stands k h))
+    pub raised-small : (k : ℕ) → k < n → at out k ≤ 5000
+    raised-small k h = omega (arith, raised-stands k h, level-small (t - held n (at fs)) k h)

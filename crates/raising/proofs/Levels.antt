@@ -10,7 +10,7 @@ use Rattle.chains.specs.Sum.{sum, all, sum-le}
 use Rattle.method.specs.Filter.{held}
 use Rattle.method.specs.Levels.{Levels}
 use Rattle.method.specs.Stages.{Ready}
-use Rattle.schedules.specs.Writing.{raisedDay, raisedFrom, raisedTo}
+use Rattle.raising.specs.Raising.{raisedDay, raisedFrom, raisedTo}
 
 module _ {fs cs rs : List ℕ} {n : ℕ} (r : Ready fs cs rs n) (rest : ℕ) where
   -- the level of the m-th day from the end, and what the sum lacks then
