@@ -26,7 +26,7 @@ module _ (b : List ℕ) (l : Lists) (e : read b l .refusal ≡ 0) where
   pub profile-read : profileOf (read b l) (filled b l) ≡ profileIn b
   unfolding profileIn contents
   profile-read =
-      rw (
+      cc (
         list-filled (read b l .refusal) (floorAt b) (dayCount b) (l .floors) e,
         list-filled (read b l .refusal) (ceilingAt b) (dayCount b) (l .ceilings) e,
         list-filled (read b l .refusal) (riseAt b) (dayCount b - 1) (l .rises) e,
@@ -34,7 +34,7 @@ module _ (b : List ℕ) (l : Lists) (e : read b l .refusal ≡ 0) where
         take-written (floorAt b) (dayCount b) (l .floors) (whole .2 .floors-long),
         take-written (ceilingAt b) (dayCount b) (l .ceilings) (whole .2 .ceilings-long),
         take-written (riseAt b) (dayCount b - 1) (l .rises) (whole .2 .rises-long),
-      ) refl
+      )
 
   pub cuts-read : cutsOf (read b l .sheet) ≡ cutsIn b
   unfolding contents

@@ -42,7 +42,8 @@ cut-encoded s t bytes h =
 follow : (s : Session) (hs : List HandedBytes) → Storable s → (bytesAfter (encoding s) hs ≡ encoding (after s (byValue hs))) × Storable (after s (byValue hs))
 follow s [] h = (refl, h)
 follow s (c ∷ hs) h =
-    rw (cut-encoded s (c .told) (c .bytes) h) (follow (afterTold s (c .told) (c .bytes / 2) .session) hs (told-storable s (c .told) (c .bytes / 2) h))
+    let f = follow (afterTold s (c .told) (c .bytes / 2) .session) hs (told-storable s (c .told) (c .bytes / 2) h) in
+    (ap (λ b. bytesAfter b hs) (cut-encoded s (c .told) (c .bytes) h) ∙ f .0, f .1)
 
 pub sessions-in-bytes : SessionsInBytes
 sessions-in-bytes p z hs =

@@ -18,6 +18,7 @@ use Rattle.session.specs.declared.Session.{Session}
 use Rattle.session.specs.declared.Shown.{Shown}
 use Rattle.session.specs.declared.Opened.{Opened}
 use Rattle.cuts.specs.declared.Cut.{Cut}
+use Rattle.text.specs.Numbers.{number}
 use Rattle.report.specs.declared.Stage.{Stage}
 use Rattle.report.specs.declared.Stage.the-variants.{Passed, Refused}
 use Rattle.report.specs.Stages.{stageOf}
@@ -64,6 +65,11 @@ module _ {l : List ℕ} {place : ℕ} where
           ends = omega (arith, h .ends, e .1, length-append xs rest);
           kept = ap length (e .0) ∙ length-sets out next xs ∙ h .kept;
         }
+
+    -- a number's text, where the number has another name
+    pub left-number : {y z : ℤ} {rest : List ℕ} → y ≡ z → Left l place all out next (number z ++ rest) → (after ≡ sets out next (number y)) × (end ≡ next + length (number y))
+        → Left l place all after end rest
+    left-number {z = z} e h w = left-more (number z) h (rw e at w)
 
     -- the last part
     pub left-none : {xs : List ℕ} → Left l place all out next xs → (after ≡ sets out next xs) × (end ≡ next + length xs) → (after ≡ sets l place all) × (end ≡ place + length all)

@@ -1,3 +1,4 @@
+use Prim.Native.Nat.{_%_}
 use mathlib.Core.Path.{refl}
 use borrow.Author.Tests.{eq-eqb, ne-eqb, lt-ltb, le-ltb}
 use borrow.Author.Needs.{needs}
@@ -15,7 +16,7 @@ returns-2 c = rw (le-ltb _ _ (c .before .before .if1 .left), ← c .before .leng
 
 returns-3 : tie.Need-returns-3
 unfolding lengthsRefusal
-returns-3 c = rw (le-ltb _ _ (c .before .before .before .if1 .left), ← c .before .before .length-refusal .ensures, eq-eqb _ _ (c .before .if2 .left), ne-eqb _ _ (c .if3 .taken)) refl
+returns-3 c = rw (le-ltb _ _ (c .before .before .before .if1 .left), ← c .before .before .length-refusal .ensures, eq-eqb _ _ (c .before .if2 .left), ne-eqb (c .before .before .before .before .args .cuts % 8) 0 (c .if3 .taken)) refl
 
 returns-4 : tie.Need-returns-4
 unfolding lengthsRefusal

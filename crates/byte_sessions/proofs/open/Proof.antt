@@ -17,7 +17,7 @@ returns-2 c = let e = ne-eqb _ _ (c .if2 .taken) in rw (eq-eqb _ _ (c .before .b
 
 returns-3 : tie.Need-returns-3
 unfolding openRefusal openBytes
-returns-3 c = rw (eq-eqb _ _ (c .before .before .before .before .before .if1 .left), ← c .before .before .before .before .length-refusal .ensures, eq-eqb _ _ (c .before .before .before .if2 .left), ← rw (toZ-ofZ (c .before .before .before .before .before .before .before .before .before .before .fits .lowest), toZ-ofZ (c .before .before .before .before .before .before .before .before .before .before .fits .highest)) at (c .before .before .open-lists .ensures), ne-eqb _ _ (c .if3 .taken)) (refl, refl)
+returns-3 c = rw (eq-eqb _ _ (c .before .before .before .before .before .if1 .left), ← c .before .before .before .before .length-refusal .ensures, eq-eqb _ _ (c .before .before .before .if2 .left), ← rw (toZ-ofZ (c .before .before .before .before .before .before .before .before .before .before .fits .lowest), toZ-ofZ (c .before .before .before .before .before .before .before .before .before .before .fits .highest)) at (c .before .before .open-lists .ensures), ne-eqb _ 0 (c .if3 .taken)) (refl, refl)
 
 encode-requires : tie.Need-encode-requires
 encode-requires c κs = (rw (c .before .before .before .open-lists .ensures) (opened-sane _), search needs)

@@ -1,5 +1,6 @@
 use mathlib.Core.List.{_++_}
-use mathlib.Core.Path.{refl}
+use mathlib.Core.Path.{refl, ap, _∙_}
+use lib.Seq.{sets}
 use mir.Facts.{toZ-ofZ}
 use Rattle.little_endian.specs.Fields.{u16Bytes, u32Bytes, i32Bytes}
 use Rattle.profile_file.specs.Format.{header, dayOffset}
@@ -25,7 +26,7 @@ returns c =
     (stored-after l 0 4 (n ++ m) a refl (stored-after l 0 2 n m refl (c .before .before .before .before .before .before .before .before .before .before .before .before .before .before .before .before .before .before .before .before .before .before .put-u16 .ensures) (c .before .before .before .before .before .before .before .before .before .before .before .before .before .before .before .before .before .before .put-u162 .ensures)) (c .before .before .before .before .before .before .before .before .before .before .before .before .before .before .put-u163 .ensures))
     (c .before .before .before .before .before .before .before .before .before .before .put-u164 .ensures))
     (rw (toZ-ofZ (s .fits .lowest)) at (c .before .before .before .before .before .before .put-i32 .ensures)))
-    (rw (toZ-ofZ (s .fits .highest)) at (c .before .before .put-i322 .ensures))
+    (c .before .before .put-i322 .ensures ∙ ap (λ z. sets (c .before .before .before .before .before .before .put-i32 .last .0) 12 (i32Bytes z)) (toZ-ofZ (s .fits .highest)))
 
 pub put-header-spec : {M : Type 1} → statement M
 put-header-spec =

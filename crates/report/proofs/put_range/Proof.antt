@@ -5,7 +5,7 @@ use mir.Facts.{toZ-ofZ}
 use Rattle.text.specs.Numbers.{number}
 use Rattle.report.specs.Printing.{range}
 use Rattle.report.proofs.Lines.{range-parts}
-use Rattle.report.proofs.Laws.{Left, left-all, left-more, left-none, left-room, last-room}
+use Rattle.report.proofs.Laws.{Left, left-all, left-more, left-number, left-none, left-room, last-room}
 use borrow.Author.Needs.{needs}
 use Rattle.report.proofs.put_range.Statement.{statement}
 use Rattle.report.proofs.put_range.Tie as tie
@@ -21,13 +21,13 @@ one : (c : tie.After-put) → Rest (c .before .before .before .before) (c .put .
 one c = left-more (32 ∷ []) (left-all (range-parts (c .before .before .before .before .args .low) (c .before .before .before .before .args .high))) (c .put .ensures)
 
 two : (c : tie.After-put-number) → Rest (c .before .before .before .before .before .before .before .before) (c .put-number .last .0) (c .put-number .result) ((32 ∷ []) ++ highPart (c .before .before .before .before .before .before .before .before))
-two c = left-more (number (c .before .before .before .before .before .before .before .before .args .low)) (one (c .before .before .before .before)) (rw (toZ-ofZ (c .before .before .before .before .before .before .before .before .fits .low)) at (c .put-number .ensures))
+two c = left-number (toZ-ofZ (c .before .before .before .before .before .before .before .before .fits .low)) (one (c .before .before .before .before)) (c .put-number .ensures)
 
 three : (c : tie.After-put2) → Rest (c .before .before .before .before .before .before .before .before .before .before .before .before .before) (c .put2 .last .0) (c .put2 .result) (highPart (c .before .before .before .before .before .before .before .before .before .before .before .before .before))
 three c = left-more (32 ∷ []) (two (c .before .before .before .before .before)) (c .put2 .ensures)
 
 four : (c : tie.After-put-number2) → Rest (c .before .before .before .before .before .before .before .before .before .before .before .before .before .before .before .before .before) (c .put-number2 .last .0) (c .put-number2 .result) (10 ∷ [])
-four c = left-more (number (c .before .before .before .before .before .before .before .before .before .before .before .before .before .before .before .before .before .args .high)) (three (c .before .before .before .before)) (rw (toZ-ofZ (c .before .before .before .before .before .before .before .before .before .before .before .before .before .before .before .before .before .fits .high)) at (c .put-number2 .ensures))
+four c = left-number (toZ-ofZ (c .before .before .before .before .before .before .before .before .before .before .before .before .before .before .before .before .before .fits .high)) (three (c .before .before .before .before)) (c .put-number2 .ensures)
 
 put-number-requires : tie.Need-put-number-requires
 put-number-requires c κs = rw (toZ-ofZ (c .before .before .before .before .before .before .before .fits .low)) (left-room (number (c .before .before .before .before .before .before .before .args .low)) ((32 ∷ []) ++ highPart (c .before .before .before .before .before .before .before)) (one (c .before .before .before)) (c .before .before .before .before .before .before .before .pre))
