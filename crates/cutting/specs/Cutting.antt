@@ -83,6 +83,10 @@ unfoldable pub afterCut : Session → Cut → ℕ → AfterCut
 afterCut s c room = cond (eqb (earlier s c room) 0) (tightenedTo s (retightened s (clipped (s .present) c))) (refusing (earlier s c room) s)
 
 -- the same for a cut told by numbers: an unknown kind is 12
+abbrev pub earlierTold : Session → Told → ℕ → ℕ
+earlierTold s (Known c) room = earlier s c room
+earlierTold s Unknown room = 12
+
 unfoldable pub afterTold : Session → Told → ℕ → AfterCut
 afterTold s (Known c) room = afterCut s c room
 afterTold s Unknown room = refusing 12 s

@@ -15,10 +15,10 @@ use Rattle.session.specs.Showing.{floorOn, ceilingOn}
 use Rattle.session.specs.declared.Session.{Session}
 use Rattle.cuts.specs.declared.Told.{Told}
 use Rattle.changes.specs.Changes.{differs, daysWhere}
-use Rattle.series.specs.Front.{front-at, front-past}
+use Rattle.series.specs.Front.{front-at, front-past, front-length}
 use Rattle.changes.proofs.Days.{at-mem, mem-at, days-where, days-ascend}
 use Rattle.cutting.specs.Cutting.{afterTold, listAfter}
-use Rattle.cutting.proofs.Laws.{accepted-list, told-accepted}
+use Rattle.cutting.proofs.Laws.{Accepted, accepted-list, told-accepted}
 use Rattle.cutting.specs.declared.AfterCut.{AfterCut}
 use Rattle.demands.specs.Demands.{Changes}
 
@@ -50,8 +50,11 @@ module _ (s : Session) (l : List ℕ) (t : Told) (z : afterTold s t (length l) .
   abbrev days : List ℕ
   days = daysWhere test (s .days)
 
+  accepted : Accepted s (length l) r
+  accepted = told-accepted s t (length l) z
+
   count : r .answer .changed ≡ length days
-  count = told-accepted s t (length l) z .counted
+  count = accepted .counted
 
   front : (i : ℕ) → i < r .answer .changed → at (listAfter s r l) i ≡ at days i
   front i h = rw (accepted-list s r l z) (front-at days l i 0 (omega (arith, count)))
@@ -69,4 +72,5 @@ module _ (s : Session) (l : List ℕ) (t : Told) (z : afterTold s t (length l) .
     );
     once = λ i j h m e. omega (arith, days-ascend test (s .days) i j h (omega (arith, count)), front i (omega arith), front j m);
     rest = λ i h. rw (accepted-list s r l z) (front-past days l i 0 (omega (arith, count)));
+    long = rw (accepted-list s r l z) (front-length days l (omega (arith, count, accepted .few, accepted .roomy)));
   }

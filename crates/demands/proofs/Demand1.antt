@@ -36,7 +36,7 @@ malformed-never-8 n (DayCeiling day value) = day-never-8 n day value
 malformed-never-8 n (TotalFloor day value) = total-never-8 day value
 malformed-never-8 n (TotalCeiling day value) = total-never-8 day value
 
-earlier-never-8 : (s : Session) (c : Cut) (room : ℕ) → earlier s c room ≡ 8 → ⊥
+pub earlier-never-8 : (s : Session) (c : Cut) (room : ℕ) → earlier s c room ≡ 8 → ⊥
 unfolding earlier
 earlier-never-8 s c room = go (eqb (malformed (s .days) c) 0) (ltb room (s .days)) (s .spent)
   where

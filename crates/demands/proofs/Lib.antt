@@ -14,3 +14,5 @@ pub mod Reached
 pub mod LooserCuts
 pub mod Inspected
 pub mod Written
+pub mod NoneAtCut
+pub mod Sanity

@@ -29,7 +29,7 @@ use Rattle.demands.proofs.Demand3.{demand-3, same-session}
 use Rattle.demands.proofs.Fold.{known-same}
 use Rattle.demands.proofs.Reached.{after-reached}
 
-after-more : (s : Session) (hs : List Handed) (h : Handed) → after s (hs ++ h ∷ []) ≡ afterTold (after s hs) (h .told) (h .room) .session
+pub after-more : (s : Session) (hs : List Handed) (h : Handed) → after s (hs ++ h ∷ []) ≡ afterTold (after s hs) (h .told) (h .room) .session
 after-more s [] h = refl
 after-more s (g ∷ hs) h = after-more (afterTold s (g .told) (g .room) .session) hs h
 

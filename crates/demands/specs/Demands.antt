@@ -2,19 +2,19 @@
 use mathlib.Core.Path.{_≡_}
 use mathlib.Core.Bool.{true, false}
 use mathlib.Core.Logic.{_↔_}
-use mathlib.Core.List.{List}
+use mathlib.Core.List.{List, [], _∷_, _++_}
 use Prim.Native.Nat.{ℕ, _≤_, _<_}
 use lib.IntN.{ℤ}
 use lib.ListN.{length}
 use Rattle.series.specs.Sum.{at}
 use Rattle.levels.specs.Code.{on}
 use Rattle.session.specs.Profile.{Profile, Schedule, Spans, total}
-use Rattle.session.specs.Showing.{floorOn, ceilingOn, totalFloor, totalCeiling}
+use Rattle.session.specs.Showing.{Sane, floorOn, ceilingOn, totalFloor, totalCeiling}
 use Rattle.session.specs.Opening.{earlier, opened}
 use Rattle.session.specs.declared.Session.{Session}
 use Rattle.cuts.specs.declared.Cut.{Cut}
 use Rattle.cuts.specs.declared.Told.{Told}
-use Rattle.cutting.specs.Cutting.{spend, afterCut, afterTold, listAfter}
+use Rattle.cutting.specs.Cutting.{spend, earlierTold, afterCut, afterTold, listAfter}
 use Rattle.cutting.specs.declared.AfterCut.{AfterCut}
 use Rattle.demands.specs.Cuts.{WellFormed, Looser, Handed, ValidIn, Kept, after}
 
@@ -28,11 +28,12 @@ pub record Leaves (s : Session) (l : List ℕ) (r : AfterCut) : Type 0 where
   pub eight : (r .answer .refusal ≡ 8) ↔ (s .spent ≡ false) × (r .session .spent ≡ true)
 
 -- what an accepted cut answers: the first places of the list, as many as days changed, hold exactly the days whose shown range is another than
--- before, each one time; the rest of the list is as before
+-- before, each one time; the rest of the list is as before, and so is its length
 pub record Changes (s : Session) (l : List ℕ) (r : AfterCut) : Type 0 where
   pub listed : (k : ℕ) → ((i : ℕ) × (i < r .answer .changed) × (at (listAfter s r l) i ≡ k)) ↔ (k < s .days) × ((floorOn s k ≡ floorOn (r .session) k) × (ceilingOn s k ≡ ceilingOn (r .session) k) → ⊥)
   pub once : (i j : ℕ) → i < j → j < r .answer .changed → at (listAfter s r l) i ≡ at (listAfter s r l) j → ⊥
   pub rest : (i : ℕ) → r .answer .changed ≤ i → at (listAfter s r l) i ≡ at l i
+  pub long : length (listAfter s r l) ≡ length l
 
 -- for whatever session, cut and lent list
 pub record Demand1 : Type 0 where
@@ -75,3 +76,18 @@ LooserCuts =
     (p : Profile) → opened p .refusal ≡ 0 → (hs : List Handed) (s : Session) → s ≡ after (opened p .session) hs → s .spent ≡ false
     → (c : Cut) → WellFormed p c → Looser s c → (room : ℕ) → p .days ≤ room
     → afterCut s c room ≡ record { answer = record { refusal = 0; changed = 0 }; session = s }
+
+-- ---- demand 2 at a cut
+
+-- 8 is said exactly where no check before it refuses and no schedule keeps every valid cut of the list and this one
+abbrev pub NoneAtCut : Type 0
+NoneAtCut =
+    (p : Profile) → opened p .refusal ≡ 0 → (hs : List Handed) (s : Session) → s ≡ after (opened p .session) hs → (h : Handed)
+    → (afterTold s (h .told) (h .room) .answer .refusal ≡ 8) ↔ (earlierTold s (h .told) (h .room) ≡ 0) × ((x : List ℤ) → Kept p (hs ++ h ∷ []) x → ⊥)
+
+-- ---- numbers in bounds
+
+-- every session from opening, refused or not, and any list of cuts has its numbers in bounds, which is all that showing, cutting, writing and
+-- inspecting ask of one
+abbrev pub SaneSessions : Type 0
+SaneSessions = (p : Profile) (hs : List Handed) → Sane (after (opened p .session) hs)

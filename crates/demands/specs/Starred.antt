@@ -1,20 +1,22 @@
 -- Document 01's starred profiles, worked by hand there, as one table.
 use mathlib.Core.Path.{_≡_, refl}
 use mathlib.Core.Bool.{cond}
-use mathlib.Core.List.{List, [], _∷_, map}
-use Prim.Native.Nat.{ℕ, zero, suc}
+use mathlib.Core.List.{List, [], _∷_, _++_, map}
+use Prim.Native.Nat.{ℕ, zero, suc, _+_, _-_, min}
 use lib.IntN.{ℤ, pos, negsuc}
-use lib.Dec.{eqb}
+use lib.Dec.{eqb, ltb}
 use lib.ListN.{length}
-use Rattle.series.specs.Sum.{sumFor}
+use Rattle.series.specs.Sum.{sumFor, at}
 use Rattle.series.specs.Written.{written}
 use Rattle.series.specs.First.{firstWhere}
+use Rattle.levels.specs.Code.{lowestPoint, lowestRise, lowestTotal, code}
 use Rattle.chains.specs.Fit.{fitFrom}
 use Rattle.method.specs.Shift.{shiftFrom}
-use Rattle.method.specs.Filter.{tightened, tightCeilings, tightFloors, raised, loweredFrom, carried}
+use Rattle.method.specs.Filter.{tightened, tightCeilings, tightFloors, raised, loweredFrom, carried, forwarded, shifted, held}
+use Rattle.ceilings.specs.Round.{over, rounded, below}
 use Rattle.session.specs.Profile.{Profile}
 use Rattle.session.specs.Showing.{floorOn, ceilingOn, totalFloor, totalCeiling}
-use Rattle.session.specs.Opening.{opened, earlier}
+use Rattle.session.specs.Opening.{opened, earlier, codes}
 use Rattle.session.specs.declared.Session.{Session}
 use Rattle.session.specs.declared.Opened.{Opened}
 use Rattle.cuts.specs.declared.Cut.{Cut}
@@ -33,12 +35,13 @@ abbrev pub _⋯_ : ℕ → ℕ → Range
 a ⋯ b = record { from = pos a; to = pos b }
 
 -- what is answered: a refusal's number, and whether the session is spent; or the total's range and each day's, after a cut with the number
--- of changed days
+-- of changed days; or how many rounds a day's ceiling takes at opening
 pub data Answer : Type 0 where
   refused : ℕ → Answer
   spent : ℕ → Answer
   ranges : Range → List Range → Answer
   changed : ℕ → Range → List Range → Answer
+  takes : ℕ → ℕ → Answer
 
 abbrev totals : Session → Range
 totals s = record { from = totalFloor s; to = totalCeiling s }
@@ -71,17 +74,35 @@ profile ds rs t = record {
   highest = t .to;
 }
 
--- what opening a profile answers, then each cut
-abbrev pub replies : Profile → List Cut → List Answer
-replies p cs = opening (opened p) ∷ answers (opened p .session) cs
+-- the rounds that a day's ceiling v takes after r (document 01): one more while the overload is over the margin, at most as many as there is fuel
+unfoldable pub roundsFrom : (ℕ → ℕ) → ℕ → ℕ → ℕ → ℕ → ℕ → ℕ → ℕ
+roundsFrom a n i margin zero v r = r
+roundsFrom a n i margin (suc fuel) v r = cond (ltb margin (over a n i v)) (roundsFrom a n i margin fuel (rounded a n i margin v) (r + 1)) r
+
+-- the rounds that day i's ceiling takes at opening, over codes: only differences enter a round, so that these are the rounds of the points. The day starts
+-- from the smaller of its own ceiling and the next day's lowered one; each round lowers it, so that it is fuel enough
+abbrev pub roundsOn : Profile → ℕ → ℕ
+roundsOn p i =
+    let n : ℕ = p .days in
+    let rises : List ℕ = codes lowestRise (p .rises) (n - 1) in
+    let floors : List ℕ = forwarded (codes lowestPoint (p .floors) n) rises n in
+    let ceilings : List ℕ = codes lowestPoint (p .ceilings) n in
+    let margin : ℕ = code lowestTotal (p .highest) - held n (at floors) in
+    let start : ℕ = min (loweredFrom floors ceilings rises n margin (n - (i + 1))) (shifted ceilings rises n i) in
+    roundsFrom (shifted floors rises n) n i margin start start 0
+
+-- what opening a profile answers, then each cut, then how many rounds the days take that are asked for
+abbrev pub replies : Profile → List Cut → List ℕ → List Answer
+replies p cs ds = (opening (opened p) ∷ answers (opened p .session) cs) ++ map (λ i. takes i (roundsOn p i)) ds
 
 pub record Row : Type 0 where
   pub given : Profile
   pub cuts : List Cut
+  pub asked : List ℕ
   pub gives : List Answer
 
 abbrev opens : Profile → Answer → Row
-opens p a = record { given = p; cuts = []; gives = a ∷ [] }
+opens p a = record { given = p; cuts = []; asked = []; gives = a ∷ [] }
 
 abbrev A : Profile
 A = profile (2 ⋯ 6 ∷ 4 ⋯ 7 ∷ 4 ⋯ 7 ∷ []) (pos 0 ∷ pos 0 ∷ []) (10 ⋯ 12)
@@ -100,26 +121,33 @@ table =
     ∷ record {
       given = A;
       cuts = DayFloor 0 (pos 3) ∷ TotalCeiling 0 (pos 11) ∷ [];
+      asked = [];
       gives = A-ranges ∷ changed 3 (11 ⋯ 12) (3 ⋯ 4 ∷ 4 ⋯ 4 ∷ 4 ⋯ 5 ∷ []) ∷ changed 2 (11 ⋯ 11) (3 ⋯ 3 ∷ 4 ⋯ 4 ∷ 4 ⋯ 4 ∷ []) ∷ [];
     }
     -- C: the cuts of B in the other order end the same (what the first of them gives, here and in D, document 01 leaves out)
     ∷ record {
       given = A;
       cuts = TotalCeiling 0 (pos 11) ∷ DayFloor 0 (pos 3) ∷ [];
+      asked = [];
       gives = A-ranges ∷ changed 3 (10 ⋯ 11) (2 ⋯ 3 ∷ 4 ⋯ 4 ∷ 4 ⋯ 5 ∷ []) ∷ changed 2 (11 ⋯ 11) (3 ⋯ 3 ∷ 4 ⋯ 4 ∷ 4 ⋯ 4 ∷ []) ∷ [];
     }
     -- D
     ∷ record {
       given = A;
       cuts = TotalCeiling 0 (pos 11) ∷ DayFloor 0 (pos 4) ∷ [];
+      asked = [];
       gives = A-ranges ∷ changed 3 (10 ⋯ 11) (2 ⋯ 3 ∷ 4 ⋯ 4 ∷ 4 ⋯ 5 ∷ []) ∷ spent 8 ∷ [];
     }
     -- E
     ∷ opens (profile (2 ⋯ 6 ∷ 4 ⋯ 7 ∷ 4 ⋯ 7 ∷ 5 ⋯ 7 ∷ 6 ⋯ 9 ∷ 7 ⋯ 9 ∷ []) (pos 0 ∷ pos 0 ∷ pos 0 ∷ pos 0 ∷ pos 0 ∷ []) (28 ⋯ 29))
     (ranges (28 ⋯ 29) (2 ⋯ 3 ∷ 4 ⋯ 4 ∷ 4 ⋯ 5 ∷ 5 ⋯ 6 ∷ 6 ⋯ 7 ∷ 7 ⋯ 8 ∷ []))
-    -- F
-    ∷ opens (profile (1 ⋯ 5 ∷ 4 ⋯ 5 ∷ 6 ⋯ 6 ∷ 6 ⋯ 7 ∷ []) (pos 0 ∷ pos 0 ∷ pos 0 ∷ []) (17 ⋯ 18))
-    (ranges (17 ⋯ 18) (1 ⋯ 2 ∷ 4 ⋯ 5 ∷ 6 ⋯ 6 ∷ 6 ⋯ 7 ∷ []))
+    -- F: day 0 takes two rounds
+    ∷ record {
+      given = profile (1 ⋯ 5 ∷ 4 ⋯ 5 ∷ 6 ⋯ 6 ∷ 6 ⋯ 7 ∷ []) (pos 0 ∷ pos 0 ∷ pos 0 ∷ []) (17 ⋯ 18);
+      cuts = [];
+      asked = 0 ∷ [];
+      gives = ranges (17 ⋯ 18) (1 ⋯ 2 ∷ 4 ⋯ 5 ∷ 6 ⋯ 6 ∷ 6 ⋯ 7 ∷ []) ∷ takes 0 2 ∷ [];
+    }
     -- G
     ∷ opens (profile (0 ⋯ 5 ∷ 0 ⋯ 5 ∷ []) flat (9 ⋯ 10)) (ranges (9 ⋯ 10) (4 ⋯ 5 ∷ 5 ⋯ 5 ∷ []))
     -- H
@@ -131,6 +159,6 @@ table =
     ∷ opens (profile (5 ⋯ 9 ∷ 0 ⋯ 4 ∷ []) (negsuc 0 ∷ []) (0 ⋯ 20)) (ranges (9 ⋯ 9) (5 ⋯ 5 ∷ 4 ⋯ 4 ∷ []))
     ∷ []
 
-pub starred : map (λ (r : Row). replies (r .given) (r .cuts)) table ≡ map (λ (r : Row). r .gives) table
-unfolding opened earlier tightened tightCeilings tightFloors raised loweredFrom firstWhere carried written sumFor fitFrom shiftFrom afterCut earlierCut clipped daysWhere
+pub starred : map (λ (r : Row). replies (r .given) (r .cuts) (r .asked)) table ≡ map (λ (r : Row). r .gives) table
+unfolding roundsFrom rounded below opened earlier tightened tightCeilings tightFloors raised loweredFrom firstWhere carried written sumFor fitFrom shiftFrom afterCut earlierCut clipped daysWhere
 starred = refl

@@ -4,7 +4,7 @@ use mathlib.Core.Bool.{cond}
 use lib.Dec.{eqb}
 use Rattle.inspection.specs.declared.Inspection.{Inspection}
 use Rattle.inspection.specs.declared.Inspection.the-variants.{WrongLength, Spent, Kept, BrokenDay, BrokenRise, BrokenTotal}
-use Rattle.inspection.specs.Inspecting.{Finding, finding}
+use Rattle.inspection.specs.Inspecting.{Finding, finding, FindingOne}
 
 abbrev answer : Finding → Inspection
 answer f =
@@ -22,5 +22,5 @@ answer-back (BrokenDay day) = refl
 answer-back (BrokenRise rise) = refl
 answer-back BrokenTotal = refl
 
-pub finding-one : (a b : Inspection) → finding a ≡ finding b → a ≡ b
+pub finding-one : FindingOne
 finding-one a b e = sym (answer-back a) ∙ ap answer e ∙ answer-back b

@@ -1,4 +1,5 @@
 -- Document 01: inspecting a schedule that somebody wrote.
+use mathlib.Core.Path.{_≡_}
 use mathlib.Core.Bool.{Bool, cond, not}
 use mathlib.Core.List.{List}
 use Prim.Native.Nat.{ℕ, _+_, _-_}
@@ -46,7 +47,7 @@ kept = record { refusal = 0; rule = 0; place = 0 }
 abbrev pub broken : ℕ → ℕ → Finding
 broken rule place = record { refusal = 0; rule = rule; place = place }
 
--- what each case of the answer says; no two say the same
+-- what each case of the answer says
 abbrev pub finding : Inspection → Finding
 finding WrongLength = refused 2
 finding Spent = refused 9
@@ -54,6 +55,10 @@ finding Kept = kept
 finding (BrokenDay day) = broken 1 day
 finding (BrokenRise rise) = broken 2 rise
 finding BrokenTotal = broken 3 0
+
+-- no two say the same
+abbrev pub FindingOne : Type 0
+FindingOne = (a b : Inspection) → finding a ≡ finding b → a ≡ b
 
 -- ---- inspecting
 

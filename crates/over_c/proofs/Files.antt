@@ -1,25 +1,28 @@
--- What is written over C is what the writer by value writes; it is read again as the same lists, and what was read is written back.
-use mathlib.Core.Path.{_≡_, refl, sym, ap, _∙_}
+-- What is written over C is what the writer by value writes; it is read again as the same lists, and what was read is written back. `listsIn` are the
+-- lists of a file's own bytes; what the reader stores in lent lists is found to be these.
+use mathlib.Core.Path.{_≡_, refl, sym, ap, _∙_, subst}
+use mathlib.Core.Bool.{Bool, true, false, cond}
 use mathlib.Core.List.{List}
-use Prim.Native.Nat.{ℕ, _+_, _-_, _*_, _/_, _<_}
+use Prim.Native.Nat.{ℕ, _+_, _-_, _*_, _/_, _≤_, _<_}
 use native.Mathlib.Nat.{add-assoc}
 use native.Mathlib.Omega.{arith}
 use lib.IntN.{ℤ, pos}
-use lib.ListN.{length, drop, length-drop}
-use lib.Seq.{getD-drop}
-use borrow.Author.Tests.{le-ltb}
+use lib.Dec.{eqb}
+use lib.ListN.{length, take, drop, length-drop}
+use lib.Seq.{getD-drop, take-at}
+use borrow.Author.Tests.{eq-eqb, ne-eqb, le-ltb}
 use mir.Syntax.{w16}
 use mir.Val.{SFits}
 use mir.Facts.{sfits-toZ}
 use Rattle.series.specs.Checks.{then-zero}
 use Rattle.series.specs.First.{firstNonzero, nonzero-none, nonzero-same}
 use Rattle.series.specs.Front.{inFront}
-use Rattle.series.specs.ListOf.{listOf, length-listOf, get-listOf, listOf-same}
-use Rattle.series.specs.Part.{part-rows, part-row, part-all, part-same}
+use Rattle.series.specs.ListOf.{listOf, get-listOf, listOf-same}
+use Rattle.series.specs.Part.{part-rows, part-all, part-same}
 use Rattle.series.specs.Rows.{rows, rows-same, length-rows}
 use Rattle.levels.specs.Code.{on}
 use Rattle.little_endian.specs.Fields.{Bytes, u16At, u32At, i16At, i32At, i16Bytes}
-use Rattle.little_endian.proofs.Laws.{u16-most, i16-length, i16-read, i16-part}
+use Rattle.little_endian.proofs.Laws.{u16-most, i16-length, i16-part}
 use Rattle.session.specs.Profile.{Profile}
 use Rattle.session.specs.Opening as Opening
 use Rattle.cuts.specs.declared.Cut.the-variants.{DayFloor}
@@ -27,7 +30,8 @@ use Rattle.cuts.specs.declared.Told.{Told}
 use Rattle.cuts.specs.declared.Told.the-variants.{Known, Unknown}
 use Rattle.cuts.specs.Sheet.{cutOn}
 use Rattle.cutting.specs.Cutting.{malformed}
-use Rattle.profile_file.specs.Format.{dayOffset, fileLength, dayCount, cutCount, floorAt, ceilingAt, riseAt, cutAt, toldAt, known, profileIn, cutsIn, file}
+use Rattle.profile_file.specs.Format as Format
+use Rattle.profile_file.specs.Format.{dayOffset, fileLength, dayCount, cutCount, totalFloor, totalCeiling, floorAt, ceilingAt, riseAt, toldAt, known, cutsIn, file}
 use Rattle.profile_file.specs.Reading as Reading
 use Rattle.profile_file.specs.Writing.{earlier, refusal}
 use Rattle.profile_file.proofs.Parts.{file-cuts}
@@ -35,11 +39,14 @@ use Rattle.profile_file.proofs.Taken.{taken}
 use Rattle.profile_file.proofs.RoundTrip.{reads-again, written-back}
 use Rattle.file_writer.specs.Writing as ByValue
 use Rattle.file_writer.proofs.Laws.{answered, written-front, written-file}
-use Rattle.byte_lists.specs.Lists.{pointAt, pointsIn, pointBytes}
-use Rattle.byte_lists.specs.Profiles.{profileOf}
+use Rattle.byte_lists.specs.Lists.{pointAt, pointsIn, pointBytes, lentPoints}
+use Rattle.byte_lists.proofs.Laws.{points-left, points-filled}
+use Rattle.byte_files.specs.declared.Contents.{Contents}
+use Rattle.byte_files.specs.Reading.{noRoom, readRefusal, refusedContents, contentsOf, readInto, cutsLent}
 use Rattle.byte_files.specs.Writing.{toldRefusal, cutsOf, lengthsRefusal, earlierOver, refusalOver, writeOver, outputOver}
 use Rattle.byte_files.proofs.Writing.{Sized, sized, length-cuts, cuts-back}
-use Rattle.over_c.specs.FilesInBytes.{Lists, listsIn, write, output, written, ReadAgain, WrittenBack, FilesInBytes}
+use Rattle.over_c.specs.FilesInBytes.{Lists, write, output, written, profileIn, Lent, readOver, filledOver, readLists, Roomy, ReadAgain, WrittenBack, FilesInBytes}
+use Rattle.over_c.proofs.Points.{points-long, points-read}
 
 told-formed : (n : ℕ) (t : Told) → toldRefusal n t ≡ 0 → malformed n (known t) ≡ 0
 told-formed n (Known c) e = e
@@ -60,9 +67,18 @@ points-back {m} {n} xs f bytes long e same =
     ∙ part-same (rows row m) (omega (arith, length-rows row 2 m (λ k h. i16-length (pointAt xs k))))
     (part-rows row 2 m (λ k h. i16-length (pointAt xs k)) (λ k h. let z : 0 + k * 2 ≡ k * 2 = omega arith in rw z (i16-part bytes (k * 2))))
 
-counted : (f : List ℕ) → cutCount f ≡ length (cutsIn f)
-unfolding cutsIn
-counted f = sym (length-listOf (λ j. known (cutAt f j)) (cutCount f))
+-- the lists that stand in a file
+abbrev listsIn : List ℕ → Lists
+listsIn f =
+    record {
+      days = dayCount f;
+      floors = pointBytes (floorAt f) (dayCount f);
+      ceilings = pointBytes (ceilingAt f) (dayCount f);
+      rises = pointBytes (riseAt f) (dayCount f - 1);
+      lowest = totalFloor f;
+      highest = totalCeiling f;
+      cuts = drop (dayOffset (dayCount f)) f;
+    }
 
 module _ (l : Lists) where
   abbrev n : ℕ
@@ -73,7 +89,7 @@ module _ (l : Lists) where
 
   -- the profile by value
   abbrev p : Profile
-  p = profileOf n (l .floors) (l .ceilings) (l .rises) (l .lowest) (l .highest)
+  p = profileIn l
 
   -- the file by value
   abbrev whole : List ℕ
@@ -118,7 +134,7 @@ module _ (l : Lists) where
     taken-by-value = rw (by-value checked, length-cuts b) (then-zero early _ none .1)
 
     -- what is written is what the writer by value writes
-    pub written-by-value : (write l out ≡ ByValue.writeAnswer p (cutsOf b) (length out)) × (output l out ≡ ByValue.output p (cutsOf b) out)
+    written-by-value : (write l out ≡ ByValue.writeAnswer p (cutsOf b) (length out)) × (output l out ≡ ByValue.output p (cutsOf b) out)
     unfolding writeOver ByValue.writeAnswer outputOver ByValue.output
     written-by-value = (rw (none, taken-by-value, length-cuts b) refl, rw (none, taken-by-value) refl)
 
@@ -133,9 +149,12 @@ module _ (l : Lists) where
 
     -- ---- read again
 
-    again : Bytes (l .floors) → Bytes (l .ceilings) → Bytes (l .rises) → Bytes b → ReadAgain l (written l out)
-    unfolding profileIn
-    again bf bc br bb =
+    taken-again : Reading.earlier (written l out) ≡ 0
+    taken-again = rw at-front (reads-again p (cutsOf b) (by-value checked) .taken)
+
+    lists-again : Bytes (l .floors) → Bytes (l .ceilings) → Bytes (l .rises) → Bytes b → listsIn (written l out) ≡ l
+    unfolding Format.profileIn
+    lists-again bf bc br bb =
         let r = reads-again p (cutsOf b) (by-value checked) in
         let long = checked .size .lists in
         let days : dayCount whole ≡ n = ap (λ (q : Profile). q .days) (r .profile) in
@@ -144,22 +163,9 @@ module _ (l : Lists) where
         let rises : listsIn whole .rises ≡ l .rises = points-back (l .rises) _ br (long .rises-long) (ap (λ m. m - 1) days) (ap (λ (q : Profile). q .rises) (r .profile)) in
         let cuts : listsIn whole .cuts ≡ b = rw days (file-cuts p (cutsOf b) ∙ cuts-back b n bb (checked .cuts) (checked .size .whole)) in
         rw at-front
-        (record {
-          taken = r .taken;
-          lists = rw (floors, ceilings, rises, cuts, days, ap (λ (q : Profile). q .lowest) (r .profile), ap (λ (q : Profile). q .highest) (r .profile)) refl;
-          count = counted whole ∙ ap length (r .cuts) ∙ length-cuts b;
-        })
+        (rw (floors, ceilings, rises, cuts, days, ap (λ (q : Profile). q .lowest) (r .profile), ap (λ (q : Profile). q .highest) (r .profile)) refl)
 
 -- ---- written back
-
--- points, read from their bytes
-points-read : (n : ℕ) (f : ℕ → ℤ) → ((k : ℕ) → SFits w16 (f k)) → pointsIn (pointBytes f n) n ≡ listOf f n
-unfolding pointsIn pointBytes
-points-read n f fits =
-    let xs : List ℕ = rows (λ k. i16Bytes (f k)) n in
-    listOf-same (pointAt xs) f n
-    (λ k h. let z : 0 + k * 2 ≡ k * 2 = omega arith in
-    i16-read (f k) (fits k) (rw z at (part-row (λ j. i16Bytes (f j)) 2 n (λ j u. i16-length (f j)) (part-all xs) k h)))
 
 module _ (d : ℕ) (f : List ℕ) where
   u16-drop : (i : ℕ) → u16At (drop d f) i ≡ u16At f (d + i)
@@ -176,13 +182,16 @@ module _ (f : List ℕ) (bytes : Bytes f) (e : Reading.earlier f ≡ 0) where
   unfolding i16At
   fits i = sfits-toZ (record { fits = u16-most bytes i })
 
-  profile-read : p (listsIn f) ≡ profileIn f
-  unfolding profileIn
+  points-same : (g : ℕ → ℤ) (n : ℕ) → ((k : ℕ) → SFits w16 (g k)) → pointsIn (pointBytes g n) n ≡ listOf g n
+  points-same g n small = points-read g n (λ k h. small k) (part-all (pointBytes g n))
+
+  profile-read : p (listsIn f) ≡ Format.profileIn f
+  unfolding Format.profileIn
   profile-read =
       rw (
-        points-read (dayCount f) (floorAt f) (λ k. fits (dayOffset k)),
-        points-read (dayCount f) (ceilingAt f) (λ k. fits (dayOffset k + 2)),
-        points-read (dayCount f - 1) (riseAt f) (λ k. fits (dayOffset k + 4)),
+        points-same (floorAt f) (dayCount f) (λ k. fits (dayOffset k)),
+        points-same (ceilingAt f) (dayCount f) (λ k. fits (dayOffset k + 2)),
+        points-same (riseAt f) (dayCount f - 1) (λ k. fits (dayOffset k + 4)),
       ) refl
 
   cuts-read : cutsOf (listsIn f .cuts) ≡ cutsIn f
@@ -194,8 +203,104 @@ module _ (f : List ℕ) (bytes : Bytes f) (e : Reading.earlier f ≡ 0) where
   file-read : whole (listsIn f) ≡ f
   file-read = rw (profile-read, cuts-read) (written-back f bytes e)
 
-  back : (out : List ℕ) → write (listsIn f) out .refusal ≡ 0 → WrittenBack f out
-  back out w = record { same = at-front (listsIn f) out w ∙ file-read; rest = in-front (listsIn f) out w ∙ ap (λ xs. inFront xs out) file-read }
+-- ---- what the reader stores in lent lists
+
+front : (xs l : List ℕ) (m : ℕ) → length xs ≡ m → take m (inFront xs l) ≡ xs
+unfolding inFront
+front xs l m e = take-at xs (drop (length xs) l) m e
+
+points-found : (r : ℕ) (g : ℕ → ℤ) (n : ℕ) (l : List ℕ) → r ≡ 0 → take (n * 2) (lentPoints r g n l) ≡ pointBytes g n
+points-found r g n l z = rw (points-filled r g n l z) (front (pointBytes g n) l (n * 2) (points-long g n))
+
+answered-zero : (number : ℕ) (c : Contents) → cond (eqb number 0) c (refusedContents number) .refusal ≡ 0 → c .refusal ≡ 0 → number ≡ 0
+answered-zero number c e z = then-zero number (c .refusal) (go (eqb number 0) e) .0
+  where
+    go : (b : Bool) → cond b c (refusedContents number) .refusal ≡ 0 → cond b (c .refusal) number ≡ 0
+    go true e = e
+    go false e = e
+
+module _ (f : List ℕ) (t : Lent) where
+  abbrev number : ℕ
+  number = readRefusal f (length (t .floors)) (length (t .ceilings)) (length (t .rises)) (length (t .cuts))
+
+  -- the answer where nothing is refused
+  contents : number ≡ 0 → readOver f t ≡ contentsOf f
+  unfolding readInto
+  contents z = rw (eq-eqb number 0 z) refl
+
+  module _ (e : readOver f t .refusal ≡ 0) where
+    unrefused : number ≡ 0
+    unfolding readInto
+    unrefused = answered-zero number (contentsOf f) e refl
+
+    early-none : Reading.earlier f ≡ 0
+    unfolding readRefusal
+    early-none = then-zero (Reading.earlier f) _ unrefused .0
+
+    cuts-found : take (cutCount f * 8) (cutsLent (readOver f t .refusal) f (t .cuts)) ≡ drop (dayOffset (dayCount f)) f
+    unfolding cutsLent
+    cuts-found =
+        rw (eq-eqb (readOver f t .refusal) 0 e)
+        (front (drop (dayOffset (dayCount f)) f) (t .cuts) (cutCount f * 8) (length-drop (dayOffset (dayCount f)) f ∙ omega (arith, taken f early-none .whole)))
+
+    lists-found : readLists f t ≡ listsIn f
+    lists-found =
+        let c = contents unrefused in
+        let n : readOver f t .days ≡ dayCount f = ap (λ (r : Contents). r .days) c in
+        let m : readOver f t .cuts ≡ cutCount f = ap (λ (r : Contents). r .cuts) c in
+        let lo = ap (λ (r : Contents). r .lowest) c in
+        let hi = ap (λ (r : Contents). r .highest) c in
+        rw (
+          n,
+          m,
+          lo,
+          hi,
+          points-found _ (floorAt f) (dayCount f) (t .floors) e,
+          points-found _ (ceilingAt f) (dayCount f) (t .ceilings) e,
+          points-found _ (riseAt f) (dayCount f - 1) (t .rises) e,
+          cuts-found,
+        ) refl
+
+  left : (readOver f t .refusal ≡ 0 → ⊥) → filledOver f t ≡ t
+  unfolding cutsLent
+  left h = rw (points-left _ _ _ (t .floors) h, points-left _ _ _ (t .ceilings) h, points-left _ _ _ (t .rises) h, ne-eqb (readOver f t .refusal) 0 h) refl
+
+-- lists long enough are not refused
+room : (n m a b c d : ℕ) → n * 2 ≤ a → n * 2 ≤ b → (n - 1) * 2 ≤ c → m * 8 ≤ d → noRoom n m a b c d ≡ false
+room n m a b c d p q r s = rw (le-ltb (a / 2) n (omega arith), le-ltb (b / 2) n (omega arith), le-ltb (c / 2) (n - 1) (omega arith), le-ltb d (m * 8) s) refl
+
+roomy-taken : (f : List ℕ) (t : Lent) → Reading.earlier f ≡ 0 → Roomy (listsIn f) t → readOver f t .refusal ≡ 0
+unfolding readInto readRefusal
+roomy-taken f t e r =
+    let z = room (dayCount f) (cutCount f) (length (t .floors)) (length (t .ceilings)) (length (t .rises)) (length (t .cuts))
+    (omega (arith, r .floors, points-long (floorAt f) (dayCount f))) (omega (arith, r .ceilings, points-long (ceilingAt f) (dayCount f)))
+    (omega (arith, r .rises, points-long (riseAt f) (dayCount f - 1))) (omega (arith, r .cuts, length-drop (dayOffset (dayCount f)) f, taken f e .whole)) in
+    rw (e, z) refl
+
+-- ---- all of it
+
+output-left : (l : Lists) (out : List ℕ) → (write l out .refusal ≡ 0 → ⊥) → output l out ≡ out
+unfolding writeOver outputOver
+output-left l out h =
+    let number = refusalOver (l .days) (l .floors) (l .ceilings) (l .rises) (l .lowest) (l .highest) (l .cuts) (length out) in
+    rw (ne-eqb number 0 (λ z. h (answered number (fileLength (l .days) (length (l .cuts) / 8)) ∙ z))) refl
+
+again : (l : Lists) (out : List ℕ) (t : Lent) → Bytes (l .floors) → Bytes (l .ceilings) → Bytes (l .rises) → Bytes (l .cuts) → write l out .refusal ≡ 0 → Roomy l t
+    → ReadAgain l (written l out) t
+again l out t bf bc br bb e r =
+    let same = lists-again l out e bf bc br bb in
+    let z = roomy-taken (written l out) t (taken-again l out e) (rw same r) in
+    record { taken = z; lists = lists-found (written l out) t z ∙ same }
+
+back : (f out : List ℕ) (t : Lent) → Bytes f → readOver f t .refusal ≡ 0 → write (readLists f t) out .refusal ≡ 0 → WrittenBack f out t
+back f out t bytes e w =
+    let same = lists-found f t e in
+    let v = subst (λ (x : Lists). write x out .refusal ≡ 0) same w in
+    let file = file-read f bytes (early-none f t e) in
+    record {
+      same = ap (λ (x : Lists). written x out) same ∙ at-front (listsIn f) out v ∙ file;
+      rest = ap (λ (x : Lists). output x out) same ∙ in-front (listsIn f) out v ∙ ap (λ xs. inFront xs out) file;
+    }
 
 pub files-in-bytes : FilesInBytes
-files-in-bytes = record { again = λ l out bf bc br bb e. again l out e bf bc br bb; back = λ f out bytes e. back f bytes e out }
+files-in-bytes = record { refused = record { writing = output-left; reading = left }; again = again; back = back; by-value = written-by-value }

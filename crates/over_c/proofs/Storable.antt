@@ -25,7 +25,7 @@ use Rattle.cutting.proofs.Laws.{passed, accepted, refused-same, clipped-in-boun
 use Rattle.demands.proofs.Clip.{well-formed, clipped-past}
 use Rattle.demands.proofs.Demand2.{unrefused}
 use Rattle.demands.specs.Schedules.{presentProfile}
-use Rattle.session_bytes.proofs.Inverse.{Padded, Storable}
+use Rattle.session_bytes.specs.Storing.{Padded, Storable}
 
 codes-padded : (low : ℤ) (zs : List ℤ) (m n : ℕ) → m ≤ n → Padded n (codes low zs m)
 codes-padded low zs m n h k u l = written-past (λ j. code low (on zs j)) 0 m zeros k (omega arith) ∙ getD-replicate {A = ℕ} 512 k 0 0 l

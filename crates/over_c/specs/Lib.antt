@@ -1,2 +1,4 @@
 pub mod InBytes
+pub mod DemandsInBytes
+pub mod SchedulesInBytes
 pub mod FilesInBytes

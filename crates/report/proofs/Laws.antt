@@ -21,7 +21,7 @@ use Rattle.cuts.specs.declared.Cut.{Cut}
 use Rattle.text.specs.Numbers.{number}
 use Rattle.report.specs.declared.Stage.{Stage}
 use Rattle.report.specs.declared.Stage.the-variants.{Passed, Refused}
-use Rattle.report.specs.Stages.{stageOf}
+use Rattle.report.specs.Stages.{stageOf, numberOf}
 use Rattle.report.specs.Printing.{cutOnce, cutAll, dayLine}
 use Rattle.report.proofs.Lines.{all-none, all-more}
 
@@ -115,9 +115,16 @@ module _ {stage : Stage} (n : ℕ) (e : stage ≡ stageOf n) where
   pub stage-passed : stage ≡ Passed → n ≡ 0
   stage-passed p = go (eqb n 0) (eqb-true n 0) (sym e ∙ p)
     where
-      go : (b : Bool) → (b ≡ true → n ≡ 0) → cond b Passed Refused ≡ Passed → n ≡ 0
+      go : (b : Bool) → (b ≡ true → n ≡ 0) → cond b Passed (Refused n) ≡ Passed → n ≡ 0
       go true h q = h refl
       go false h q = absurd (let z : _≡_ {A = ℕ} 0 1 = cc in omega arith)
 
-  pub stage-refused : stage ≡ Refused → n ≡ 0 → ⊥
+  pub stage-refused : {number : ℕ} → stage ≡ Refused number → n ≡ 0 → ⊥
   stage-refused p z = let q : stageOf n ≡ Passed = rw (eq-eqb n 0 z) refl in let w : _≡_ {A = ℕ} 0 1 = cc in omega arith
+
+  pub stage-number : numberOf stage ≡ n
+  stage-number = rw e (go (eqb n 0) (eqb-true n 0))
+    where
+      go : (b : Bool) → (b ≡ true → n ≡ 0) → numberOf (cond b Passed (Refused n)) ≡ n
+      go true h = sym (h refl)
+      go false h = refl

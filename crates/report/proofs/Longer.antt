@@ -11,7 +11,7 @@ use Rattle.little_endian.specs.Fields.{u16At}
 use Rattle.profile_file.specs.Format.{fileLength, dayCount, cutCount}
 use Rattle.profile_file.proofs.Taken.{counted}
 use Rattle.profile_file.specs.Reading.{badCounts, badLayout, badFields, earlier}
-use Rattle.report.specs.Printing.{printed, refusedLine}
+use Rattle.report.specs.Printing.{printed, refusedLine, PrintedLong}
 use Rattle.report.proofs.Lines.{read-refused}
 
 -- 1 for the counts, else 11 for the length
@@ -41,7 +41,7 @@ long-printed b h =
     read-refused b (some-number (badCounts b) e) ∙ ap refusedLine e
 
 -- so many bytes of a longer file are enough
-pub printed-long : (b : List ℕ) → 7184 < length b → printed (take 7185 b) ≡ printed b
+pub printed-long : PrintedLong
 printed-long b h =
     let few = length-take-le 7185 b h in
     let same : badCounts (take 7185 b) ≡ badCounts b = rw (field-same b 7185 0 (omega arith), field-same b 7185 2 (omega arith)) refl in

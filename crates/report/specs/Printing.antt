@@ -1,10 +1,11 @@
 -- Document 01: what the program `ranges` prints for a file.
+use mathlib.Core.Path.{_≡_}
 use mathlib.Core.Bool.{cond}
 use mathlib.Core.List.{List, [], _∷_, _++_}
-use Prim.Native.Nat.{ℕ, zero, suc}
+use Prim.Native.Nat.{ℕ, zero, suc, _<_}
 use lib.IntN.{ℤ}
 use lib.Dec.{eqb}
-use lib.ListN.{length}
+use lib.ListN.{length, take}
 use Rattle.series.specs.Rows.{rows}
 use Rattle.text.specs.Numbers.{decimal, number}
 use Rattle.session.specs.Opening.{opened, refusedWith}
@@ -60,3 +61,7 @@ answerText o = cond (eqb (o .refusal) 0) (rangesText (o .session)) (refusedLine 
 
 unfoldable pub printed : List ℕ → List ℕ
 printed b = answerText (fileOpened b)
+
+-- of an input longer than the longest file, 7,184 bytes, the first 7,185 bytes tell what is printed
+abbrev pub PrintedLong : Type 0
+PrintedLong = (b : List ℕ) → 7184 < length b → printed (take 7185 b) ≡ printed b

@@ -1,4 +1,4 @@
--- Whether a stage has refused. A reader may pass this page over.
+-- A stage's answer by its refusal's number, and the number of an answer. A reader may pass this page over.
 use mathlib.Core.Bool.{cond}
 use Prim.Native.Nat.{ℕ}
 use lib.Dec.{eqb}
@@ -6,4 +6,8 @@ use Rattle.report.specs.declared.Stage.{Stage}
 use Rattle.report.specs.declared.Stage.the-variants.{Passed, Refused}
 
 abbrev pub stageOf : ℕ → Stage
-stageOf refusal = cond (eqb refusal 0) Passed Refused
+stageOf refusal = cond (eqb refusal 0) Passed (Refused refusal)
+
+abbrev pub numberOf : Stage → ℕ
+numberOf Passed = 0
+numberOf (Refused number) = number

@@ -10,15 +10,15 @@ ghost use Rattle.session.specs.Opening.{opened, profile};
 ghost use Rattle.session.specs.Showing.{Sane};
 ghost use Rattle.cuts.specs.Sheet.{blank};
 ghost use Rattle.report.specs.Printing.{cutOnce, cutAll, range, totalLine, dayLine, refusedLine, rangesText, printed};
-ghost use Rattle.report.specs.Stages.{stageOf};
+ghost use Rattle.report.specs.Stages.{stageOf, numberOf};
 use cuts::Entry;
 use session::Opened;
 use session::Session;
 
-// Whether a stage has refused.
+// A stage's answer: that it passed, or the number of its refusal.
 enum Stage {
     Passed,
-    Refused,
+    Refused(u8),
 }
 
 fn stage_of(refusal: u8) -> Stage
@@ -27,7 +27,17 @@ fn stage_of(refusal: u8) -> Stage
     if refusal == 0 {
         return Stage::Passed;
     }
-    Stage::Refused
+    Stage::Refused(refusal)
+}
+
+// The refusal's number, 0 for none.
+fn number_of(stage: Stage) -> u8
+    ensures { λ r. ⌜ r ≡ numberOf stage ⌝ }
+{
+    let Stage::Refused(number) = stage else {
+        return 0;
+    };
+    number
 }
 
 // ---- the cuts
@@ -36,13 +46,13 @@ fn cut_once(opened: Opened, entry: Entry) -> Opened
     requires { ⌜ Sane (opened .session) ⌝ }
     ensures { λ r. ⌜ (r ≡ cutOnce opened (entry .cut)) × Sane (r .session) ⌝ }
 {
-    if opened.refusal != 0 {
+    let Stage::Passed = stage_of(opened.refusal) else {
         return opened;
-    }
+    };
     let session = opened.session;
     let cut = entry.cut;
     let mut changed = [0u16; 512];
-    let after = cutting::cut(session, cut, &mut changed);
+    let after = batch::cut_held(session, cut, &mut changed);
     let answer = after.answer;
     let session = after.session;
     Opened {
@@ -179,8 +189,9 @@ pub fn print_ranges(file: &[u8], out: &mut [u8; 10262]) -> usize
     let mut ceilings = [0i16; 512];
     let mut rises = [0i16; 511];
     let read = file_reader::read(file, &mut floors, &mut ceilings, &mut rises);
-    let Stage::Passed = stage_of(read.refusal) else {
-        return put_refusal(read.refusal, out);
+    let reading = stage_of(read.refusal);
+    let Stage::Passed = reading else {
+        return put_refusal(number_of(reading), out);
     };
     let opened = open_read(
         read.days,
@@ -190,14 +201,16 @@ pub fn print_ranges(file: &[u8], out: &mut [u8; 10262]) -> usize
         read.lowest,
         read.highest,
     );
-    let Stage::Passed = stage_of(opened.refusal) else {
-        return put_refusal(opened.refusal, out);
+    let opening = stage_of(opened.refusal);
+    let Stage::Passed = opening else {
+        return put_refusal(number_of(opening), out);
     };
     let sheet = read.sheet;
     let entries = sheet.entries;
     let after = cut_all(opened, sheet.count, entries);
-    let Stage::Passed = stage_of(after.refusal) else {
-        return put_refusal(after.refusal, out);
+    let cutting = stage_of(after.refusal);
+    let Stage::Passed = cutting else {
+        return put_refusal(number_of(cutting), out);
     };
     let session = after.session;
     put_ranges(session, out)

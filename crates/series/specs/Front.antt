@@ -3,7 +3,7 @@ use Prim.Native.Nat.{ℕ, _+_, _-_, _≤_, _<_}
 use mathlib.Core.Path.{_≡_, _∙_}
 use mathlib.Core.List.{List, _++_}
 use native.Mathlib.Omega.{arith}
-use lib.ListN.{length, drop, getD, List·getD-append}
+use lib.ListN.{length, drop, getD, length-append, length-drop, List·getD-append}
 use lib.Seq.{getD-append-add, getD-drop}
 
 -- a list with xs written at its front, and its rest as before
@@ -20,3 +20,7 @@ module _ {A : Type 0} (xs l : List A) (i : ℕ) (d : A) where
   front-past h =
       let e : length xs + (i - length xs) ≡ i = omega arith in
       rw e at (getD-append-add xs (drop (length xs) l) (i - length xs) d ∙ getD-drop (length xs) l (i - length xs) d)
+
+pub front-length : {A : Type 0} (xs l : List A) → length xs ≤ length l → length (inFront xs l) ≡ length l
+unfolding inFront
+front-length xs l h = omega (arith, length-append xs (drop (length xs) l), length-drop (length xs) l)

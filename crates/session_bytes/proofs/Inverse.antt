@@ -14,7 +14,7 @@ use Rattle.levels.specs.Code.{lowestTotal, highestTotal, within, code, decoded}
 use Rattle.levels.proofs.Laws.{total-less, decoded-less, within-yes, code-decoded, total-most}
 use Rattle.method.specs.Filter.{zeros}
 use Rattle.little_endian.specs.Fields.{u16At, i32At, u16Bytes, i32Bytes}
-use Rattle.session.specs.Showing.{Fits, Sane}
+use Rattle.session.specs.Showing.{Fits}
 use Rattle.session.specs.declared.Ranges.{Ranges}
 use Rattle.session.specs.declared.Session.{Session}
 use mir.Syntax.{w32}
@@ -25,6 +25,7 @@ use Rattle.levels.proofs.Casts.{less-fits}
 use Rattle.little_endian.proofs.Laws.{u16-length, i32-length, u16-read, i32-read}
 use Rattle.byte_lists.specs.Lists.{cellBytes}
 use Rattle.session_bytes.proofs.Lengths.{totals-length, block-length}
+use Rattle.session_bytes.specs.Storing.{DecodingSane, Padded, Storable, DecodingEncoding}
 use Rattle.session_bytes.specs.Layout.{encoding, blockBytes, totalBytes, cellsAt, totalAt, rangesAt, daysAt, decoding}
 
 -- ---- in bounds
@@ -61,22 +62,11 @@ fits b totals place =
       highest = total-small b (totals + 4);
     }
 
-pub decoding-sane : (b : List ℕ) → Sane (decoding b)
+pub decoding-sane : DecodingSane
 unfolding decoding
 decoding-sane b = record { opened = fits b 4 1044; present = fits b 12 3092 }
 
 -- ---- what was encoded
-
--- cells past the last day are 0
-abbrev pub Padded : ℕ → List ℕ → Type 0
-Padded n cells = (k : ℕ) → n ≤ k → k < 512 → at cells k ≡ 0
-
--- a session that encoding keeps: its numbers are in bounds, and past the last day stands 0
-pub record Storable (s : Session) : Type 0 where
-  pub sane : Sane s
-  pub rises : Padded (s .days) (s .rises)
-  pub opened : Padded (s .days) (s .opened .floors) × Padded (s .days) (s .opened .ceilings)
-  pub present : Padded (s .days) (s .present .floors) × Padded (s .days) (s .present .ceilings)
 
 module _ {b : List ℕ} where
   total-read : {i : ℕ} (t : ℕ) → t ≤ 2560000 → Part b i (i32Bytes (decoded lowestTotal t)) → totalAt b i ≡ t
@@ -185,7 +175,7 @@ module _ (s : Session) where
       }
 
 -- what was encoded is decoded
-pub decoding-encoding : (s : Session) → Storable s → decoding (encoding s) ≡ s
+pub decoding-encoding : DecodingEncoding
 unfolding decoding
 decoding-encoding s h =
     let z = h .sane .opened in
