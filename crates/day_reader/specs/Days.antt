@@ -6,6 +6,7 @@ use Rattle.little_endian.specs.Fields.{i16At}
 use Rattle.day_reader.specs.declared.Day.{Day}
 use Rattle.day_reader.specs.declared.DayReader.{DayReader}
 use Rattle.day_reader.specs.declared.DayStep.{DayStep}
+use Rattle.day_reader.specs.declared.Taken.{Taken}
 
 -- the day that begins at a place
 abbrev pub dayAt : List ℕ → ℕ → Day
@@ -14,3 +15,7 @@ dayAt b i = record { floor = i16At b i; ceiling = i16At b (i + 2); rise = i16At 
 -- the day at a reader's place, and the reader moved on past it
 abbrev pub stepOf : DayReader → DayStep
 stepOf r = record { day = dayAt (now (r .bytes)) (r .at); next = record { bytes = r .bytes; at = r .at + 6 } }
+
+-- the day that begins at a place, and where the next begins
+abbrev pub takenAt : List ℕ → ℕ → Taken
+takenAt b i = record { day = dayAt b i; next = i + 6 }

@@ -4,14 +4,23 @@ ghost use Prim.Native.Nat.{_+_, _-_, _≤_, _<_};
 ghost use lib.ListN.{length, set};
 ghost use Rattle.series.specs.Written.{written};
 ghost use Rattle.profile_file.specs.Format.{dayOffset, floorAt, ceilingAt, riseAt};
-ghost use Rattle.day_reader.specs.Days.{dayAt, stepOf};
+ghost use Rattle.day_reader.specs.Days.{dayAt, stepOf, takenAt};
 use little_endian::i16_at;
+
+// Where the first day begins.
+const DAYS_OFFSET: usize = 16;
 
 // A day's floor and ceiling, and the rise to the next day.
 struct Day {
     floor: i16,
     ceiling: i16,
     rise: i16,
+}
+
+// A day that was read, and where the next begins.
+struct Taken {
+    day: Day,
+    next: usize,
 }
 
 // A file's bytes, and where the next day begins.
@@ -53,21 +62,16 @@ fn next<'a>(r: DayReader<'a>) -> DayStep<'a>
     }
 }
 
-// The day that begins at a place, by a reader. Callers see no reader.
-fn day_from(bytes: &[u8], at: usize) -> Day
+// The day that begins at a place, and where its reader says that the next begins. Callers see no reader.
+fn day_from(bytes: &[u8], at: usize) -> Taken
     requires { ⌜ at + 6 ≤ length (now bytes) ⌝ }
-    ensures { λ r. ⌜ r ≡ dayAt (now (bytes .entry)) at ⌝ }
+    ensures { λ r. ⌜ r ≡ takenAt (now (bytes .entry)) at ⌝ }
 {
     let step = next(DayReader { bytes, at });
-    step.day
-}
-
-fn kth_day(bytes: &[u8], k: usize) -> Day
-    requires { ⌜ dayOffset (k + 1) ≤ length (now bytes) ⌝ }
-    ensures { λ r. ⌜ r ≡ dayAt (now (bytes .entry)) (dayOffset k) ⌝ }
-{
-    let at = 16 + k * 6;
-    day_from(bytes, at)
+    Taken {
+        day: step.day,
+        next: step.next.at,
+    }
 }
 
 fn store_range(day: Day, k: usize, floors: &mut [i16], ceilings: &mut [i16])
@@ -81,16 +85,28 @@ fn store_range(day: Day, k: usize, floors: &mut [i16], ceilings: &mut [i16])
     ceilings[k] = ceiling;
 }
 
-fn store_day(bytes: &[u8], k: usize, floors: &mut [i16], ceilings: &mut [i16], rises: &mut [i16])
-    requires { ⌜ (dayOffset (k + 1) ≤ length (now bytes)) × (k < length (now floors)) × (k < length (now ceilings)) × (k < length (now rises)) ⌝ }
-    ensures { λ r. ⌜ now (floors .exit) ≡ set (now (floors .entry)) k (floorAt (now (bytes .entry)) k) ⌝ }
-    ensures { λ r. ⌜ now (ceilings .exit) ≡ set (now (ceilings .entry)) k (ceilingAt (now (bytes .entry)) k) ⌝ }
-    ensures { λ r. ⌜ now (rises .exit) ≡ set (now (rises .entry)) k (riseAt (now (bytes .entry)) k) ⌝ }
+// Stores the day that begins at a place as day k. Returns where the next begins.
+fn store_day(
+    bytes: &[u8],
+    at: usize,
+    k: usize,
+    floors: &mut [i16],
+    ceilings: &mut [i16],
+    rises: &mut [i16],
+) -> usize
+    requires { ⌜ (at + 6 ≤ length (now bytes)) × (k < length (now floors)) × (k < length (now ceilings)) × (k < length (now rises)) ⌝ }
+    ensures { λ r. ⌜ r ≡ at + 6 ⌝ }
+    ensures { λ r. ⌜ now (floors .exit) ≡ set (now (floors .entry)) k (dayAt (now (bytes .entry)) at .floor) ⌝ }
+    ensures { λ r. ⌜ now (ceilings .exit) ≡ set (now (ceilings .entry)) k (dayAt (now (bytes .entry)) at .ceiling) ⌝ }
+    ensures { λ r. ⌜ now (rises .exit) ≡ set (now (rises .entry)) k (dayAt (now (bytes .entry)) at .rise) ⌝ }
 {
-    let day = kth_day(bytes, k);
+    let taken = day_from(bytes, at);
+    let day = taken.day;
+    let next = taken.next;
     let rise = day.rise;
     store_range(day, k, floors, ceilings);
     rises[k] = rise;
+    next
 }
 
 // Stores each day's floor and ceiling, and the rise to the next day.
@@ -107,10 +123,13 @@ pub fn store_days(
     ensures { λ r. ⌜ now (rises .exit) ≡ written (riseAt (now (bytes .entry))) (days - 1) (now (rises .entry)) ⌝ }
 {
     let last = days - 1;
+    let mut at = DAYS_OFFSET;
     let mut k = 0;
     while k < last {
-        store_day(bytes, k, floors, ceilings, rises);
+        at = store_day(bytes, at, k, floors, ceilings, rises);
         k += 1;
     }
-    store_range(kth_day(bytes, last), last, floors, ceilings);
+    let taken = day_from(bytes, at);
+    let day = taken.day;
+    store_range(day, last, floors, ceilings);
 }

@@ -1,4 +1,4 @@
--- `file_reader::day_from` meets its contract: a walk of its MIR, by hand. A reader is made of the slice and the number in a local and passed to `next`, and the day of what that returns is the result. All that the proof knows of `next` is that it meets its contract.
+-- `day_reader::day_from` meets its contract: a walk of its MIR, by hand. A reader is made of the slice and the number in a local and passed to `next`; the day of what that returns and the number of its reader are the result. All that the proof knows of `next` is that it meets its contract.
 -- A `&[u8]` is Copy: what it owns is had twice, once inside the reader that is passed, and once for the exit. In a local of a body MIR erases the lifetime of a struct's type, so the values there are shown to have the types at `erased`.
 -- Assumes nothing.
 use mathlib.Core.Path.{_≡_, refl, ap}
@@ -40,16 +40,19 @@ use denote.Triple.Table.{entered, cited}
 use denote.Triple.Walked.{says, needs, Stays, stay-none, stay-none-slice, walkOf, goes-none, goes-none-slice, Walks, ends-at, walked, walk-meets}
 use denote.Exit.{yes}
 use denote.Triple.Clauses.{ensured, lasts}
-use Rattle.day_reader.specs.Days.{dayAt, stepOf}
+use Rattle.day_reader.specs.Days.{stepOf, takenAt}
 use Rattle.day_reader.specs.declared.DayReader.{DayReader}
 use Rattle.day_reader.specs.declared.Day.{Day}
 use Rattle.day_reader.specs.declared.DayStep.{DayStep}
+use Rattle.day_reader.specs.declared.Taken.{Taken}
 use Rattle.day_reader.proofs.DayReader as T
 use Rattle.day_reader.proofs.DayReader.Laws as T′
 use Rattle.day_reader.proofs.Day as R
 use Rattle.day_reader.proofs.Day.Laws as R′
 use Rattle.day_reader.proofs.DayStep as P
 use Rattle.day_reader.proofs.DayStep.Laws as P′
+use Rattle.day_reader.proofs.Taken as Q
+use Rattle.day_reader.proofs.Taken.Laws as Q′
 use Rattle.day_reader.proofs.next as callee
 use Rattle.day_reader.proofs.next.Symbol as callee-def
 use Rattle.day_reader.proofs.next.Symbol.{name as #day-reader·next}
@@ -66,9 +69,16 @@ B κs = T.the-row (namedLft 1 0 tt κs)
 abbrev stayed : Stays (self.ended .signature .params) (self.ended .kept)
 stayed = (stay-none-slice (0 ∷ []) tt (plain (λ _. u8)) yes, (stay-none (λ _. usize) yes, tt))
 
--- a day's machine value
-abbrev rval : Day → Val
-rval r = LL.val R.the-type R′.the-laws r
+-- the machine values of a day and of the result
+abbrev dval : Day → Val
+dval r = LL.val R.the-type R′.the-laws r
+
+abbrev rval : Taken → Val
+rval r = LL.val Q.the-type Q′.the-laws r
+
+-- of a step, the day and where the next begins
+abbrev taken : DayStep → Taken
+taken t = record { day = t .day; next = t .next .at }
 
 module _ {M : Type 1} (𝓤 : URA M) (H : Heap 𝓤) (A : Atoms 𝓤) (mem : Memory → SProp 𝓤) (run : Routine → Fun 𝓤) where
   -- the contract that the proof cites
@@ -118,35 +128,43 @@ module _ {M : Type 1} (𝓤 : URA M) (H : Heap 𝓤) (A : Atoms 𝓤) (W : Given
   said : (t : DayStep) → ent 𝓤 (ensured 𝓤 H A callee.ended (callee.clauses 𝓤 H A mem run) (κ, tt) (d, tt) tt t) (fact 𝓤 (t ≡ stepOf d))
   said t = exE 𝓤 _ (λ ws. snd∗ 𝓤 (sem 𝓤 H A (lasts callee.ended (κ, tt) (d, tt) ws)) (fact 𝓤 (t ≡ stepOf d)))
 
-  -- what the result of the callee shows of its day
-  day-is : (t : DayStep) (u : Val) → Is (P.the-row α) t (u ∷ []) → Is R.the-row (t .day) (rval (t .day) ∷ [])
+  -- what the result of the callee shows of its day, of its reader's number, and so of the result
+  day-is : (t : DayStep) (u : Val) → Is (P.the-row α) t (u ∷ []) → Is R.the-row (t .day) (dval (t .day) ∷ [])
   day-is t u is = LL.owed (P.the-type α) (P′.the-laws α) t _ is .0
 
-  exits : (r : Day) → r ≡ dayAt (now s) n → Is R.the-row r (rval r ∷ []) → ent 𝓤 (⋆ 𝓤 H A ((‵ (flft κ q) ⊛ ‵ ftrue) ∷ ‵ Own ∷ [])) (Post (rval r))
+  next-fits : (t : DayStep) (u : Val) → Is (P.the-row α) t (u ∷ []) → t .next .at < 2 ^ 64
+  next-fits t u is = LL.owed (T.the-type α) (T′.the-laws α) (t .next) _ (LL.owed (P.the-type α) (P′.the-laws α) t _ is .1 .0) .1 .0 .1
+
+  taken-is : (t : DayStep) (u : Val) → Is (P.the-row α) t (u ∷ []) → Is Q.the-row (taken t) (rval (taken t) ∷ [])
+  taken-is t u is = LL.owes Q.the-type Q′.the-laws (taken t) (day-is t u is, ((refl, next-fits t u is), tt))
+
+  exits : (r : Taken) → r ≡ takenAt (now s) n → Is Q.the-row r (rval r ∷ []) → ent 𝓤 (⋆ 𝓤 H A ((‵ (flft κ q) ⊛ ‵ ftrue) ∷ ‵ Own ∷ [])) (Post (rval r))
   exits r e gr =
       qed W ((‵ (flft κ q) ⊛ ‵ ftrue) ∷ ‵ Own ∷ []) ∵
       suffices ! _ (ends-at 𝓤 H A self.ended stayed (self.clauses 𝓤 H A mem run) W (((κ, tt), (q, tt), tt, (s, (n, tt)), at), tt) (rval r) r (tt, (tt, tt)) (tt, (tt, tt))) $ says ! e $
       frame ! $ nothing ! $ owned ! usize (Is usize) (uint-makes 𝓤 H A W w64) n _ (refl, fits) $ fjoin ! $ move ! (1 ∷ 0 ∷ []) $ fjoin ! $ frame ! $
-      owned ! R.the-row (Is R.the-row) (LL.makes R.the-type R′.the-plain 𝓤 H A) r _ gr $ done !
+      owned ! Q.the-row (Is Q.the-row) (LL.makes Q.the-type Q′.the-plain 𝓤 H A) r _ gr $ done !
 
   module _ (C : Calls 𝓤 H) (Λ : Loops 𝓤 H) (fm : FmC 𝓤 H (W .laws) C) (known : Triple 𝓤 (C #day-reader·next) (Callee 𝓤 H A mem run)) where
     walk : Is (ShrSlice (named 0) κ u8) s (v ∷ []) → ent 𝓤 (onEntry 𝓤 H A self.signature (κ, tt) (q, tt) (s, (n, tt)) at) (WpFn 𝓤 H C Λ code.function (v ∷ vint w64 n ∷ []) Post)
     walk p =
         qed W (raw (onEntry 𝓤 H A self.signature (κ, tt) (q, tt) (s, (n, tt)) at) ∷ []) ∵ enter ! C Λ code.function (v ∷ vint w64 n ∷ []) _ $
-        alloc1 ! (λ l₀. alloc1 ! (λ l₁. alloc1 ! (λ l₂. alloc1 ! (λ l₃. alloc1 ! (λ l₄. alloc0 ! $ params1 ! $ pass1 ! (init ! 6 refl (shr-slice-lawful 𝓤 H A W (named 0) κ u8 .typed s _ p .0)) $ pass1 ! (init ! 4 refl (tt, record { fits = fits })) $ pass0 ! $
-        assigns ! (agg ! (and-then ! (load ! (from ! (stop !)) (look ! 6 refl)) (and-then ! (load ! (from ! (stop !)) (look ! 4 refl)) (no-more !)))) (from ! (stop !)) (init ! 0 refl (tt, (shr-slice-lawful 𝓤 H A W (named 0) κ u8 .typed s _ p .0 .1, (record { fits = fits }, tt)))) $
-        move ! (10 ∷ []) $ use1 W (raw (Callee 𝓤 H A mem run .pre to) ⊛ ‵ Own) apart $ split ! $
-        -- [what the callee asks; what bytes owns; _4; …; _3; …; _2; …; _1; …; room for _0; …]
-        calls-at ! fm (Callee 𝓤 H A mem run) known to (and-then ! (load ! (from ! (stop !)) (look ! 2 refl)) (no-more !)) (λ u.
+        alloc1 ! (λ l₀. alloc1 ! (λ l₁. alloc1 ! (λ l₂. alloc1 ! (λ l₃. alloc1 ! (λ l₄. alloc1 ! (λ l₅. alloc1 ! (λ l₆. alloc0 ! $ params1 ! $ pass1 ! (init ! 10 refl (shr-slice-lawful 𝓤 H A W (named 0) κ u8 .typed s _ p .0)) $ pass1 ! (init ! 8 refl (tt, record { fits = fits })) $ pass0 ! $
+        assigns ! (agg ! (and-then ! (load ! (from ! (stop !)) (look ! 10 refl)) (and-then ! (load ! (from ! (stop !)) (look ! 8 refl)) (no-more !)))) (from ! (stop !)) (init ! 4 refl (tt, (shr-slice-lawful 𝓤 H A W (named 0) κ u8 .typed s _ p .0 .1, (record { fits = fits }, tt)))) $
+        move ! (14 ∷ []) $ use1 W (raw (Callee 𝓤 H A mem run .pre to) ⊛ ‵ Own) apart $ split ! $
+        -- [what the callee asks; what bytes owns; _6; …; _5; …; _4; …; _3; …; _2; …; _1; …; room for _0; …]
+        calls-at ! fm (Callee 𝓤 H A mem run) known to (and-then ! (load ! (from ! (stop !)) (look ! 6 refl)) (no-more !)) (λ u.
         use1 W (later (some (λ (t : DayStep). ((‵ (flft κ q) ⊛ ‵ ftrue) ⊛ ‵ (P.the-row α .own t (u ∷ []))) ⊛ raw (ensured 𝓤 H A callee.ended (callee.clauses 𝓤 H A mem run) (κ, tt) (d, tt) tt t)))) (id⊢ 𝓤 _) $ await ! tt $ pick ! (λ t.
         split ! $ move ! (1 ∷ []) $ use1 W (raw (fact 𝓤 (t ≡ stepOf d))) (said t) $ heard ! (t ≡ stepOf d) (λ e. split ! $ move ! (1 ∷ []) $
         peeks ! (P.the-row α) (Is (P.the-row α)) (shows 𝓤 H A (P.the-row α)) t (u ∷ []) (λ is. drop ! $
-        -- [the token; what bytes owns; _4; …; _3; …; _2; …; _1; …; room for _0; …]
-        land ! (from ! (stop !)) (init ! 4 refl (LL.lawful (P.the-type αᵉ) (P′.the-laws αᵉ) 𝓤 H A W .typed t _ is .0)) $ rewrite ! 4 (λ (w : Val). ‵ (fat fullShare (P′.mir erased) l₃ 0 w)) (ap only (LL.tells (P.the-type α) (P′.the-laws α) t _ is)) refl $
-        assigns ! (of-opd ! (load ! (from ! (fld ! refl (stop !))) (look-in ! 4 (sub ! 0 refl (whole !))))) (from ! (stop !)) (init ! 10 refl (LL.lawful R.the-type R′.the-laws 𝓤 H A W .typed (t .day) _ (day-is t u is) .0)) $
-        returns ! (look ! 10 refl) $ forget ! 2 refl $ forget ! 4 refl $ forget ! 6 refl $ forget ! 8 refl $ forget ! 10 refl $
-        move ! (10 ∷ 11 ∷ []) $ free1 ! $ move ! (8 ∷ 9 ∷ []) $ free1 ! $ move ! (6 ∷ 7 ∷ []) $ free1 ! $ move ! (4 ∷ 5 ∷ []) $ free1 ! $ move ! (2 ∷ 3 ∷ []) $ free1 ! $ free0 ! $
-        by ! (exits (t .day) (ap (λ (x : DayStep). x .day) e) (day-is t u is)))))))))))
+        -- [the token; what bytes owns; _6; …; _5; …; _4; …; _3; …; _2; …; _1; …; room for _0; …]
+        land ! (from ! (stop !)) (init ! 8 refl (LL.lawful (P.the-type αᵉ) (P′.the-laws αᵉ) 𝓤 H A W .typed t _ is .0)) $ rewrite ! 8 (λ (w : Val). ‵ (fat fullShare (P′.mir erased) l₃ 0 w)) (ap only (LL.tells (P.the-type α) (P′.the-laws α) t _ is)) refl $
+        assigns ! (of-opd ! (load ! (from ! (fld ! refl (stop !))) (look-in ! 8 (sub ! 0 refl (whole !))))) (from ! (stop !)) (init ! 4 refl (LL.lawful R.the-type R′.the-laws 𝓤 H A W .typed (t .day) _ (day-is t u is) .0)) $
+        assigns ! (of-opd ! (load ! (from ! (fld ! refl (fld ! refl (stop !)))) (look-in ! 8 (sub ! 1 refl (sub ! 1 refl (whole !)))))) (from ! (stop !)) (init ! 2 refl (tt, record { fits = next-fits t u is })) $
+        assigns ! (agg ! (and-then ! (load ! (from ! (stop !)) (look ! 4 refl)) (and-then ! (load ! (from ! (stop !)) (look ! 2 refl)) (no-more !)))) (from ! (stop !)) (init ! 14 refl (LL.lawful Q.the-type Q′.the-laws 𝓤 H A W .typed (taken t) _ (taken-is t u is) .0)) $
+        returns ! (look ! 14 refl) $ forget ! 2 refl $ forget ! 4 refl $ forget ! 6 refl $ forget ! 8 refl $ forget ! 10 refl $ forget ! 12 refl $ forget ! 14 refl $
+        move ! (14 ∷ 15 ∷ []) $ free1 ! $ move ! (12 ∷ 13 ∷ []) $ free1 ! $ move ! (10 ∷ 11 ∷ []) $ free1 ! $ move ! (8 ∷ 9 ∷ []) $ free1 ! $ move ! (6 ∷ 7 ∷ []) $ free1 ! $ move ! (4 ∷ 5 ∷ []) $ free1 ! $ move ! (2 ∷ 3 ∷ []) $ free1 ! $ free0 ! $
+        by ! (exits (taken t) (ap taken e) (taken-is t u is)))))))))))))
 
 module _ {M : Type 1} (𝓤 : URA M) (H : Heap 𝓤) (A : Atoms 𝓤) (W : Given 𝓤 H A) (mem : Memory → SProp 𝓤) (run : Routine → Fun 𝓤) where
   walks : (C : Calls 𝓤 H) (Λ : Loops 𝓤 H) → FmC 𝓤 H (W .laws) C → Triple 𝓤 (C #day-reader·next) (Callee 𝓤 H A mem run)

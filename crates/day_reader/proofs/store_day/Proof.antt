@@ -1,11 +1,18 @@
 use mir.Syntax.{w16}
 use mir.Facts.{toZ-ofZ}
+use mathlib.Core.Path.{ap}
+use native.Mathlib.Omega.{arith}
 use borrow.Author.Needs.{sfits-of, needs}
+use Rattle.day_reader.specs.declared.Taken.{Taken}
 use Rattle.day_reader.proofs.store_day.Statement.{statement}
 use Rattle.day_reader.proofs.store_day.Tie as tie
 
 returns : tie.Need-returns
-returns c = (rw (c .before .before .before .before .before .before .kth-day .ensures) at (c .before .before .store-range .ensures .0), (rw (c .before .before .before .before .before .before .kth-day .ensures) at (c .before .before .store-range .ensures .1), rw (toZ-ofZ {w = w16} {z = c .before .before .before .before .before .before .kth-day .result .rise} (sfits-of (c .before .before .before .before .before .struct-told .given .1 .1 .0 .1)), c .before .before .before .before .before .before .kth-day .ensures)))
+returns c =
+    let p = c .before .before .before .before .before .before .before in
+    let e = p .day-from .ensures in
+    let stored = c .before .before .store-range .ensures in
+    (omega (arith, ap (λ (t : Taken). t .next) e), (rw e at (stored .0), (rw e at (stored .1), rw (toZ-ofZ {w = w16} {z = p .day-from .result .day .rise} (sfits-of (c .before .before .before .before .before .struct-told .given .1 .1 .0 .1)), e))))
 
 pub store-day-spec : {M : Type 1} → statement M
 store-day-spec =
