@@ -243,6 +243,11 @@ class Errors(InFolder):
         for command in (("make", huge, "-"), ("text", huge), ("chart", huge, "-"), ("explain", huge)):
             self.assertEqual(self.assert_error(*command, says=says), says)
 
+    def test_an_endless_file(self):
+        says = "/dev/zero: this is too long for a profile: it has over 1,048,576 bytes\n"
+        done = run_in_shell("ulimit -v 1000000; profile make /dev/zero -", self.folder)
+        self.assertEqual(done, (REFUSED, "", says))
+
     def test_the_longest_text_that_is_read(self):
         text = ALE_TEXT.read_bytes()
         comment = b"#" * (MOST_BYTES - len(text))

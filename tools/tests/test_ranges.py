@@ -108,6 +108,10 @@ class RangesCommand(unittest.TestCase):
         self.write_script("rt", FAILING_RT)
         self.assertEqual(self.run_ranges(), (2, "", FAILED))
 
+    def test_a_folder_that_cannot_be_made(self):
+        (self.root / "target").touch()
+        self.assertEqual(self.run_ranges()[:2], (2, ""))
+
     def test_input_is_opened_before_anything_is_proved(self):
         status, output, errors = self.run_ranges("missing")
         self.assertEqual((status, output), (2, ""))
