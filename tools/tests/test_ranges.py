@@ -112,11 +112,20 @@ class RangesCommand(unittest.TestCase):
         (self.root / "target").touch()
         self.assertEqual(self.run_ranges()[:2], (2, ""))
 
-    def test_input_is_opened_before_anything_is_proved(self):
-        status, output, errors = self.run_ranges("missing")
-        self.assertEqual((status, output), (2, ""))
-        self.assertTrue(errors.endswith("missing: No such file or directory\n"), errors)
-        self.assertNotIn("proving", errors)
+    def test_input_and_output_are_opened_before_anything_is_proved(self):
+        for words, status, says in (
+            ("missing", 2, "missing: No such file or directory"),
+            (".", 2, "ranges: the input is a directory"),
+            ("<.", 2, "ranges: the input is a directory"),
+            ("<&-", 2, "ranges: standard input is closed"),
+            (">&-", 3, "ranges: standard output is closed"),
+        ):
+            with self.subTest(words):
+                command = ["bash", "-c", f"./ranges {words}"]
+                done = subprocess.run(command, cwd=self.root, capture_output=True, timeout=60)
+                self.assertEqual((done.returncode, done.stdout), (status, b""))
+                self.assertTrue(done.stderr.decode().endswith(f"{says}\n"), done.stderr)
+                self.assertNotIn(b"proving", done.stderr)
 
     def test_names(self):
         self.run_ranges()
