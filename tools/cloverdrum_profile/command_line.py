@@ -7,6 +7,7 @@ from textwrap import indent
 from .chart import draw
 from .explanation import Unexplained, ask, explain
 from .file_format import decode, encode
+from .files import InputError, LongError, OutputError, input_name, output_name, read, would_replace, write
 from .program import ProgramError
 from .refusals import Refused
 from .text_form import TextError, format_text, parse_text
@@ -27,78 +28,87 @@ usage:
   tools/profile explain FILE      says what `ranges` answers for a profile file, and why
 
 - in place of a name stands for standard input or standard output.
+Exit status: 0 done; 1 the text or the file is refused; 2 wrong use, input that
+can't be read, or no answer from `ranges`; 3 output that can't be written.
 The text has degrees Celsius, and anything after # is a comment:
 
 {indent(EXAMPLE, "  ")}"""
 
 
+class UsageError(Exception):
+    """A command that is not to be run."""
+
+
 def main(arguments: list[str]) -> int:
-    """Runs one command and gives the exit status: 1 for a refusal or an error, 2 for a wrong command."""
+    """Runs one command and gives the exit status."""
     try:
         return _run(arguments)
-    except BrokenPipeError:  # whoever reads our output has seen enough
-        return 1
-    except OSError as error:
-        print(f"{error.filename or 'standard input or output'}: {error.strerror}", file=sys.stderr)
-    except (ProgramError, Refused, TextError, Unexplained) as error:
-        print(error, file=sys.stderr)
-    return 1
+    except (Refused, TextError, LongError) as error:
+        return _fail(1, error)
+    except (UsageError, InputError, ProgramError, Unexplained) as error:
+        return _fail(2, error)
+    except OutputError as error:
+        return _fail(3, error)
+    except BrokenPipeError:
+        return 3
+
+
+def _fail(status: int, error: Exception) -> int:
+    print(error, file=sys.stderr)
+    return status
 
 
 def _run(arguments: list[str]) -> int:
     match arguments:
         case ["make", text, file]:
-            _write(file, encode(parse_text(_read_text(text), _name(text))))
+            _keep_input(text, file)
+            write(file, encode(parse_text(_read_text(text), input_name(text))))
         case ["text", file]:
-            _write("-", format_text(decode(_read_profile(file))).encode())
+            write("-", format_text(decode(_read_profile(file))).encode())
         case ["chart", file, svg]:
-            _write(svg, draw(ask(_read_profile(file)), Path(_name(file)).stem).encode())
+            _keep_input(file, svg)
+            write(svg, draw(ask(_read_profile(file)), _title(file)).encode())
         case ["explain", file]:
             return _explain(file)
         case ["-h" | "--help"]:
-            _write("-", USAGE.encode())
+            write("-", USAGE.encode())
         case _:
-            print(USAGE, end="", file=sys.stderr)
-            return 2
+            raise UsageError(USAGE.rstrip())
     return 0
 
 
 def _explain(file: str) -> int:
     try:
-        _write("-", explain(ask(_read_profile(file))).encode())
+        write("-", explain(ask(_read_profile(file))).encode())
     except Refused as refused:
-        _write("-", f"{refused}\n".encode())
+        write("-", f"{refused}\n".encode())
         return 1
     return 0
 
 
-def _name(path: str) -> str:
-    return "standard input" if path == "-" else path
+def _title(file: str) -> str:
+    return "standard input" if file == "-" else Path(file).stem
 
 
-def _read(path: str) -> bytes:
-    return sys.stdin.buffer.read() if path == "-" else Path(path).read_bytes()
+def _keep_input(source: str, target: str) -> None:
+    if would_replace(source, target):
+        raise UsageError(f"{output_name(target)} is the input itself: name another file for the output")
 
 
 def _read_profile(path: str) -> bytes:
     """The bytes of a profile file. Two letters would count over 8,000 days, so that a text is told by them."""
-    data = _read(path)
+    data = read(path)
     if len(data) >= 2 and all(byte in b"\t\n\r" or 32 <= byte < 127 for byte in data[:2]):
-        raise TextError(f"{_name(path)}: this is a text: tools/profile make makes a profile file of it")
+        raise TextError(f"{input_name(path)}: this is a text: tools/profile make makes a profile file of it")
     return data
 
 
 def _read_text(path: str) -> str:
+    data = read(path)
     try:
-        return _read(path).decode("utf-8-sig")
+        text = data.decode("utf-8-sig")
     except UnicodeDecodeError as error:
-        raise TextError(f"{_name(path)}: this is not a text: byte {error.start} is not UTF-8") from error
-
-
-def _write(path: str, data: bytes) -> None:
-    if path != "-":
-        Path(path).write_bytes(data)
-        return
-    # Closed here, and not when Python ends, so that an error is met in time.
-    with open(sys.stdout.fileno(), "wb", closefd=False) as output:
-        output.write(data)
+        raise TextError(f"{input_name(path)}: this is not a text: byte {error.start} is not UTF-8") from error
+    if b"\0" in data:
+        raise TextError(f"{input_name(path)}: this is not a text: byte {data.index(0)} is 0")
+    return text

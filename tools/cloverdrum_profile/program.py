@@ -7,6 +7,8 @@ from typing import NamedTuple
 from .model import Range
 
 RANGES = Path(__file__).resolve().parents[2] / "ranges"
+ANSWERED = (0, 1)
+"""The exit statuses beside ranges and beside a refusal."""
 
 
 class ProgramError(Exception):
@@ -21,12 +23,12 @@ class Ranges(NamedTuple):
 def run_ranges(data: bytes) -> Ranges | int:
     """The ranges that the program prints for a file, or the number of its refusal."""
     try:
-        run = subprocess.run([RANGES], input=data, stdout=subprocess.PIPE, check=True)
+        run = subprocess.run([RANGES], input=data, stdout=subprocess.PIPE)
+        if run.returncode not in ANSWERED:
+            raise ProgramError(f"{RANGES} failed with exit status {run.returncode}")
         return _parse(run.stdout.decode("ascii"))
     except OSError as error:
         raise ProgramError(f"{RANGES} can't be run: {error.strerror}") from error
-    except subprocess.CalledProcessError as error:
-        raise ProgramError(f"{RANGES} failed with exit status {error.returncode}") from error
     except ValueError as error:
         raise ProgramError(f"{RANGES} printed something unknown: {error}") from error
 

@@ -3,6 +3,7 @@
 import math
 import re
 
+from .messages import excerpt
 from .model import Cut, Kind, Profile, Range, degrees
 from .refusals import Fault
 from .rules import MOST_CUTS, MOST_DAYS, POINTS, RISES, TOTALS, crossed_fault, cut_day_fault, cut_value_fault
@@ -84,7 +85,7 @@ class _Parser:
 
     def _take(self, number: int, words: list[str]) -> None:
         if words[0] not in FORMS:
-            raise _LineError(f"a line begins with total, day or cut, and this one with {words[0]!r}")
+            raise _LineError(f"a line begins with total, day or cut, and this one with '{excerpt(words[0])}'")
         self._seen[words[0]] += 1
         match words:
             case ["total", floor, ceiling]:
@@ -159,16 +160,16 @@ def _points(word: str) -> int:
     """A number of degrees in points; exact, as no fraction of a point exists."""
     match = NUMBER.fullmatch(word)
     if not match:
-        raise _LineError(f"{word!r} is not a number such as 17.50")
+        raise _LineError(f"'{excerpt(word)}' is not a number such as 17.50")
     sign, whole, decimals = match.groups(default="")
     if len(decimals) > 2:
-        raise _LineError(f"{word} has more than two decimals: a point is a hundredth of a degree")
+        raise _LineError(f"{excerpt(word)} has more than two decimals: a point is a hundredth of a degree")
     return int(sign + whole + decimals.ljust(2, "0"))
 
 
 def _day_number(word: str) -> int:
     if not DAY_NUMBER.fullmatch(word):
-        raise _LineError(f"{word!r} is not a day's number: days are counted 0, 1, 2, ..")
+        raise _LineError(f"'{excerpt(word)}' is not a day's number: days are counted 0, 1, 2, ..")
     return int(word)
 
 

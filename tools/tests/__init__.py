@@ -1,4 +1,4 @@
-"""Tests of tools/profile. They run target/bin/ranges itself; ./ranges takes longer, as it looks for newer sources."""
+"""Tests of tools/profile and of ./ranges. Most run target/bin/ranges itself, which is quicker than ./ranges."""
 
 from pathlib import Path
 
