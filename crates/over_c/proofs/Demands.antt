@@ -1,5 +1,5 @@
 -- The demands over C: what holds of a session by value holds of the bytes that came from opening and cuts.
-use mathlib.Core.Path.{_≡_, refl, sym, ap, _∙_}
+use mathlib.Core.Path.{_≡_, refl, sym, ap, _∙_, subst}
 use mathlib.Core.Bool.{Bool, true, false, cond, _||_}
 use mathlib.Core.Logic.{_↔_}
 use mathlib.Core.List.{List, [], _∷_, _++_}
@@ -15,7 +15,7 @@ use Rattle.series.specs.Front.{inFront, front-at, front-past, front-length}
 use Rattle.series.specs.Rows.{rows}
 use Rattle.levels.specs.Code.{lowestPoint, decoded}
 use Rattle.levels.proofs.Casts.{point-fits}
-use Rattle.session.specs.Profile.{Profile, Schedule}
+use Rattle.session.specs.Profile.{Profile, Schedule, Spans}
 use Rattle.session.specs.Opening.{earlier, opened}
 use Rattle.session.specs.Showing.{floorOn, ceilingOn, totalFloor, totalCeiling, listTooShort, shown}
 use Rattle.session.specs.declared.Session.{Session}
@@ -25,7 +25,7 @@ use Rattle.session.proofs.Shows.{both-long}
 use Rattle.cuts.specs.declared.Cut.{Cut}
 use Rattle.cuts.specs.declared.Told.{Told}
 use Rattle.cuts.specs.declared.Told.the-variants.{Known}
-use Rattle.cutting.specs.Cutting.{spend, changedDays, afterTold, listAfter}
+use Rattle.cutting.specs.Cutting.{spend, changedDays, earlierTold, afterTold, listAfter}
 use Rattle.cutting.specs.declared.AfterCut.{AfterCut}
 use Rattle.cutting.proofs.Laws.{Accepted, accepted-list, told-accepted}
 use Rattle.demands.specs.Cuts.{WellFormed, Looser, Handed, Kept}
@@ -43,7 +43,7 @@ use Rattle.session_bytes.specs.Layout.{encoding, decoding}
 use Rattle.session_bytes.proofs.Lengths.{cells-length}
 use Rattle.byte_sessions.specs.Sessions.{isSession, openRefusal, openBytes, cutAnswer, cutBytes, changedBytes, shownOver}
 use Rattle.over_c.specs.InBytes.{HandedBytes, byValue, CameFrom}
-use Rattle.over_c.specs.DemandsInBytes.{Refused, Changed, Unchanged, AfterBytes, readOver, Read, Reading, openEarlier, NoneAtOpening, NoneAtCut, DemandsInBytes}
+use Rattle.over_c.specs.DemandsInBytes.{BytesLeft, Changed, Unchanged, AfterBytes, readRanges, Read, Reading, openEarlier, NoneAtOpening, NoneAtCutOver, DemandsInBytes}
 use Rattle.over_c.proofs.Bytes.{Came, came, CutHeld, cut-held}
 use Rattle.over_c.proofs.Points.{lent-point, lent-rest, cell-read}
 
@@ -52,7 +52,7 @@ use Rattle.over_c.proofs.Points.{lent-point, lent-rest, cell-read}
 left-bytes : (r : ℕ) (new old : List ℕ) → (r ≡ 0 → ⊥) → (r ≡ 8 → ⊥) → cond (eqb r 0 || eqb r 8) new old ≡ old
 left-bytes r new old h k = rw (ne-eqb r 0 h, ne-eqb r 8 k) refl
 
-refused : Refused
+refused : BytesLeft
 unfolding openBytes cutBytes changedBytes
 refused =
     record {
@@ -93,6 +93,9 @@ none-at-opening b n fs cs rs lo hi = go (isSession b) (eqb lengths 0) refl
 by-value-more : (hs : List HandedBytes) (h : HandedBytes) → byValue (hs ++ h ∷ []) ≡ byValue hs ++ record { told = h .told; room = h .bytes / 2 } ∷ []
 by-value-more [] h = refl
 by-value-more (g ∷ hs) h = ap (λ (gs : List Handed). record { told = g .told; room = g .bytes / 2 } ∷ gs) (by-value-more hs h)
+
+same-range : {S : List ℤ → Type 0} {f : List ℤ → ℤ} {low high lo hi : ℤ} → low ≡ lo → high ≡ hi → Spans S f lo hi → Spans S f low high
+same-range e d x = rw (e, d) x
 
 -- reading with lists that are long enough
 shown-whole : (s : Session) (a c : ℕ) → shown s a c .refusal ≡ 0 → (s .days ≤ a) × (s .days ≤ c)
@@ -139,22 +142,24 @@ module _ (p : Profile) (hs : List HandedBytes) (b : List ℕ) (c : CameFrom p hs
       let x = rw o at (demand-2 .opening p (w .opens)) in
       rw (spent-as u, o) (record { each = x .each; sum = x .sum })
 
-  none-at-cut-over : (h : HandedBytes) → NoneAtCut p hs b h
+  none-at-cut-over : (h : HandedBytes) → NoneAtCutOver p hs b h
   unfolding cutAnswer
-  none-at-cut-over h = rw (w .sized, by-value-more hs h) (none-at-cut p (w .opens) (byValue hs) (decoding b) (w .held) (record { told = h .told; room = h .bytes / 2 }))
+  none-at-cut-over h =
+      subst (λ gs. (cutAnswer b (h .told) (h .bytes) .refusal ≡ 8) ↔ (earlierTold (decoding b) (h .told) (h .bytes / 2) ≡ 0) × ((x : List ℤ) → Kept p gs x → ⊥)) (sym (by-value-more hs h))
+      (rw (w .sized) (none-at-cut p (w .opens) (byValue hs) (decoding b) (w .held) (record { told = h .told; room = h .bytes / 2 })))
 
   -- ---- reading
 
   module _ (fs cs : List ℕ) where
-    shows : readOver b fs cs ≡ shown (decoding b) (length fs / 2) (length cs / 2)
+    shows : readRanges b fs cs ≡ shown (decoding b) (length fs / 2) (length cs / 2)
     unfolding shownOver
     shows = rw (w .sized) refl
 
-    module _ (z : readOver b fs cs .refusal ≡ 0) where
+    module _ (z : readRanges b fs cs .refusal ≡ 0) where
       long : (decoding b .days ≤ length fs / 2) × (decoding b .days ≤ length cs / 2)
       long = shown-whole (decoding b) (length fs / 2) (length cs / 2) (rw shows at z)
 
-      whole : readOver b fs cs ≡ record { refusal = 0; least = totalFloor (decoding b); most = totalCeiling (decoding b); spent = decoding b .spent }
+      whole : readRanges b fs cs ≡ record { refusal = 0; least = totalFloor (decoding b); most = totalCeiling (decoding b); spent = decoding b .spent }
       whole = shows ∙ sym (both-long (decoding b) (length fs / 2) (length cs / 2) (long .0) (long .1))
 
       read : (S : List ℤ → Type 0) → Exact p S (decoding b) → Read p S b fs cs
@@ -165,8 +170,8 @@ module _ (p : Profile) (hs : List HandedBytes) (b : List ℕ) (c : CameFrom p hs
           record {
             each = λ i h.
                 let k : i < decoding b .days = rw days h in
-                rw (lent-point (readOver b fs cs .refusal) (floorOn (decoding b)) (decoding b .days) fs z low i k, lent-point (readOver b fs cs .refusal) (ceilingOn (decoding b)) (decoding b .days) cs z high i k) (x .each i h);
-            sum = rw whole (x .sum);
+                same-range (lent-point _ (floorOn (decoding b)) (decoding b .days) fs z low i k) (lent-point _ (ceilingOn (decoding b)) (decoding b .days) cs z high i k) (x .each i h);
+            sum = same-range (ap (λ (r : Shown). r .least) whole) (ap (λ (r : Shown). r .most) whole) (x .sum);
           }
 
     reading : Reading p hs b fs cs

@@ -246,20 +246,15 @@ module _ (f : List ℕ) (t : Lent) where
     lists-found : readLists f t ≡ listsIn f
     lists-found =
         let c = contents unrefused in
-        let n : readOver f t .days ≡ dayCount f = ap (λ (r : Contents). r .days) c in
-        let m : readOver f t .cuts ≡ cutCount f = ap (λ (r : Contents). r .cuts) c in
-        let lo = ap (λ (r : Contents). r .lowest) c in
-        let hi = ap (λ (r : Contents). r .highest) c in
-        rw (
-          n,
-          m,
-          lo,
-          hi,
-          points-found _ (floorAt f) (dayCount f) (t .floors) e,
-          points-found _ (ceilingAt f) (dayCount f) (t .ceilings) e,
-          points-found _ (riseAt f) (dayCount f - 1) (t .rises) e,
-          cuts-found,
-        ) refl
+        let days : readOver f t .days ≡ dayCount f = ap (λ (r : Contents). r .days) c in
+        let count : readOver f t .cuts ≡ cutCount f = ap (λ (r : Contents). r .cuts) c in
+        let lowest : readLists f t .lowest ≡ totalFloor f = ap (λ (r : Contents). r .lowest) c in
+        let highest : readLists f t .highest ≡ totalCeiling f = ap (λ (r : Contents). r .highest) c in
+        let floors : readLists f t .floors ≡ listsIn f .floors = ap (λ m. take (m * 2) (filledOver f t .floors)) days ∙ points-found _ (floorAt f) (dayCount f) (t .floors) e in
+        let ceilings : readLists f t .ceilings ≡ listsIn f .ceilings = ap (λ m. take (m * 2) (filledOver f t .ceilings)) days ∙ points-found _ (ceilingAt f) (dayCount f) (t .ceilings) e in
+        let rises : readLists f t .rises ≡ listsIn f .rises = ap (λ m. take ((m - 1) * 2) (filledOver f t .rises)) days ∙ points-found _ (riseAt f) (dayCount f - 1) (t .rises) e in
+        let cuts : readLists f t .cuts ≡ listsIn f .cuts = ap (λ m. take (m * 8) (filledOver f t .cuts)) count ∙ cuts-found in
+        λ i. record { days = days i; floors = floors i; ceilings = ceilings i; rises = rises i; lowest = lowest i; highest = highest i; cuts = cuts i }
 
   left : (readOver f t .refusal ≡ 0 → ⊥) → filledOver f t ≡ t
   unfolding cutsLent

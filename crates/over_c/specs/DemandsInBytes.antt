@@ -29,7 +29,7 @@ use Rattle.over_c.specs.InBytes.{HandedBytes, byValue, CameFrom}
 -- ---- demand 1 at opening and at a cut, whatever the bytes
 
 -- a refused opening writes none of the session's bytes; a refused cut leaves the list, and the session's bytes too, but for 8
-pub record Refused : Type 0 where
+pub record BytesLeft : Type 0 where
   pub opening : (b : List ℕ) (n : ℕ) (fs cs rs : List ℕ) (lo hi : ℤ) → (openRefusal b n fs cs rs lo hi ≡ 0 → ⊥) → openBytes b n fs cs rs lo hi ≡ b
   pub list : (b : List ℕ) (t : Told) (l : List ℕ) → (cutAnswer b t (length l) .refusal ≡ 0 → ⊥) → changedBytes b t l ≡ l
   pub session : (b : List ℕ) (t : Told) (l : List ℕ) → (cutAnswer b t (length l) .refusal ≡ 0 → ⊥) → (cutAnswer b t (length l) .refusal ≡ 8 → ⊥)
@@ -63,27 +63,27 @@ pub record AfterBytes (p : Profile) (hs : List HandedBytes) (b : List ℕ) : Typ
   pub order-free : (gs : List HandedBytes) (c : List ℕ) → CameFrom p gs c → ((e : Cut) → ValidIn p (byValue hs) e ↔ ValidIn p (byValue gs) e) → b ≡ c
 
 -- what reading gives of a session's bytes with the lists that are lent, and the lists afterwards (the contract of `cloverdrum_read`)
-abbrev pub readOver : List ℕ → List ℕ → List ℕ → Shown
-readOver b fs cs = shownOver b (length fs) (length cs)
+abbrev pub readRanges : List ℕ → List ℕ → List ℕ → Shown
+readRanges b fs cs = shownOver b (length fs) (length cs)
 
 abbrev pub floorsRead : List ℕ → List ℕ → List ℕ → List ℕ
-floorsRead b fs cs = lentPoints (readOver b fs cs .refusal) (floorOn (decoding b)) (decoding b .days) fs
+floorsRead b fs cs = lentPoints (readRanges b fs cs .refusal) (floorOn (decoding b)) (decoding b .days) fs
 
 abbrev pub ceilingsRead : List ℕ → List ℕ → List ℕ → List ℕ
-ceilingsRead b fs cs = lentPoints (readOver b fs cs .refusal) (ceilingOn (decoding b)) (decoding b .days) cs
+ceilingsRead b fs cs = lentPoints (readRanges b fs cs .refusal) (ceilingOn (decoding b)) (decoding b .days) cs
 
 -- the ranges that a caller finds in the lists and the lent numbers are exact for the schedules of S
 pub record Read (p : Profile) (S : List ℤ → Type 0) (b fs cs : List ℕ) : Type 0 where
   pub each : (i : ℕ) → i < p .days → Spans S (λ x. on x i) (pointAt (floorsRead b fs cs) i) (pointAt (ceilingsRead b fs cs) i)
-  pub sum : Spans S total (readOver b fs cs .least) (readOver b fs cs .most)
+  pub sum : Spans S total (readRanges b fs cs .least) (readRanges b fs cs .most)
 
 -- reading is refused exactly where a list is too short; it tells whether the session is spent, then shows the ranges that it had when opened, and
 -- otherwise those of the schedules that keep every valid cut; it leaves the lists past their first n
 pub record Reading (p : Profile) (hs : List HandedBytes) (b fs cs : List ℕ) : Type 0 where
-  pub taken : (readOver b fs cs .refusal ≡ 0) ↔ (p .days ≤ length fs / 2) × (p .days ≤ length cs / 2)
-  pub spent : readOver b fs cs .refusal ≡ 0 → (readOver b fs cs .spent ≡ true) ↔ ((x : List ℤ) → Kept p (byValue hs) x → ⊥)
-  pub present : readOver b fs cs .refusal ≡ 0 → readOver b fs cs .spent ≡ false → Read p (Kept p (byValue hs)) b fs cs
-  pub opened : readOver b fs cs .refusal ≡ 0 → readOver b fs cs .spent ≡ true → Read p (Schedule p) b fs cs
+  pub taken : (readRanges b fs cs .refusal ≡ 0) ↔ (p .days ≤ length fs / 2) × (p .days ≤ length cs / 2)
+  pub spent : readRanges b fs cs .refusal ≡ 0 → (readRanges b fs cs .spent ≡ true) ↔ ((x : List ℤ) → Kept p (byValue hs) x → ⊥)
+  pub present : readRanges b fs cs .refusal ≡ 0 → readRanges b fs cs .spent ≡ false → Read p (Kept p (byValue hs)) b fs cs
+  pub opened : readRanges b fs cs .refusal ≡ 0 → readRanges b fs cs .spent ≡ true → Read p (Schedule p) b fs cs
   pub rest : (i : ℕ) → p .days * 2 ≤ i → (at (floorsRead b fs cs) i ≡ at fs i) × (at (ceilingsRead b fs cs) i ≡ at cs i)
 
 -- ---- demand 2: 8 is said exactly where no check before it refuses and there is no schedule
@@ -99,18 +99,18 @@ NoneAtOpening =
     (b : List ℕ) (n : ℕ) (fs cs rs : List ℕ) (lo hi : ℤ)
     → (openRefusal b n fs cs rs lo hi ≡ 8) ↔ (openEarlier b n fs cs rs lo hi ≡ 0) × ((x : List ℤ) → Schedule (profileOf n fs cs rs lo hi) x → ⊥)
 
-abbrev pub NoneAtCut : Profile → List HandedBytes → List ℕ → HandedBytes → Type 0
-NoneAtCut p hs b h =
+abbrev pub NoneAtCutOver : Profile → List HandedBytes → List ℕ → HandedBytes → Type 0
+NoneAtCutOver p hs b h =
     (cutAnswer b (h .told) (h .bytes) .refusal ≡ 8) ↔ (earlierTold (decoding b) (h .told) (h .bytes / 2) ≡ 0) × ((x : List ℤ) → Kept p (byValue (hs ++ h ∷ [])) x → ⊥)
 
 -- ---- all of it, for every profile, whole list of cuts and bytes that came from them
 
 pub record DemandsInBytes : Type 0 where
-  pub refused : Refused
+  pub refused : BytesLeft
   pub none : NoneAtOpening
   pub after : (p : Profile) (hs : List HandedBytes) (b : List ℕ) → CameFrom p hs b → AfterBytes p hs b
   pub read : (p : Profile) (hs : List HandedBytes) (b : List ℕ) → CameFrom p hs b → (fs cs : List ℕ) → Reading p hs b fs cs
-  pub none-at-cut : (p : Profile) (hs : List HandedBytes) (b : List ℕ) → CameFrom p hs b → (h : HandedBytes) → NoneAtCut p hs b h
+  pub none-at-cut : (p : Profile) (hs : List HandedBytes) (b : List ℕ) → CameFrom p hs b → (h : HandedBytes) → NoneAtCutOver p hs b h
   pub changed : (p : Profile) (hs : List HandedBytes) (b : List ℕ) → CameFrom p hs b → (t : Told) (l : List ℕ) → cutAnswer b t (length l) .refusal ≡ 0 → Changed b t l
   pub looser : (p : Profile) (hs : List HandedBytes) (b : List ℕ) → CameFrom p hs b → decoding b .spent ≡ false
       → (c : Cut) → WellFormed p c → Looser (decoding b) c → (l : List ℕ) → p .days ≤ length l / 2 → Unchanged b (Known c) l

@@ -102,12 +102,12 @@ pub record WrittenBack (f out : List ℕ) (t : Lent) : Type 0 where
   pub rest : output (readLists f t) out ≡ inFront f out
 
 -- a refusal leaves the output, and every lent list
-pub record Refused : Type 0 where
+pub record ListsLeft : Type 0 where
   pub writing : (l : Lists) (out : List ℕ) → (write l out .refusal ≡ 0 → ⊥) → output l out ≡ out
   pub reading : (f : List ℕ) (t : Lent) → (readOver f t .refusal ≡ 0 → ⊥) → filledOver f t ≡ t
 
 pub record FilesInBytes : Type 0 where
-  pub refused : Refused
+  pub refused : ListsLeft
   pub again : (l : Lists) (out : List ℕ) (t : Lent) → Bytes (l .floors) → Bytes (l .ceilings) → Bytes (l .rises) → Bytes (l .cuts) → write l out .refusal ≡ 0 → Roomy l t
       → ReadAgain l (written l out) t
   pub back : (f out : List ℕ) (t : Lent) → Bytes f → readOver f t .refusal ≡ 0 → write (readLists f t) out .refusal ≡ 0 → WrittenBack f out t
