@@ -1,7 +1,8 @@
-// Two profile files damaged: every truncation and every change of one byte is read, judged, and printed as the program `ranges` prints it.
+// Two profile files damaged: every truncation and every change of one byte is read, judged, printed as the program `ranges` prints it, and written back.
 mod endings;
 mod judge;
 mod tally;
+mod writing;
 
 use tally::Tally;
 ghost use Prim.Native.Nat.{_≤_, _<_};

@@ -1,13 +1,15 @@
-// What the reader and the program `ranges` make of files, counted.
+// What the reader, the program `ranges` and the writer make of files, counted.
 use crate::endings;
 use crate::judge;
+use crate::writing;
 ghost use Prim.Native.Nat.{_≤_};
 
-// How many files; how often the reader answers each number and how often the text does, 0 for none; how many differences.
+// How many files; how often the reader answers each number, the text, and the writer of what was read, 0 for none; how many differences.
 pub(crate) struct Tally {
     pub files: usize,
     pub read: [usize; 13],
     pub ended: [usize; 13],
+    pub written: [usize; 13],
     pub differences: usize,
 }
 
@@ -16,6 +18,7 @@ pub(crate) fn none() -> Tally {
         files: 0,
         read: [0; 13],
         ended: [0; 13],
+        written: [0; 13],
         differences: 0,
     }
 }
@@ -35,28 +38,34 @@ fn more(counts: [usize; 13], number: usize) -> [usize; 13] {
     after
 }
 
-// The reader's refusal is not the judge's; the text is neither ranges nor a refusal; the reader refuses, and the text does not say so.
-fn differences(read: usize, judged: usize, ended: usize) -> usize {
+// The reader's refusal is not the judge's; the text is neither ranges nor a refusal; the reader refuses, and the text does not say so. What was read is
+// written otherwise; the writer does not refuse as the text says, though the text does not say 8, for which the writer does not look.
+fn differences(read: usize, judged: usize, ended: usize, written: usize) -> usize {
     counted(read != judged)
         + counted(ended == endings::OTHER)
         + counted((read != 0) & (read != ended))
+        + counted((read == 0) & (written == endings::OTHER))
+        + counted((read == 0) & (written != ended) & (ended != 8))
 }
 
 // The tally with one file more.
-fn added(t: Tally, refusal: usize, ending: usize, found: usize) -> Tally {
+fn added(t: Tally, refusal: usize, ending: usize, back: usize, found: usize) -> Tally {
     let before = t.read;
     let read = more(before, refusal);
     let before = t.ended;
     let ended = more(before, ending);
+    let before = t.written;
+    let written = more(before, back);
     Tally {
         files: std::num::wrapping_add_usize(t.files, 1),
         read,
         ended,
+        written,
         differences: std::num::wrapping_add_usize(t.differences, found),
     }
 }
 
-// Reads the file, and prints its ranges.
+// Reads the file, prints its ranges, and writes it back.
 pub(crate) fn noted(t: Tally, file: &[u8]) -> Tally {
     let mut floors = [0i16; 512];
     let mut ceilings = [0i16; 512];
@@ -66,8 +75,9 @@ pub(crate) fn noted(t: Tally, file: &[u8]) -> Tally {
     let mut text = [0u8; 10262];
     let length = report::print_ranges(file, &mut text);
     let ending = endings::ending(&text[..length]);
-    let found = differences(refusal, judge::refusal(file), ending);
-    added(t, refusal, ending, found)
+    let back = writing::back(file, answer, &floors, &ceilings, &rises);
+    let found = differences(refusal, judge::refusal(file), ending, back);
+    added(t, refusal, ending, back, found)
 }
 
 // ---- printing
@@ -96,11 +106,14 @@ fn print_refusals(counts: &[usize; 13]) {
 pub(crate) fn print(label: &[u8], t: Tally) {
     let read = t.read;
     let ended = t.ended;
+    let written = t.written;
     print_count(label, t.files);
     print_count(b", taken: ", read[0]);
     print_refusals(&read);
     print_count(b"\nranges: ", ended[0]);
     print_refusals(&ended);
+    print_count(b"\nwritten back: ", written[0]);
+    print_refusals(&written);
     print_count(b", differences: ", t.differences);
     io::write_all(1, b"\n");
 }

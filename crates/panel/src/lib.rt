@@ -34,13 +34,21 @@ pub extern "C" fn cloverdrum_open(
     floors: &[u8],
     ceilings: &[u8],
     rises: &[u8],
-    lowest: i32,
-    highest: i32,
+    total_floor: i32,
+    total_ceiling: i32,
 ) -> u8
-    ensures { λ r. ⌜ r ≡ openRefusal (now (session .entry)) days (now (floors .entry)) (now (ceilings .entry)) (now (rises .entry)) lowest highest ⌝ }
-    ensures { λ r. ⌜ now (session .exit) ≡ openBytes (now (session .entry)) days (now (floors .entry)) (now (ceilings .entry)) (now (rises .entry)) lowest highest ⌝ }
+    ensures { λ r. ⌜ r ≡ openRefusal (now (session .entry)) days (now (floors .entry)) (now (ceilings .entry)) (now (rises .entry)) «total_floor» «total_ceiling» ⌝ }
+    ensures { λ r. ⌜ now (session .exit) ≡ openBytes (now (session .entry)) days (now (floors .entry)) (now (ceilings .entry)) (now (rises .entry)) «total_floor» «total_ceiling» ⌝ }
 {
-    byte_sessions::open(session, days, floors, ceilings, rises, lowest, highest)
+    byte_sessions::open(
+        session,
+        days,
+        floors,
+        ceilings,
+        rises,
+        total_floor,
+        total_ceiling,
+    )
 }
 
 // ---- cutting
@@ -52,15 +60,15 @@ pub extern "C" fn cloverdrum_cut(
     day: usize,
     value: i32,
     changed: &mut [u8],
-    count: &mut usize,
+    changed_days: &mut usize,
 ) -> u8
     ensures { λ r. ⌜ r ≡ cutAnswer (now (session .entry)) (told kind day value) (length (now (changed .entry))) .refusal ⌝ }
     ensures { λ r. ⌜ now (session .exit) ≡ cutBytes (now (session .entry)) (told kind day value) (length (now (changed .entry))) ⌝ }
     ensures { λ r. ⌜ now (changed .exit) ≡ changedBytes (now (session .entry)) (told kind day value) (now (changed .entry)) ⌝ }
-    ensures { λ r. ⌜ now (count .exit) ≡ cutAnswer (now (session .entry)) (told kind day value) (length (now (changed .entry))) .changed ⌝ }
+    ensures { λ r. ⌜ now («changed_days» .exit) ≡ cutAnswer (now (session .entry)) (told kind day value) (length (now (changed .entry))) .changed ⌝ }
 {
     let answer = byte_sessions::cut(session, kind, day, value, changed);
-    *count = answer.changed;
+    *changed_days = answer.changed;
     answer.refusal
 }
 
@@ -78,22 +86,22 @@ pub extern "C" fn cloverdrum_read(
     session: &[u8],
     floors: &mut [u8],
     ceilings: &mut [u8],
-    least: &mut i32,
-    most: &mut i32,
+    total_floor: &mut i32,
+    total_ceiling: &mut i32,
     spent: &mut u8,
 ) -> u8
     ensures { λ r. ⌜ r ≡ shownOver (now (session .entry)) (length (now (floors .entry))) (length (now (ceilings .entry))) .refusal ⌝ }
     ensures { λ r. ⌜ now (floors .exit) ≡ lentPoints r (floorOn (decoding (now (session .entry)))) (decoding (now (session .entry)) .days) (now (floors .entry)) ⌝ }
     ensures { λ r. ⌜ now (ceilings .exit) ≡ lentPoints r (ceilingOn (decoding (now (session .entry)))) (decoding (now (session .entry)) .days) (now (ceilings .entry)) ⌝ }
-    ensures { λ r. ⌜ now (least .exit) ≡ shownOver (now (session .entry)) (length (now (floors .entry))) (length (now (ceilings .entry))) .least ⌝ }
-    ensures { λ r. ⌜ now (most .exit) ≡ shownOver (now (session .entry)) (length (now (floors .entry))) (length (now (ceilings .entry))) .most ⌝ }
+    ensures { λ r. ⌜ now («total_floor» .exit) ≡ shownOver (now (session .entry)) (length (now (floors .entry))) (length (now (ceilings .entry))) .least ⌝ }
+    ensures { λ r. ⌜ now («total_ceiling» .exit) ≡ shownOver (now (session .entry)) (length (now (floors .entry))) (length (now (ceilings .entry))) .most ⌝ }
     ensures { λ r. ⌜ now (spent .exit) ≡ cond (shownOver (now (session .entry)) (length (now (floors .entry))) (length (now (ceilings .entry))) .spent) 1 0 ⌝ }
 {
     let shown = byte_sessions::show(session, floors, ceilings);
     let low = shown.least;
     let high = shown.most;
-    *least = low;
-    *most = high;
+    *total_floor = low;
+    *total_ceiling = high;
     *spent = mark(shown.spent);
     shown.refusal
 }
@@ -105,34 +113,34 @@ pub extern "C" fn cloverdrum_write_day(
     session: &[u8],
     day: usize,
     value: i32,
-    list: &mut [u8],
+    schedule: &mut [u8],
 ) -> u8
-    ensures { λ r. ⌜ r ≡ writeRefusal (now (session .entry)) (Day day) value (now (list .entry)) ⌝ }
-    ensures { λ r. ⌜ now (list .exit) ≡ lentPoints r (setpointFor (decoding (now (session .entry))) (Day day) value) (decoding (now (session .entry)) .days) (now (list .entry)) ⌝ }
+    ensures { λ r. ⌜ r ≡ writeRefusal (now (session .entry)) (Day day) value (now (schedule .entry)) ⌝ }
+    ensures { λ r. ⌜ now (schedule .exit) ≡ lentPoints r (setpointFor (decoding (now (session .entry))) (Day day) value) (decoding (now (session .entry)) .days) (now (schedule .entry)) ⌝ }
 {
-    byte_schedules::write(session, Subject::Day(day), value, list)
+    byte_schedules::write(session, Subject::Day(day), value, schedule)
 }
 
 #[no_mangle]
-pub extern "C" fn cloverdrum_write_total(session: &[u8], value: i32, list: &mut [u8]) -> u8
-    ensures { λ r. ⌜ r ≡ writeRefusal (now (session .entry)) Total value (now (list .entry)) ⌝ }
-    ensures { λ r. ⌜ now (list .exit) ≡ lentPoints r (setpointFor (decoding (now (session .entry))) Total value) (decoding (now (session .entry)) .days) (now (list .entry)) ⌝ }
+pub extern "C" fn cloverdrum_write_total(session: &[u8], value: i32, schedule: &mut [u8]) -> u8
+    ensures { λ r. ⌜ r ≡ writeRefusal (now (session .entry)) Total value (now (schedule .entry)) ⌝ }
+    ensures { λ r. ⌜ now (schedule .exit) ≡ lentPoints r (setpointFor (decoding (now (session .entry))) Total value) (decoding (now (session .entry)) .days) (now (schedule .entry)) ⌝ }
 {
-    byte_schedules::write(session, Subject::Total, value, list)
+    byte_schedules::write(session, Subject::Total, value, schedule)
 }
 
 #[no_mangle]
 pub extern "C" fn cloverdrum_inspect(
     session: &[u8],
-    list: &[u8],
+    schedule: &[u8],
     rule: &mut usize,
     place: &mut usize,
 ) -> u8
-    ensures { λ r. ⌜ r ≡ inspectedOver (now (session .entry)) (now (list .entry)) .refusal ⌝ }
-    ensures { λ r. ⌜ now (rule .exit) ≡ inspectedOver (now (session .entry)) (now (list .entry)) .rule ⌝ }
-    ensures { λ r. ⌜ now (place .exit) ≡ inspectedOver (now (session .entry)) (now (list .entry)) .place ⌝ }
+    ensures { λ r. ⌜ r ≡ inspectedOver (now (session .entry)) (now (schedule .entry)) .refusal ⌝ }
+    ensures { λ r. ⌜ now (rule .exit) ≡ inspectedOver (now (session .entry)) (now (schedule .entry)) .rule ⌝ }
+    ensures { λ r. ⌜ now (place .exit) ≡ inspectedOver (now (session .entry)) (now (schedule .entry)) .place ⌝ }
 {
-    let found = byte_schedules::inspect(session, list);
+    let found = byte_schedules::inspect(session, schedule);
     *rule = found.rule;
     *place = found.place;
     found.refusal
@@ -148,11 +156,11 @@ pub extern "C" fn cloverdrum_read_file(
     rises: &mut [u8],
     cuts: &mut [u8],
     days: &mut usize,
-    count: &mut usize,
-    lowest: &mut i32,
-    highest: &mut i32,
+    cuts_count: &mut usize,
+    total_floor: &mut i32,
+    total_ceiling: &mut i32,
 ) -> u8
-    ensures { λ r. ⌜ record { refusal = r; days = now (days .exit); cuts = now (count .exit); lowest = now (lowest .exit); highest = now (highest .exit) } ≡ readInto (now (file .entry)) (length (now (floors .entry))) (length (now (ceilings .entry))) (length (now (rises .entry))) (length (now (cuts .entry))) ⌝ }
+    ensures { λ r. ⌜ record { refusal = r; days = now (days .exit); cuts = now («cuts_count» .exit); lowest = now («total_floor» .exit); highest = now («total_ceiling» .exit) } ≡ readInto (now (file .entry)) (length (now (floors .entry))) (length (now (ceilings .entry))) (length (now (rises .entry))) (length (now (cuts .entry))) ⌝ }
     ensures { λ r. ⌜ now (floors .exit) ≡ lentPoints r (floorAt (now (file .entry))) (dayCount (now (file .entry))) (now (floors .entry)) ⌝ }
     ensures { λ r. ⌜ now (ceilings .exit) ≡ lentPoints r (ceilingAt (now (file .entry))) (dayCount (now (file .entry))) (now (ceilings .entry)) ⌝ }
     ensures { λ r. ⌜ now (rises .exit) ≡ lentPoints r (riseAt (now (file .entry))) (dayCount (now (file .entry)) - 1) (now (rises .entry)) ⌝ }
@@ -162,9 +170,9 @@ pub extern "C" fn cloverdrum_read_file(
     let low = contents.lowest;
     let high = contents.highest;
     *days = contents.days;
-    *count = contents.cuts;
-    *lowest = low;
-    *highest = high;
+    *cuts_count = contents.cuts;
+    *total_floor = low;
+    *total_ceiling = high;
     contents.refusal
 }
 
@@ -174,16 +182,25 @@ pub extern "C" fn cloverdrum_write_file(
     floors: &[u8],
     ceilings: &[u8],
     rises: &[u8],
-    lowest: i32,
-    highest: i32,
+    total_floor: i32,
+    total_ceiling: i32,
     cuts: &[u8],
-    out: &mut [u8],
-    written: &mut usize,
+    file: &mut [u8],
+    file_bytes: &mut usize,
 ) -> u8
-    ensures { λ r. ⌜ record { refusal = r; length = now (written .exit) } ≡ writeOver days (now (floors .entry)) (now (ceilings .entry)) (now (rises .entry)) lowest highest (now (cuts .entry)) (length (now (out .entry))) ⌝ }
-    ensures { λ r. ⌜ now (out .exit) ≡ outputOver days (now (floors .entry)) (now (ceilings .entry)) (now (rises .entry)) lowest highest (now (cuts .entry)) (now (out .entry)) ⌝ }
+    ensures { λ r. ⌜ record { refusal = r; length = now («file_bytes» .exit) } ≡ writeOver days (now (floors .entry)) (now (ceilings .entry)) (now (rises .entry)) «total_floor» «total_ceiling» (now (cuts .entry)) (length (now (file .entry))) ⌝ }
+    ensures { λ r. ⌜ now (file .exit) ≡ outputOver days (now (floors .entry)) (now (ceilings .entry)) (now (rises .entry)) «total_floor» «total_ceiling» (now (cuts .entry)) (now (file .entry)) ⌝ }
 {
-    let answer = byte_files::write(days, floors, ceilings, rises, lowest, highest, cuts, out);
-    *written = answer.length;
+    let answer = byte_files::write(
+        days,
+        floors,
+        ceilings,
+        rises,
+        total_floor,
+        total_ceiling,
+        cuts,
+        file,
+    );
+    *file_bytes = answer.length;
     answer.refusal
 }

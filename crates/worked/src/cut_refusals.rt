@@ -1,5 +1,6 @@
 // One line for each bound and each refusal of a cut of document 01's profile A, and for the order of the checks.
 use crate::line;
+use cuts::Cut;
 use cutting::AfterCut;
 use session::Session;
 ghost use Prim.Native.Nat.{_≤_};
@@ -60,6 +61,14 @@ fn of_spent(kind: usize, day: usize, value: i32, room: usize) -> u8
     refusal(spent(), kind, day, value, room)
 }
 
+// A total cut of A that is given without a day.
+fn without_day(cut: Cut) -> u8 {
+    let mut changed = [0u16; 3];
+    let after = cutting::cut(profile_a(), cut, &mut changed);
+    let answer = after.answer;
+    answer.refusal
+}
+
 fn days() {
     line(b"cut of kind 4: ", of_a(UNKNOWN, 0, 0, DAYS));
     line(b"cut of day 2: ", of_a(DAY_FLOOR, 2, 0, DAYS));
@@ -91,6 +100,26 @@ fn totals() {
     );
 }
 
+// Day 0 is not refused, and each kind is the one that was asked for.
+fn without_days() {
+    line(
+        b"total floor 12 without a day: ",
+        without_day(Cut::total_floor(12)),
+    );
+    line(
+        b"total floor 13 without a day: ",
+        without_day(Cut::total_floor(13)),
+    );
+    line(
+        b"total ceiling 10 without a day: ",
+        without_day(Cut::total_ceiling(10)),
+    );
+    line(
+        b"total ceiling 9 without a day: ",
+        without_day(Cut::total_ceiling(9)),
+    );
+}
+
 // The first cut has every cause of a refusal that a cut can have at once, each later one a cause fewer.
 fn order() {
     line(
@@ -112,5 +141,6 @@ fn order() {
 pub(crate) fn print() {
     days();
     totals();
+    without_days();
     order();
 }

@@ -4,7 +4,7 @@ use Rattle.panel.proofs.cloverdrum_open.Statement.{statement}
 use Rattle.panel.proofs.cloverdrum_open.Tie as tie
 
 returns : tie.Need-returns
-returns c = let f = c .before .before .before .before .before .before .before .before .fits in rw (toZ-ofZ (f .lowest), toZ-ofZ (f .highest)) at (c .before .before .open .ensures)
+returns c = let f = c .before .before .before .before .before .before .before .before .fits in rw (toZ-ofZ (f .total-floor), toZ-ofZ (f .total-ceiling)) at (c .before .before .open .ensures)
 
 pub cloverdrum-open-spec : {M : Type 1} → statement M
 cloverdrum-open-spec = tie.close (tie.spec (λ c. search needs) (λ c. search needs) returns)
