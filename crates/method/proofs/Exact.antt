@@ -17,6 +17,7 @@ use Rattle.chains.specs.Rounds.{free}
 use Rattle.chains.specs.Box.{high, low, Ranges, inward, total-kept, sufficient}
 use Rattle.chains.specs.Spans.{Spans, spans-same}
 use Rattle.method.specs.Shift.{shift}
+use Rattle.method.specs.Filter as Filter
 use Rattle.method.specs.Filter.{InBounds, Tight, held, shifted, lowered, carried, firstCrossed, forwarded, loweredAll, raised, tightFloors, tightCeilings, tightened}
 use Rattle.method.specs.Stages.{Ready, by-order, ready, crossing, carried-above, forwarded-at, lowered-ready, lowered-rising, floors-chain, raised-is}
 use Rattle.method.specs.Levels.{Levels, refit, rebound, shiftedTotal, shifts-low, shifted-sum, shifted-sched, day-spans, total-spans}
@@ -188,7 +189,7 @@ module _ {fs cs rs : List ℕ} {n : ℕ} (r : Ready fs cs rs n) (L U : ℕ) wher
   floors-right : held n (at fs) ≤ U → Right fs cs rs n L U (tightFloors fs (loweredAll fs cs rs n (U - held n (at fs))) rs n L U)
   unfolding tightFloors
   floors-right within =
-      by-order (Right fs cs rs n L U) (highest r L U within) (lowest r L U within)
+      by-order (Right fs cs rs n L U) (highest r L U within) (lowest r L U within) {t = Filter.none fs (loweredAll fs cs rs n (U - held n (at fs)))}
       (λ h. refused refl (crossed-totals r L U within h))
       (λ h. found refl (ready-exact r L U within h))
 

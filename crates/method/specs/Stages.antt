@@ -123,17 +123,22 @@ module _ {fs cs rs : List ℕ} {n : ℕ} (r : Ready fs cs rs n) where
               (λ k l u. omega (arith, chain-up n free (shifted fs rs n) floors-chain i k l (omega arith))),
         )
 
+    -- a day whose floor is not above the next day's lowered ceiling
+    from-next : (m : ℕ) → m < n → shifted fs rs n (n - suc m) ≤ low-from m
+        → Fitted (overload fs rs n (n - suc m)) margin (shifted fs rs n (n - suc m)) (min (low-from m) (shifted cs rs n (n - suc m))) (low-from (suc m))
+    unfolding loweredFrom
+    from-next m h up =
+        fitted (overload fs rs n (n - suc m)) margin (shifted fs rs n (n - suc m)) (floor-free (n - suc m) (omega arith))
+        (min (low-from m) (shifted cs rs n (n - suc m))) (omega (arith, up, r .fits (n - suc m) (omega arith)))
+
     from-fitted : (m : ℕ) → m < n
         → Fitted (overload fs rs n (n - suc m)) margin (shifted fs rs n (n - suc m)) (min (low-from m) (shifted cs rs n (n - suc m))) (low-from (suc m))
     unfolding loweredFrom
-    from-fitted zero h =
-        fitted (overload fs rs n (n - 1)) margin (shifted fs rs n (n - 1)) (floor-free (n - 1) (omega arith))
-        (min (shifted cs rs n (n - 1)) (shifted cs rs n (n - 1))) (omega (arith, r .fits (n - 1) (omega arith)))
+    from-fitted zero h = from-next 0 h (omega (arith, r .fits (n - 1) (omega arith)))
     from-fitted (suc m) h =
         let next = from-fitted m (omega arith) .least in
         let up = chain-up n free (shifted fs rs n) floors-chain (n - suc (suc m)) (n - suc m) (omega arith) (omega arith) in
-        fitted (overload fs rs n (n - suc (suc m))) margin (shifted fs rs n (n - suc (suc m))) (floor-free (n - suc (suc m)) (omega arith))
-        (min (low-from (suc m)) (shifted cs rs n (n - suc (suc m)))) (omega (arith, next, up, r .fits (n - suc (suc m)) (omega arith)))
+        from-next (suc m) h (omega (arith, next, up))
 
     -- each shifted ceiling is the greatest level up to the next day's and its own whose overload is within the margin
     pub day-fitted : (k : ℕ) → k < n

@@ -20,7 +20,7 @@ add-top : tie.Need-add-top Inv-loop μ-loop
 add-top c = omega (arith, end-most (c .before .before .before .before .pre .0) (c .before .before .before .loop .inv))
 
 returns : tie.Need-returns Inv-loop μ-loop
-returns c = (refl, days-found (c .before .before .before .before .before .pre .0) (c .before .before .before .before .loop .inv) (c .before .wide .ensures .0) (c .if1 .taken))
+returns c = (refl, days-found (c .before .before .before .before .before .pre .0) (c .before .before .before .before .loop .inv) (c .before .wide .ensures .0) (omega (arith, c .if1 .taken)))
 
 sub-s : tie.Need-sub-s Inv-loop μ-loop
 sub-s c = omega (arith, days-last (c .before .before .before .before .before .pre .0) (c .before .before .before .before .loop .inv), c .before .before .before .before .loop .inv .run .last, c .before .wide .ensures .0)

@@ -1,4 +1,5 @@
 -- `clip` meets its contract: each arm knows the kind, and what `Clips` asks of it.
+use mathlib.Core.Path.{refl}
 use borrow.Author.Needs.{needs}
 use Rattle.cutting.specs.Cutting.{clipped}
 use Rattle.cutting.proofs.clip.Statement.{statement}
@@ -44,7 +45,7 @@ returns-2 c = let p = rw (c .before .before .before .before .cut2 .given .1) at 
 
 returns-3 : tie.Need-returns-3
 unfolding clipped
-returns-3 c = let p = rw (c .before .enum-told .given .1) at (c .before .before .before .pre) in rw (c .before .enum-told .given .1, c .greatest2 .ensures, p)
+returns-3 c = let p = rw (c .before .enum-told .given .1) at (c .before .before .before .pre) in rw (c .before .enum-told .given .1, c .greatest2 .ensures, p) refl
 
 returns-4 : tie.Need-returns-4
 unfolding clipped

@@ -1,5 +1,6 @@
 -- `cut_told` meets its contract: each return knows whether the kind is known.
 use mathlib.Core.Path.{_∙_}
+use lib.ListN.{length}
 use native.Mathlib.Omega.{arith}
 use borrow.Author.Needs.{needs}
 use mir.Facts.{toZ-ofZ}
@@ -8,7 +9,7 @@ use Rattle.cutting.proofs.cut_told.Statement.{statement}
 use Rattle.cutting.proofs.cut_told.Tie as tie
 
 returns : tie.Need-returns
-returns c = (c .refuse .ensures ∙ told-unknown _ _ (rw (toZ-ofZ (c .before .before .before .before .before .fits .value)) at (c .before .before .before .told .ensures)) (c .before .enum-told .given .1), list-left _ _ _ (c .refuse .ensures) (λ z. absurd (omega arith)))
+returns c = let told = told-unknown (c .before .before .before .before .before .args .session) (length (c .before .before .before .before .before .args .changed .now)) (rw (toZ-ofZ (c .before .before .before .before .before .fits .value)) at (c .before .before .before .told .ensures)) (c .before .enum-told .given .1) in (c .refuse .ensures ∙ told, list-left _ _ _ (c .refuse .ensures) (λ z. absurd (omega arith)))
 
 returns-2 : tie.Need-returns-2
 returns-2 c = (c .before .before .cut .ensures .0 ∙ told-known _ _ (rw (toZ-ofZ (c .before .before .before .before .before .before .before .before .before .fits .value)) at (c .before .before .before .before .before .before .before .told .ensures)) (c .before .before .before .before .before .c .given .1), c .before .before .cut .ensures .1)

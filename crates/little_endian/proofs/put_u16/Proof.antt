@@ -1,3 +1,4 @@
+use mathlib.Core.Path.{refl}
 use lib.ListN.{length-set}
 use native.Mathlib.Numerals.{add-one}
 use Rattle.little_endian.specs.Fields.{u16Bytes}
@@ -11,7 +12,7 @@ slice-write-out-2 c = simp length-set (omega arith)
 
 returns : tie.Need-returns
 unfolding u16Bytes
-returns c = rw add-one
+returns c = rw add-one refl
 
 pub put-u16-spec : {M : Type 1} → statement M
 put-u16-spec =

@@ -1,5 +1,6 @@
 -- `Cut::told` meets its contract: each arm knows the kind, or that it is none of the four.
 -- Assumes nothing.
+use mathlib.Core.Path.{refl}
 use borrow.Author.Tests.{ne-eqb}
 use mir.Facts.{toZ-ofZ}
 use Rattle.cuts.specs.Told.{told}
@@ -8,19 +9,19 @@ use Rattle.cuts.proofs.Cut.told.Tie as tie
 
 returns : tie.Need-returns
 unfolding told
-returns c = rw (c .match .keys1, toZ-ofZ (c .before .fits .value))
+returns c = rw (c .match .keys1, toZ-ofZ (c .before .fits .value)) refl
 
 returns-2 : tie.Need-returns-2
 unfolding told
-returns-2 c = rw (c .match .keys2, toZ-ofZ (c .before .fits .value))
+returns-2 c = rw (c .match .keys2, toZ-ofZ (c .before .fits .value)) refl
 
 returns-3 : tie.Need-returns-3
 unfolding told
-returns-3 c = rw (c .match .keys3, toZ-ofZ (c .before .fits .value))
+returns-3 c = rw (c .match .keys3, toZ-ofZ (c .before .fits .value)) refl
 
 returns-4 : tie.Need-returns-4
 unfolding told
-returns-4 c = rw (c .match .keys4, toZ-ofZ (c .before .fits .value))
+returns-4 c = rw (c .match .keys4, toZ-ofZ (c .before .fits .value)) refl
 
 returns-5 : tie.Need-returns-5
 unfolding told
