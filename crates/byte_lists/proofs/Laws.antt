@@ -1,6 +1,6 @@
 -- What holds of lists whose lengths were checked, of the points stored from them, and of lists that elements are stored into.
 use mathlib.Core.Path.{_≡_, refl, ap, sym, _∙_}
-use mathlib.Core.Bool.{Bool, _&&_, and-eq-true-iff}
+use mathlib.Core.Bool.{Bool, true, false, cond, _&&_, and-eq-true-iff}
 use mathlib.Core.List.{List}
 use Prim.Native.Nat.{ℕ, _-_, _*_, _≤_, _<_}
 use native.Mathlib.Omega.{arith}
@@ -16,10 +16,24 @@ use Rattle.series.specs.Lent.{lentList, list-filled}
 use Rattle.series.specs.Front.{inFront}
 use Rattle.series.specs.Rows.{rows, rows-same, length-rows, front-sets}
 use Rattle.levels.specs.Code.{on}
+use Rattle.session.proofs.Lengths.{days-taken}
 use Rattle.little_endian.specs.Fields.{u16Bytes, i16Bytes}
 use Rattle.little_endian.proofs.Laws.{u16-length, i16-length}
 use Rattle.byte_lists.specs.Lists.{pointAt, pointsIn, pointBytes, cellBytes, lentPoints}
 use Rattle.byte_lists.specs.Profiles.{haveLengths, lengthRefusal}
+
+-- ---- the lengths by what the tests found
+
+module _ (n floors ceilings rises : ℕ) {found : Bool} (some : n ≡ 0 → ⊥) (few : n ≤ 512) (e : found ≡ haveLengths n floors ceilings rises) where
+  judged : cond {A = ℕ} found 0 2 ≡ lengthRefusal n floors ceilings rises
+  unfolding lengthRefusal
+  judged = ap (λ b. cond b 0 2) e ∙ days-taken n (cond (haveLengths n floors ceilings rises) 0 2) some few
+
+  pub lengths-wrong : found ≡ false → 2 ≡ lengthRefusal n floors ceilings rises
+  lengths-wrong h = ap (λ b. cond b 0 2) (sym h) ∙ judged
+
+  pub lengths-right : found ≡ true → 0 ≡ lengthRefusal n floors ceilings rises
+  lengths-right h = ap (λ b. cond b 0 2) (sym h) ∙ judged
 
 -- what 1 and 2 let pass
 pub record Long (n floors ceilings rises : ℕ) : Type 0 where

@@ -11,6 +11,7 @@ ghost use Rattle.byte_lists.specs.Profiles.{haveLengths, lengthRefusal};
 use little_endian::i16_at;
 use little_endian::put_i16;
 use little_endian::put_u16;
+use session::Session;
 
 // Stores the first n points of a list.
 pub fn points(bytes: &[u8], n: usize, out: &mut [i16; 512])
@@ -63,7 +64,7 @@ pub fn length_refusal(days: usize, floors: usize, ceilings: usize, rises: usize)
     if days == 0 {
         return 1;
     }
-    if 512 < days {
+    if Session::MOST_DAYS < days {
         return 1;
     }
     if !have_lengths(days, floors, ceilings, rises) {

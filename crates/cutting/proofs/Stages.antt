@@ -1,5 +1,5 @@
 -- A cut by what its tests found.
-use mathlib.Core.Path.{_≡_, refl, sym, _∙_}
+use mathlib.Core.Path.{_≡_, refl, ap, sym, _∙_}
 use mathlib.Core.Bool.{Bool, true, false, cond}
 use mathlib.Core.List.{List}
 use Prim.Native.Nat.{ℕ, _≤_, _<_}
@@ -7,9 +7,13 @@ use native.Mathlib.Omega.{arith}
 use lib.IntN.{ℤ}
 use lib.Dec.{eqb, ltb}
 use lib.ListN.{length}
+use mir.Syntax.{w32}
+use mir.Val.{SFits}
 use borrow.Author.Tests.{eq-eqb, ne-eqb, lt-ltb, le-ltb}
 use Rattle.levels.specs.Code.{lowestPoint, highestPoint, lowestTotal, highestTotal, within, code, coded}
 use Rattle.levels.proofs.Laws.{point-most}
+use Rattle.levels.proofs.Casts.{seen, coded-seen}
+use Rattle.levels.specs.declared.Coded.{Coded}
 use Rattle.levels.specs.declared.Coded.the-variants.{Code, Outside}
 use Rattle.method.specs.Filter.{Tight, tightened}
 use Rattle.session.specs.Opening.{rangesOf}
@@ -35,6 +39,11 @@ unfolding checkedValue
 value-refusal true true otherwise outside v = refl
 value-refusal true false otherwise outside v = refl
 value-refusal false in-bounds otherwise outside v = refl
+
+-- of a value that is read back from its bits
+pub value-checked : (low high : ℤ) (placed : Bool) (otherwise outside : ℕ) {value : ℤ} {v : Coded} {r : Checked} → SFits w32 value → v ≡ coded low high (seen value)
+    → r ≡ checkedValue placed otherwise v outside → r ≡ checkedValue placed otherwise (coded low high value) outside
+value-checked low high placed otherwise outside f e h = h ∙ ap (λ v. checkedValue placed otherwise v outside) (coded-seen low high f e)
 
 day-clips : (n day : ℕ) (value : ℤ) → n ≤ 512 → dayRefusal n day value ≡ 0 → DayClips day value (checkedValue (ltb day n) 7 (coded lowestPoint highestPoint value) 3 .value)
 unfolding checkedValue

@@ -3,6 +3,7 @@ ghost use mathlib.Core.Path.{_≡_};
 ghost use Prim.Native.Nat.{_≤_, _<_};
 ghost use lib.ListN.{length};
 ghost use Rattle.cuts.specs.Told.{told};
+ghost use Rattle.levels.specs.Code.{lowestPoint, highestPoint, lowestTotal, highestTotal, coded};
 ghost use Rattle.session.specs.Showing.{Sane};
 ghost use Rattle.cutting.specs.Cutting.{malformed, clipped, retightened, spend, withPresent, refusing, tightenedTo, afterCut, afterTold, listAfter};
 ghost use Rattle.cutting.specs.Stages.{checkedValue, checked, Clips};
@@ -60,15 +61,30 @@ fn check_value(placed: bool, otherwise: u8, value: Coded, outside: u8) -> Checke
     }
 }
 
-// 12 for a total's cut and 7 for a day's, then 5 or 3.
+// 7, then 3.
+fn check_day(placed: bool, value: i32) -> Checked
+    ensures { λ r. ⌜ r ≡ checkedValue placed 7 (coded lowestPoint highestPoint value) 3 ⌝ }
+{
+    let level = levels::code(value, Session::LOWEST_POINT, Session::HIGHEST_POINT);
+    check_value(placed, 7, level, 3)
+}
+
+// 12, then 5.
+fn check_total(placed: bool, value: i32) -> Checked
+    ensures { λ r. ⌜ r ≡ checkedValue placed 12 (coded lowestTotal highestTotal value) 5 ⌝ }
+{
+    let total = levels::code(value, Session::LOWEST_TOTAL, Session::HIGHEST_TOTAL);
+    check_value(placed, 12, total, 5)
+}
+
 fn check(cut: Cut, days: usize) -> Checked
     ensures { λ r. ⌜ r ≡ checked days cut ⌝ }
 {
     match cut {
-        Cut::DayFloor(day, value) => check_value(day < days, 7, levels::point(value), 3),
-        Cut::DayCeiling(day, value) => check_value(day < days, 7, levels::point(value), 3),
-        Cut::TotalFloor(day, value) => check_value(day == 0, 12, levels::total(value), 5),
-        Cut::TotalCeiling(day, value) => check_value(day == 0, 12, levels::total(value), 5),
+        Cut::DayFloor(day, value) => check_day(day < days, value),
+        Cut::DayCeiling(day, value) => check_day(day < days, value),
+        Cut::TotalFloor(day, value) => check_total(day == 0, value),
+        Cut::TotalCeiling(day, value) => check_total(day == 0, value),
     }
 }
 

@@ -21,6 +21,11 @@ pub enum Inspection {
     BrokenTotal,
 }
 
+// Every setpoint that a list can hold.
+const LOWEST_SETPOINT: i32 = -32768;
+
+const HIGHEST_SETPOINT: i32 = 32767;
+
 fn is_outside(x: usize, low: usize, high: usize) -> bool
     ensures { λ r. ⌜ r ≡ outside low high x ⌝ }
 {
@@ -128,7 +133,7 @@ fn judge(session: Session, list: &[i16]) -> Inspection
     let floors = ranges.floors;
     let ceilings = ranges.ceilings;
     let mut setpoints = [0u16; 512];
-    levels::setpoints(list, &mut setpoints);
+    levels::code_all(list, LOWEST_SETPOINT, HIGHEST_SETPOINT, &mut setpoints);
     judge_codes(
         &setpoints,
         &floors,

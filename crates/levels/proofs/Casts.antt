@@ -1,6 +1,6 @@
--- The tests, sums and casts of signed numbers, as the needs of `coded_from`, `signed` and `point_of` have them.
+-- The tests, sums and casts of signed numbers, as the needs of `code`, `decode` and `decode_short` have them.
 use Prim.Native.Nat.{ℕ, _≤_, _<_, _^_}
-use mathlib.Core.Path.{_≡_, refl, _∙_, subst}
+use mathlib.Core.Path.{_≡_, refl, ap, _∙_, subst}
 use mathlib.Core.Bool.{Bool, true, false, cond}
 use native.Mathlib.Omega.{arith}
 use lib.IntN.{ℤ, pos, negsuc, natAbs, _+ℤ_, _-ℤ_}
@@ -12,10 +12,11 @@ use borrow.Author.Tests.{le-leb}
 use mir.Syntax.{Width, w16, w32, w64}
 use mir.Val.{Fits, SFits, toZ, ofZ, hbits}
 use mir.Facts.{toZ-ofZ, toZ-pos, sfits-widen, not-T}
+use Rattle.levels.specs.declared.Coded.{Coded}
 use Rattle.levels.specs.declared.Coded.the-variants.{Code, Outside}
 use Rattle.levels.proofs.Offset.{Less}
-use Rattle.levels.specs.Code.{lowestPoint, lowestSetpoint, highestSetpoint, within, code, decoded, coded}
-use Rattle.levels.proofs.Laws.{point-less, code-difference, code-most, decoded-less, within-yes}
+use Rattle.levels.specs.Code.{lowestSetpoint, highestSetpoint, within, code, decoded, coded}
+use Rattle.levels.proofs.Laws.{code-difference, code-most, decoded-less, within-yes}
 
 -- a number of 32 bits, read back from its bits
 abbrev pub seen : ℤ → ℤ
@@ -44,7 +45,11 @@ pub setpoint-within : {z : ℤ} → SFits w16 z → within lowestSetpoint highes
 setpoint-within {z = pos a} f = le-leb a 32767 (omega (arith, f .sfits))
 setpoint-within {z = negsuc a} f = rw (le-leb a 32767 (omega (arith, f .sfits)))
 
--- `coded_from`
+-- an answer on a number read back from its bits
+pub coded-seen : (low high : ℤ) {z : ℤ} {r : Coded} → SFits w32 z → r ≡ coded low high (seen z) → r ≡ coded low high z
+coded-seen low high f e = e ∙ ap (coded low high) (toZ-ofZ f)
+
+-- `code`
 outside : (low high z : ℤ) → (low ≤ℤ z → z ≤ℤ high → ⊥) → Outside ≡ coded low high z
 outside low high z h = go (within low high z) (λ e. h (within-yes low high z .0 e .0) (within-yes low high z .0 e .1))
   where
@@ -59,7 +64,7 @@ module _ {low high z : ℤ} (fl : SFits w32 low) (fh : SFits w32 high) (fz : SFi
   pub above : ltZ (seen high) (seen z) ≡ true → Outside ≡ coded low high z
   above t = outside low high z (λ l u. clashℤ (test-yes fh fz t) u)
 
-  module _ (h : code low high ≤ 2560000) (l : ltZ (seen z) (seen low) ≡ false) (u : ltZ (seen high) (seen z) ≡ false) where
+  module _ (h : code low high ≤ 2147483647) (l : ltZ (seen z) (seen low) ≡ false) (u : ltZ (seen high) (seen z) ≡ false) where
     inside : within low high z ≡ true
     inside = within-yes low high z .1 (test-no fz fl l, test-no fh fz u)
 
@@ -81,7 +86,7 @@ module _ {low high z : ℤ} (fl : SFits w32 low) (fh : SFits w32 high) (fz : SFi
     pub taken : Code (natAbs (seen (seen z -ℤ seen low))) ≡ coded low high z
     taken = rw (same, inside)
 
--- `signed` and `point_of`
+-- `decode` and `decode_short`
 low-less : (low : ℤ) → low ≤ℤ pos 0 → Less low 0 (natAbs low)
 low-less (pos a) h = omega (arith, leb→le a 0 (h .le))
 low-less (negsuc a) h = omega arith
@@ -90,7 +95,7 @@ pub less-fits : (w : Width) (z : ℤ) (n k : ℕ) → Less z n k → n < 2 ^ hbi
 less-fits w (pos a) n k p h l = record { sfits = omega arith }
 less-fits w (negsuc a) n k p h l = record { sfits = omega arith }
 
-module _ {low : ℤ} {n : ℕ} (fl : SFits w32 low) (h : (low ≤ℤ pos 0) × (n ≤ 2560000)) where
+module _ {low : ℤ} {n : ℕ} (fl : SFits w32 low) (h : (low ≤ℤ pos 0) × (n ≤ 2147483647)) where
   sum : seen low +ℤ toZ w32 n ≡ decoded low n
   sum = rw (toZ-ofZ fl, toZ-pos w32 {n = n} (omega arith))
 
@@ -102,6 +107,22 @@ module _ {low : ℤ} {n : ℕ} (fl : SFits w32 low) (h : (low ≤ℤ pos 0) × (
   pub shown : seen (seen low +ℤ toZ w32 n) ≡ decoded low n
   shown = toZ-ofZ add-fits ∙ sum
 
-pub point-fits : {z : ℤ} {n : ℕ} → z ≡ decoded lowestPoint n → n ≤ 5000 → SFits w16 z
-point-fits {n = n} e h =
-    rw e (less-fits w16 (decoded lowestPoint n) n 1000 (decoded-less lowestPoint n 1000 point-less) (omega arith) (omega arith))
+-- a lowest bound of 16 bits
+low-most : (low : ℤ) → lowestSetpoint ≤ℤ low → low ≤ℤ pos 0 → natAbs low ≤ 32768
+low-most (pos a) l u = omega (arith, leb→le a 0 (u .le))
+low-most (negsuc a) l u = omega (arith, leb→le a 32767 (l .le))
+
+module _ {low : ℤ} {n : ℕ} (fl : SFits w32 low) (h : (within lowestSetpoint (pos 0) low ≡ true) × (n ≤ 32767)) where
+  abbrev bounds : (lowestSetpoint ≤ℤ low) × (low ≤ℤ pos 0)
+  bounds = within-yes lowestSetpoint (pos 0) low .0 (h .0)
+
+  pub short-asked : (seen low ≤ℤ pos 0) × (n ≤ 2147483647)
+  short-asked = (rw (toZ-ofZ fl) (bounds .1), omega arith)
+
+  pub short-same : {z : ℤ} → z ≡ decoded (seen low) n → z ≡ decoded low n
+  short-same e = rw (toZ-ofZ fl) at e
+
+  pub short-fits : {z : ℤ} → z ≡ decoded low n → SFits w16 z
+  short-fits e =
+      rw e
+      (less-fits w16 (decoded low n) n (natAbs low) (decoded-less low n (natAbs low) (low-less low (bounds .1))) (omega arith) (low-most low (bounds .0) (bounds .1)))

@@ -1,11 +1,11 @@
--- The loops of `encode` and `show_points` over plain lists: their invariants, and what starts, keeps and ends each.
+-- The loops of `code_all` and `decode_all` over plain lists: their invariants, and what starts, keeps and ends each.
 use Prim.Native.Nat.{ℕ, _+_, _≤_, _<_}
 use mathlib.Core.Path.{_≡_, ap, sym, _∙_}
 use mathlib.Core.Bool.{true, false, not}
 use mathlib.Core.List.{List}
 use native.Mathlib.Omega.{arith}
-use lib.IntN.{ℤ}
-use lib.ListN.{length, set}
+use lib.IntN.{ℤ, pos}
+use lib.ListN.{length, set, getD}
 use mir.Syntax.{w16, w32}
 use mir.Val.{Fits, SFits, toZ, ofZ}
 use mir.Facts.{toZ-ofZ, sfits-widen}
@@ -13,11 +13,11 @@ use Rattle.series.specs.Written.{written, written-none, written-more}
 use Rattle.series.specs.First.{first-only, Nowhere, nowhere-none, nowhere-more}
 use Rattle.levels.specs.declared.Coded.{Coded}
 use Rattle.levels.specs.declared.Coded.the-variants.{Code, Outside}
-use Rattle.levels.specs.Code.{lowestPoint, lowestSetpoint, highestSetpoint, within, code, decoded, on, firstOutside, coded}
+use Rattle.levels.specs.Code.{lowestSetpoint, highestSetpoint, within, code, decoded, on, firstOutside, coded}
 use Rattle.levels.proofs.Laws.{code-most, coded-code, coded-outside}
-use Rattle.levels.proofs.Casts.{seen, recast, setpoint-within, point-fits}
+use Rattle.levels.proofs.Casts.{seen, recast, setpoint-within, short-same, short-fits}
 
--- what `encode` ensures
+-- what `code_all` ensures
 abbrev Encoded : List ℤ → List ℕ → ℕ → List ℕ → ℤ → ℤ → Type 0
 Encoded xs first r out low high =
     (r ≡ firstOutside low high xs)
@@ -69,6 +69,14 @@ module _ {low high : ℤ} {xs : List ℤ} {first : List ℕ} {i : ℕ} {out : Li
             made = ap (λ a. set a i c) (u .made) ∙ written-more _ i first c (t .1);
           }
 
--- a point that is shown, read back from its bits
-pub point-seen : {z : ℤ} {level : ℕ} → z ≡ decoded lowestPoint level → level ≤ 5000 → toZ w16 (ofZ w16 z) ≡ decoded lowestPoint level
-point-seen e h = toZ-ofZ (point-fits e h) ∙ e
+-- the loop of `decode_all` knows its bound as it is read back, and each number of 16 bits too
+module _ {low : ℤ} (fl : SFits w32 low) where
+  pub low-seen : within lowestSetpoint (pos 0) low ≡ true → within lowestSetpoint (pos 0) (seen low) ≡ true
+  low-seen h = rw (toZ-ofZ fl) h
+
+  pub short-seen : {z : ℤ} {n : ℕ} → (within lowestSetpoint (pos 0) low ≡ true) × (n ≤ 32767) → z ≡ decoded (seen low) n → toZ w16 (ofZ w16 z) ≡ decoded (seen low) n
+  short-seen h e = toZ-ofZ (short-fits fl h (short-same fl h e)) ∙ e
+
+  pub decoded-seen : (codes : List ℕ) (n : ℕ) (first out : List ℤ) → out ≡ written (λ k. decoded (seen low) (getD codes k 0)) n first
+      → out ≡ written (λ k. decoded low (getD codes k 0)) n first
+  decoded-seen codes n first out e = rw (toZ-ofZ fl) at e

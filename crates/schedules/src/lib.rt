@@ -35,7 +35,7 @@ fn write(
 {
     let mut levels = floors;
     raising::raise_to(&mut levels, ceilings, rises, n, total);
-    levels::show_points(&levels, n, list);
+    levels::decode_all(&levels, n, Session::LOWEST_POINT, list);
 }
 
 // A value outside its bounds is within no range.
@@ -106,7 +106,8 @@ pub fn write_day(session: Session, day: usize, value: i32, list: &mut [i16]) -> 
     let ranges = session.present;
     let floors = ranges.floors;
     let ceilings = ranges.ceilings;
-    let level = check(levels::point(value), wide(floors[day]), wide(ceilings[day]));
+    let coded = levels::code(value, Session::LOWEST_POINT, Session::HIGHEST_POINT);
+    let level = check(coded, wide(floors[day]), wide(ceilings[day]));
     let refusal = refusal_of(session.spent, level.within);
     if refusal != 0 {
         return refusal;
@@ -126,7 +127,8 @@ pub fn write_total(session: Session, value: i32, list: &mut [i16]) -> u8
         return 2;
     }
     let ranges = session.present;
-    let total = check(levels::total(value), ranges.least, ranges.most);
+    let coded = levels::code(value, Session::LOWEST_TOTAL, Session::HIGHEST_TOTAL);
+    let total = check(coded, ranges.least, ranges.most);
     let refusal = refusal_of(session.spent, total.within);
     if refusal != 0 {
         return refusal;

@@ -2,6 +2,7 @@ pub mod Stages
 pub mod Checks
 pub mod Shows
 pub mod Entered
+pub mod Lengths
 pub mod Lists
 pub mod Sanity
 pub mod Within

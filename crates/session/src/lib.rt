@@ -142,17 +142,17 @@ impl Session {
     // Document 01's bounds of an entry.
     pub const MOST_DAYS: usize = 512;
 
-    pub const LOWEST_POINT: i32 = levels::LOWEST_POINT;
+    pub const LOWEST_POINT: i32 = -1000;
 
-    pub const HIGHEST_POINT: i32 = levels::HIGHEST_POINT;
+    pub const HIGHEST_POINT: i32 = 4000;
 
-    pub const LOWEST_RISE: i32 = levels::LOWEST_RISE;
+    pub const LOWEST_RISE: i32 = -2000;
 
-    pub const HIGHEST_RISE: i32 = levels::HIGHEST_RISE;
+    pub const HIGHEST_RISE: i32 = 2000;
 
-    pub const LOWEST_TOTAL: i32 = levels::LOWEST_TOTAL;
+    pub const LOWEST_TOTAL: i32 = -512000;
 
-    pub const HIGHEST_TOTAL: i32 = levels::HIGHEST_TOTAL;
+    pub const HIGHEST_TOTAL: i32 = 2048000;
 
     // Opens a profile: document 01's checks 1, 2, 3, 4, 5, 6, then 8.
     pub fn open(
@@ -172,19 +172,24 @@ impl Session {
         let mut low = [0u16; 512];
         let mut high = [0u16; 512];
         let mut steps = [0u16; 512];
-        if levels::points(floors, &mut low) < days {
+        let inside = levels::code_all(floors, Self::LOWEST_POINT, Self::HIGHEST_POINT, &mut low);
+        if inside < days {
             return refused(3);
         }
-        if levels::points(ceilings, &mut high) < days {
+        let inside = levels::code_all(ceilings, Self::LOWEST_POINT, Self::HIGHEST_POINT, &mut high);
+        if inside < days {
             return refused(3);
         }
-        if levels::rises(rises, &mut steps) + 1 < days {
+        let inside = levels::code_all(rises, Self::LOWEST_RISE, Self::HIGHEST_RISE, &mut steps);
+        if inside + 1 < days {
             return refused(4);
         }
-        let Coded::Code(least) = levels::total(lowest) else {
+        let Coded::Code(least) = levels::code(lowest, Self::LOWEST_TOTAL, Self::HIGHEST_TOTAL)
+        else {
             return refused(5);
         };
-        let Coded::Code(most) = levels::total(highest) else {
+        let Coded::Code(most) = levels::code(highest, Self::LOWEST_TOTAL, Self::HIGHEST_TOTAL)
+        else {
             return refused(5);
         };
         open_codes(days, low, high, steps, least, most)
@@ -207,12 +212,12 @@ impl Session {
         let ranges = self.present;
         let low = ranges.floors;
         let high = ranges.ceilings;
-        levels::show_points(&low, n, floors);
-        levels::show_points(&high, n, ceilings);
+        levels::decode_all(&low, n, Self::LOWEST_POINT, floors);
+        levels::decode_all(&high, n, Self::LOWEST_POINT, ceilings);
         Shown {
             refusal: 0,
-            least: levels::show_total(ranges.least),
-            most: levels::show_total(ranges.most),
+            least: levels::decode(ranges.least, Self::LOWEST_TOTAL),
+            most: levels::decode(ranges.most, Self::LOWEST_TOTAL),
             spent: self.spent,
         }
     }

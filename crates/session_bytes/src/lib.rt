@@ -49,10 +49,14 @@ fn total(bytes: &[u8], place: usize) -> usize
     requires { ⌜ place + 4 ≤ length (now bytes) ⌝ }
     ensures { λ r. ⌜ r ≡ totalAt (now (bytes .entry)) place ⌝ }
 {
-    let Coded::Code(code) = levels::total(i32_at(bytes, place)) else {
+    let Coded::Code(held) = levels::code(
+        i32_at(bytes, place),
+        Session::LOWEST_TOTAL,
+        Session::HIGHEST_TOTAL,
+    ) else {
         return 0;
     };
-    code
+    held
 }
 
 fn ranges(bytes: &[u8], n: usize, totals: usize, place: usize) -> Ranges
@@ -75,7 +79,7 @@ pub fn decode(bytes: &[u8]) -> Session
     requires { ⌜ length (now bytes) ≡ sessionBytes ⌝ }
     ensures { λ r. ⌜ r ≡ decoding (now (bytes .entry)) ⌝ }
 {
-    let days = greatest(1, least(512, wide(u16_at(bytes, 0))));
+    let days = greatest(1, least(Session::MOST_DAYS, wide(u16_at(bytes, 0))));
     let mut rises = [0u16; 512];
     cells(bytes, 20, days, 4000, &mut rises);
     let opened = ranges(bytes, days, 4, 1044);
@@ -101,8 +105,8 @@ fn put_totals(least: usize, most: usize, place: usize, out: &mut [u8])
     requires { ⌜ (least ≤ 2560000) × (most ≤ 2560000) × (place + 8 ≤ length (now out)) ⌝ }
     ensures { λ r. ⌜ now (out .exit) ≡ sets (now (out .entry)) place (totalBytes least most) ⌝ }
 {
-    put_i32(out, place, levels::show_total(least));
-    put_i32(out, place + 4, levels::show_total(most));
+    put_i32(out, place, levels::decode(least, Session::LOWEST_TOTAL));
+    put_i32(out, place + 4, levels::decode(most, Session::LOWEST_TOTAL));
 }
 
 fn put_zeros(out: &mut [u8], from: usize, to: usize)

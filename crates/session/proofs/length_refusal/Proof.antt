@@ -1,25 +1,39 @@
-use borrow.Author.Tests.{eq-eqb, ne-eqb, lt-ltb, le-ltb}
+-- `length_refusal` meets its contract: a law for each return.
+use Rattle.session.proofs.Lengths.{no-days, many-days, floors-wrong, ceilings-wrong, rises-wrong, lengths-right}
 use borrow.Author.Needs.{needs}
+use native.Mathlib.Omega.{arith}
 use Rattle.session.proofs.length_refusal.Statement.{statement}
 use Rattle.session.proofs.length_refusal.Tie as tie
 
 returns : tie.Need-returns
-returns c = simp (eq-eqb _ _ (c .if1 .taken))
+returns c = no-days (c .before .args .days) _ (c .if1 .taken)
 
 returns-2 : tie.Need-returns-2
-returns-2 c = simp (ne-eqb _ _ (c .before .if1 .left), lt-ltb _ _ (c .if2 .taken))
+returns-2 c = many-days (c .before .before .args .days) _ (c .before .if1 .left) (omega arith)
 
 returns-3 : tie.Need-returns-3
-returns-3 c = simp (ne-eqb _ _ (c .before .before .if1 .left), le-ltb _ _ (c .before .if2 .left), ne-eqb _ _ (c .if3 .taken))
+returns-3 c =
+    let e = c .before in
+    let a = e .before .before .args in
+    floors-wrong (a .days) (a .floors) (a .ceilings) (a .rises) (e .before .if1 .left) (e .if2 .left) (c .if3 .taken)
 
 returns-4 : tie.Need-returns-4
-returns-4 c = simp (ne-eqb _ _ (c .before .before .before .if1 .left), le-ltb _ _ (c .before .before .if2 .left), eq-eqb _ _ (c .before .if3 .left), ne-eqb _ _ (c .if4 .taken))
+returns-4 c =
+    let e = c .before .before in
+    let a = e .before .before .args in
+    ceilings-wrong (a .days) (a .floors) (a .ceilings) (a .rises) (e .before .if1 .left) (e .if2 .left) (c .before .if3 .left) (c .if4 .taken)
 
 returns-5 : tie.Need-returns-5
-returns-5 c = simp (ne-eqb _ _ (c .before .before .before .before .if1 .left), le-ltb _ _ (c .before .before .before .if2 .left), eq-eqb _ _ (c .before .before .if3 .left), eq-eqb _ _ (c .before .if4 .left), ne-eqb _ _ (c .if5 .taken))
+returns-5 c =
+    let e = c .before .before .before in
+    let a = e .before .before .args in
+    rises-wrong (a .days) (a .floors) (a .ceilings) (a .rises) (e .before .if1 .left) (e .if2 .left) (c .before .before .if3 .left) (c .before .if4 .left) (c .if5 .taken)
 
 returns-6 : tie.Need-returns-6
-returns-6 c = simp (ne-eqb _ _ (c .before .before .before .before .if1 .left), le-ltb _ _ (c .before .before .before .if2 .left), eq-eqb _ _ (c .before .before .if3 .left), eq-eqb _ _ (c .before .if4 .left), eq-eqb _ _ (c .if5 .left))
+returns-6 c =
+    let e = c .before .before .before in
+    let a = e .before .before .args in
+    lengths-right (a .days) (a .floors) (a .ceilings) (a .rises) (e .before .if1 .left) (e .if2 .left) (c .before .before .if3 .left) (c .before .if4 .left) (c .if5 .left)
 
 pub length-refusal-spec : {M : Type 1} → statement M
 length-refusal-spec =

@@ -13,8 +13,8 @@ returns : tie.Need-returns
 unfolding totalBytes
 returns c =
     let a = c .before .before .before .before .before .before .before .before .before .before .before .args in
-    let low = c .before .before .before .before .before .before .before .before .show-total in
-    let high = c .before .before .before .show-total2 in
+    let low = c .before .before .before .before .before .before .before .before .decode in
+    let high = c .before .before .before .decode2 in
     laid-last (laid (a .out .now) (a .place) (i32Bytes (decoded lowestTotal (a .least))) (rw (toZ-ofZ (sfits-of {w = w32} (low .ok)), low .ensures) at (c .before .before .before .before .before .before .before .put-i32 .ensures)) (i32-length _))
     (i32Bytes (decoded lowestTotal (a .most))) (rw (toZ-ofZ (sfits-of {w = w32} (high .ok)), high .ensures) at (c .before .before .put-i322 .ensures))
 

@@ -1,9 +1,8 @@
 use lib.IntN.{ℤ}
-use mathlib.Core.Path.{_≡_}
-use mir.Facts.{toZ-ofZ}
-use mir.Syntax.{w32}
+use mathlib.Core.Path.{_≡_, ap, _∙_}
 use Rattle.levels.specs.Code.{lowestTotal, highestTotal, coded}
 use Rattle.levels.proofs.Laws.{coded-code, coded-outside}
+use Rattle.levels.proofs.Casts.{coded-seen}
 use Rattle.little_endian.specs.Fields.{i32At}
 use borrow.Author.Needs.{needs, sfits-of}
 use Rattle.session_bytes.proofs.total.Statement.{statement}
@@ -12,15 +11,16 @@ use Rattle.session_bytes.proofs.total.Tie as tie
 abbrev field : tie.After-i32-at → ℤ
 field c = i32At (c .before .before .args .bytes .now) (c .before .before .args .place)
 
-answer : (c : tie.After-total) → c .total .result ≡ coded lowestTotal highestTotal (field (c .before))
-answer c = rw (toZ-ofZ (sfits-of {w = w32} (c .before .i32-at .ok)), c .before .i32-at .ensures) at (c .total .ensures)
+answer : (c : tie.After-code) → c .code .result ≡ coded lowestTotal highestTotal (field (c .before))
+answer c =
+    coded-seen lowestTotal highestTotal {z = c .before .i32-at .result} (sfits-of (c .before .i32-at .ok)) (c .code .ensures) ∙ ap (coded lowestTotal highestTotal) (c .before .i32-at .ensures)
 
 returns : tie.Need-returns
 returns c = rw (coded-outside lowestTotal highestTotal _ (answer (c .before .before)) (c .enum-told .given .1))
 
 returns-2 : tie.Need-returns-2
 returns-2 c =
-    let t = coded-code lowestTotal highestTotal (field (c .before .before .before .before)) _ (answer (c .before .before .before)) (c .before .code .given .1) in
+    let t = coded-code lowestTotal highestTotal (field (c .before .before .before .before)) _ (answer (c .before .before .before)) (c .before .held .given .1) in
     rw (t .0) (t .1)
 
 pub total-spec : {M : Type 1} → statement M

@@ -1,50 +1,158 @@
-use mir.Facts.{toZ-ofZ}
+-- `open` meets its contract: a law of Checks for each return, by what the calls before it gave.
+use mathlib.Core.Path.{_≡_, _∙_}
 use denote.Ref.{now}
-use Rattle.session.specs.Opening.{profile}
-use mathlib.Core.Path.{_∙_}
-use Rattle.levels.specs.Code.{lowestTotal, highestTotal}
-use Rattle.levels.proofs.Laws.{coded-code, coded-outside}
-use Rattle.session.proofs.Checks.{lengths-refused, sizes, rises-few, floor-outside, ceiling-outside, rise-outside, lowest-outside, highest-outside, in-bounds, all-opened}
 use borrow.Author.Needs.{needs}
 use native.Mathlib.Omega.{arith}
+use Rattle.levels.specs.Code.{lowestPoint, highestPoint, lowestRise, highestRise, lowestTotal, highestTotal, firstOutside, coded}
+use Rattle.levels.proofs.Laws.{coded-code, coded-outside}
+use Rattle.levels.proofs.Casts.{coded-seen}
+use Rattle.session.specs.Profile.{Profile}
+use Rattle.session.specs.Opening.{profile}
+use Rattle.session.proofs.Checks.{lengths-refused, sizes, rises-few, floor-outside, ceiling-outside, rise-outside, lowest-outside, highest-outside, in-bounds, all-opened}
 use Rattle.session.proofs.Session.open.Statement.{statement}
 use Rattle.session.proofs.Session.open.Tie as tie
 
-returns : tie.Need-returns
-returns c = c .refused .ensures ∙ lengths-refused _ _ (c .before .before .length-refusal .ensures) (c .before .if1 .taken)
+-- what is opened
+abbrev handed : tie.After-length-refusal → Profile
+handed z = let a = z .before .args in profile (a .days) (now (a .floors)) (now (a .ceilings)) (now (a .rises)) (a .lowest) (a .highest)
 
-points-requires : tie.Need-points-requires
-points-requires c κs = let a = c .before .before .before .args in let z = sizes (profile (a .days) (now (a .floors)) (now (a .ceilings)) (now (a .rises)) (a .lowest) (a .highest)) (c .before .before .length-refusal .ensures) (c .before .if1 .left) in omega (arith, z .floors, z .few)
+-- the call before
+abbrev from-floors : tie.After-code-all → tie.After-length-refusal
+from-floors f = f .before .before .before
+
+abbrev from-ceilings : tie.After-code-all2 → tie.After-code-all
+from-ceilings c = c .before .before .before
+
+abbrev from-rises : tie.After-code-all3 → tie.After-code-all2
+from-rises r = r .before .before .before
+
+abbrev from-lowest : tie.After-code → tie.After-code-all3
+from-lowest l = l .before .before
+
+abbrev from-highest : tie.After-code2 → tie.After-code
+from-highest u = u .before .before .before .before
+
+-- what each call gave
+floors-first : (f : tie.After-code-all) → f .code-all .result ≡ firstOutside lowestPoint highestPoint (handed (from-floors f) .floors)
+floors-first f = f .code-all .ensures .0
+
+ceilings-first : (c : tie.After-code-all2) → c .code-all2 .result ≡ firstOutside lowestPoint highestPoint (handed (from-floors (from-ceilings c)) .ceilings)
+ceilings-first c = c .code-all2 .ensures .0
+
+rises-first : (r : tie.After-code-all3) → r .code-all3 .result ≡ firstOutside lowestRise highestRise (handed (from-floors (from-ceilings (from-rises r))) .rises)
+rises-first r = r .code-all3 .ensures .0
+
+lowest-coded : (l : tie.After-code) → l .code .result ≡ coded lowestTotal highestTotal (handed (from-floors (from-ceilings (from-rises (from-lowest l)))) .lowest)
+lowest-coded l = coded-seen lowestTotal highestTotal (from-floors (from-ceilings (from-rises (from-lowest l))) .before .fits .lowest) (l .code .ensures)
+
+highest-coded : (u : tie.After-code2)
+    → u .code2 .result ≡ coded lowestTotal highestTotal (handed (from-floors (from-ceilings (from-rises (from-lowest (from-highest u))))) .highest)
+highest-coded u =
+    coded-seen lowestTotal highestTotal (from-floors (from-ceilings (from-rises (from-lowest (from-highest u)))) .before .fits .highest) (u .code2 .ensures)
+
+returns : tie.Need-returns
+returns c = let z = c .before .before in c .refused .ensures ∙ lengths-refused (handed z) _ (z .length-refusal .ensures) (c .before .if1 .taken)
+
+code-all-requires : tie.Need-code-all-requires
+code-all-requires c κs =
+    let e = c .before in
+    let z = sizes (handed (e .before)) (e .before .length-refusal .ensures) (e .if1 .left) in
+    (search needs, omega (arith, z .floors, z .few))
 
 returns-2 : tie.Need-returns-2
-returns-2 c = c .refused2 .ensures ∙ floor-outside _ (c .before .before .before .before .before .length-refusal .ensures) (c .before .before .before .before .if1 .left) (c .before .before .points .ensures .0) (c .before .if2 .taken)
+returns-2 c =
+    let f = c .before .before in
+    let z = from-floors f in
+    c .refused2 .ensures ∙ floor-outside (handed z) (z .length-refusal .ensures) (f .before .before .if1 .left) (floors-first f) (c .before .if2 .taken)
 
-points-requires-2 : tie.Need-points-requires-2
-points-requires-2 c κs = let a = c .before .before .before .before .before .before .args in let z = sizes (profile (a .days) (now (a .floors)) (now (a .ceilings)) (now (a .rises)) (a .lowest) (a .highest)) (c .before .before .before .before .before .length-refusal .ensures) (c .before .before .before .before .if1 .left) in omega (arith, z .ceilings, z .few)
+code-all-requires-2 : tie.Need-code-all-requires-2
+code-all-requires-2 c κs =
+    let f = c .before .before in
+    let z = from-floors f in
+    let w = sizes (handed z) (z .length-refusal .ensures) (f .before .before .if1 .left) in
+    (search needs, omega (arith, w .ceilings, w .few))
 
 returns-3 : tie.Need-returns-3
-returns-3 c = c .refused3 .ensures ∙ ceiling-outside _ (c .before .before .before .before .before .before .before .before .length-refusal .ensures) (c .before .before .before .before .before .before .before .if1 .left) (c .before .before .before .before .before .points .ensures .0) (c .before .before .before .before .if2 .left) (c .before .before .points2 .ensures .0) (c .before .if3 .taken)
+returns-3 c =
+    let e = c .before .before in
+    let f = from-ceilings e in
+    let z = from-floors f in
+    c .refused3 .ensures
+    ∙ ceiling-outside (handed z) (z .length-refusal .ensures) (f .before .before .if1 .left) (floors-first f) (e .before .before .if2 .left) (ceilings-first e) (c .before .if3 .taken)
 
-rises-requires : tie.Need-rises-requires
-rises-requires c κs = let a = c .before .before .before .before .before .before .before .before .before .args in let z = sizes (profile (a .days) (now (a .floors)) (now (a .ceilings)) (now (a .rises)) (a .lowest) (a .highest)) (c .before .before .before .before .before .before .before .before .length-refusal .ensures) (c .before .before .before .before .before .before .before .if1 .left) in omega (arith, z .rises, z .few)
+code-all-requires-3 : tie.Need-code-all-requires-3
+code-all-requires-3 c κs =
+    let f = from-ceilings (c .before .before) in
+    let z = from-floors f in
+    let w = sizes (handed z) (z .length-refusal .ensures) (f .before .before .if1 .left) in
+    (search needs, omega (arith, w .rises, w .few))
 
 add-if4 : tie.Need-add-if4
-add-if4 c = let a = c .before .before .before .before .before .before .before .before .before .before .args in let z = rises-few (profile (a .days) (now (a .floors)) (now (a .ceilings)) (now (a .rises)) (a .lowest) (a .highest)) (c .before .before .before .before .before .before .before .before .before .length-refusal .ensures) (c .before .before .before .before .before .before .before .before .if1 .left) (c .rises .ensures .0) in record { fits = omega arith }
+add-if4 c =
+    let f = from-ceilings (from-rises c) in
+    let z = from-floors f in
+    let h = rises-few (handed z) (z .length-refusal .ensures) (f .before .before .if1 .left) (rises-first c) in
+    record { fits = omega arith }
 
 returns-4 : tie.Need-returns-4
-returns-4 c = c .refused4 .ensures ∙ rise-outside _ (c .before .before .before .before .before .before .before .before .before .before .before .length-refusal .ensures) (c .before .before .before .before .before .before .before .before .before .before .if1 .left) (c .before .before .before .before .before .before .before .before .points .ensures .0) (c .before .before .before .before .before .before .before .if2 .left) (c .before .before .before .before .before .points2 .ensures .0) (c .before .before .before .before .if3 .left) (c .before .before .rises .ensures .0) (c .before .if4 .taken)
+returns-4 c =
+    let r = c .before .before in
+    let e = from-rises r in
+    let f = from-ceilings e in
+    let z = from-floors f in
+    c .refused4 .ensures
+    ∙ rise-outside (handed z) (z .length-refusal .ensures) (f .before .before .if1 .left) (floors-first f) (e .before .before .if2 .left) (ceilings-first e) (r .before .before .if3 .left)
+    (rises-first r) (c .before .if4 .taken)
 
 returns-5 : tie.Need-returns-5
-returns-5 c = c .refused5 .ensures ∙ lowest-outside _ (c .before .before .before .before .before .before .before .before .before .before .before .before .before .before .length-refusal .ensures) (c .before .before .before .before .before .before .before .before .before .before .before .before .before .if1 .left) (c .before .before .before .before .before .before .before .before .before .before .before .points .ensures .0) (c .before .before .before .before .before .before .before .before .before .before .if2 .left) (c .before .before .before .before .before .before .before .before .points2 .ensures .0) (c .before .before .before .before .before .before .before .if3 .left) (c .before .before .before .before .before .rises .ensures .0) (c .before .before .before .before .if4 .left) (coded-outside lowestTotal highestTotal (c .before .before .before .before .before .before .before .before .before .before .before .before .before .before .before .args .lowest) (rw (toZ-ofZ (c .before .before .before .before .before .before .before .before .before .before .before .before .before .before .before .fits .lowest)) at (c .before .before .before .total .ensures)) (c .before .enum-told .given .1))
+returns-5 c =
+    let l = c .before .before .before in
+    let r = from-lowest l in
+    let e = from-rises r in
+    let f = from-ceilings e in
+    let z = from-floors f in
+    c .refused5 .ensures
+    ∙ lowest-outside (handed z) (z .length-refusal .ensures) (f .before .before .if1 .left) (floors-first f) (e .before .before .if2 .left) (ceilings-first e) (r .before .before .if3 .left)
+    (rises-first r) (l .before .if4 .left) (coded-outside lowestTotal highestTotal (handed z .lowest) (lowest-coded l) (c .before .enum-told .given .1))
 
 returns-6 : tie.Need-returns-6
-returns-6 c = c .refused6 .ensures ∙ highest-outside _ (c .before .before .before .before .before .before .before .before .before .before .before .before .before .before .before .before .before .before .length-refusal .ensures) (c .before .before .before .before .before .before .before .before .before .before .before .before .before .before .before .before .before .if1 .left) (c .before .before .before .before .before .before .before .before .before .before .before .before .before .before .before .points .ensures .0) (c .before .before .before .before .before .before .before .before .before .before .before .before .before .before .if2 .left) (c .before .before .before .before .before .before .before .before .before .before .before .before .points2 .ensures .0) (c .before .before .before .before .before .before .before .before .before .before .before .if3 .left) (c .before .before .before .before .before .before .before .before .before .rises .ensures .0) (c .before .before .before .before .before .before .before .before .if4 .left) (coded-outside lowestTotal highestTotal (c .before .before .before .before .before .before .before .before .before .before .before .before .before .before .before .before .before .before .before .args .highest) (rw (toZ-ofZ (c .before .before .before .before .before .before .before .before .before .before .before .before .before .before .before .before .before .before .before .fits .highest)) at (c .before .before .before .total2 .ensures)) (c .before .enum-told2 .given .1))
+returns-6 c =
+    let u = c .before .before .before in
+    let l = from-highest u in
+    let r = from-lowest l in
+    let e = from-rises r in
+    let f = from-ceilings e in
+    let z = from-floors f in
+    c .refused6 .ensures
+    ∙ highest-outside (handed z) (z .length-refusal .ensures) (f .before .before .if1 .left) (floors-first f) (e .before .before .if2 .left) (ceilings-first e) (r .before .before .if3 .left)
+    (rises-first r) (l .before .if4 .left) (coded-outside lowestTotal highestTotal (handed z .highest) (highest-coded u) (c .before .enum-told2 .given .1))
 
 open-codes-requires : tie.Need-open-codes-requires
-open-codes-requires c κs = let a = c .before .before .before .before .before .before .before .before .before .before .before .before .before .before .before .before .before .before .before .args in let l = (coded-code lowestTotal highestTotal (a .lowest) _ (rw (toZ-ofZ (c .before .before .before .before .before .before .before .before .before .before .before .before .before .before .before .before .before .before .before .fits .lowest)) at (c .before .before .before .before .before .before .before .total .ensures)) (c .before .before .before .before .before .least .given .1)) in let u = (coded-code lowestTotal highestTotal (a .highest) _ (rw (toZ-ofZ (c .before .before .before .before .before .before .before .before .before .before .before .before .before .before .before .before .before .before .before .fits .highest)) at (c .before .before .before .total2 .ensures)) (c .before .most .given .1)) in in-bounds (profile (a .days) (now (a .floors)) (now (a .ceilings)) (now (a .rises)) (a .lowest) (a .highest)) (c .before .before .before .before .before .before .before .before .before .before .before .before .before .before .before .before .before .before .length-refusal .ensures) (c .before .before .before .before .before .before .before .before .before .before .before .before .before .before .before .before .before .if1 .left) (c .before .before .before .before .before .before .before .before .before .before .before .before .before .before .before .points .ensures .0) (c .before .before .before .before .before .before .before .before .before .before .before .before .before .before .if2 .left) (c .before .before .before .before .before .before .before .before .before .before .before .before .points2 .ensures .0) (c .before .before .before .before .before .before .before .before .before .before .before .if3 .left) (c .before .before .before .before .before .before .before .before .before .rises .ensures .0) (c .before .before .before .before .before .before .before .before .if4 .left) (l .0) (u .0) (c .before .before .before .before .before .before .before .before .before .before .before .before .before .before .before .points .ensures .1) (c .before .before .before .before .before .before .before .before .before .before .before .before .points2 .ensures .1) (c .before .before .before .before .before .before .before .before .before .rises .ensures .1) (l .1) (u .1)
+open-codes-requires c κs =
+    let u = c .before .before .before in
+    let l = from-highest u in
+    let r = from-lowest l in
+    let e = from-rises r in
+    let f = from-ceilings e in
+    let z = from-floors f in
+    let low = coded-code lowestTotal highestTotal (handed z .lowest) _ (lowest-coded l) (u .before .before .least .given .1) in
+    let high = coded-code lowestTotal highestTotal (handed z .highest) _ (highest-coded u) (c .before .most .given .1) in
+    in-bounds (handed z) (z .length-refusal .ensures) (f .before .before .if1 .left) (floors-first f) (e .before .before .if2 .left) (ceilings-first e) (r .before .before .if3 .left)
+    (rises-first r) (l .before .if4 .left) (low .0) (high .0) (f .code-all .ensures .1 .0) (e .code-all2 .ensures .1 .0) (r .code-all3 .ensures .1 .0) (low .1) (high .1)
 
 returns-7 : tie.Need-returns-7
-returns-7 c = let a = c .before .before .before .before .before .before .before .before .before .before .before .before .before .before .before .before .before .before .before .before .args in let l = (coded-code lowestTotal highestTotal (a .lowest) _ (rw (toZ-ofZ (c .before .before .before .before .before .before .before .before .before .before .before .before .before .before .before .before .before .before .before .before .fits .lowest)) at (c .before .before .before .before .before .before .before .before .total .ensures)) (c .before .before .before .before .before .before .least .given .1)) in let u = (coded-code lowestTotal highestTotal (a .highest) _ (rw (toZ-ofZ (c .before .before .before .before .before .before .before .before .before .before .before .before .before .before .before .before .before .before .before .before .fits .highest)) at (c .before .before .before .before .total2 .ensures)) (c .before .before .most .given .1)) in c .open-codes .ensures ∙ all-opened (profile (a .days) (now (a .floors)) (now (a .ceilings)) (now (a .rises)) (a .lowest) (a .highest)) (c .before .before .before .before .before .before .before .before .before .before .before .before .before .before .before .before .before .before .before .length-refusal .ensures) (c .before .before .before .before .before .before .before .before .before .before .before .before .before .before .before .before .before .before .if1 .left) (c .before .before .before .before .before .before .before .before .before .before .before .before .before .before .before .before .points .ensures .0) (c .before .before .before .before .before .before .before .before .before .before .before .before .before .before .before .if2 .left) (c .before .before .before .before .before .before .before .before .before .before .before .before .before .points2 .ensures .0) (c .before .before .before .before .before .before .before .before .before .before .before .before .if3 .left) (c .before .before .before .before .before .before .before .before .before .before .rises .ensures .0) (c .before .before .before .before .before .before .before .before .before .if4 .left) (l .0) (u .0) (c .before .before .before .before .before .before .before .before .before .before .before .before .before .before .before .before .points .ensures .1) (c .before .before .before .before .before .before .before .before .before .before .before .before .before .points2 .ensures .1) (c .before .before .before .before .before .before .before .before .before .before .rises .ensures .1) (l .1) (u .1)
+returns-7 c =
+    let u = c .before .before .before .before in
+    let l = from-highest u in
+    let r = from-lowest l in
+    let e = from-rises r in
+    let f = from-ceilings e in
+    let z = from-floors f in
+    let low = coded-code lowestTotal highestTotal (handed z .lowest) _ (lowest-coded l) (u .before .before .least .given .1) in
+    let high = coded-code lowestTotal highestTotal (handed z .highest) _ (highest-coded u) (c .before .before .most .given .1) in
+    c .open-codes .ensures
+    ∙ all-opened (handed z) (z .length-refusal .ensures) (f .before .before .if1 .left) (floors-first f) (e .before .before .if2 .left) (ceilings-first e) (r .before .before .if3 .left)
+    (rises-first r) (l .before .if4 .left) (low .0) (high .0) (f .code-all .ensures .1 .0) (e .code-all2 .ensures .1 .0) (r .code-all3 .ensures .1 .0) (low .1) (high .1)
 
 pub open-spec : {M : Type 1} → statement M
 open-spec =
@@ -53,13 +161,13 @@ open-spec =
     (λ c. search needs)
     (λ c. search needs)
     returns
-    points-requires
+    code-all-requires
     (λ c. search needs)
     returns-2
-    points-requires-2
+    code-all-requires-2
     (λ c. search needs)
     returns-3
-    rises-requires
+    code-all-requires-3
     add-if4
     (λ c. search needs)
     returns-4

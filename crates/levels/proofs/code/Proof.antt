@@ -1,6 +1,6 @@
 use Rattle.levels.proofs.Casts.{below, above, sub-fits, cast-fits, taken}
-use Rattle.levels.proofs.coded_from.Statement.{statement}
-use Rattle.levels.proofs.coded_from.Tie as tie
+use Rattle.levels.proofs.code.Statement.{statement}
+use Rattle.levels.proofs.code.Tie as tie
 
 returns : tie.Need-returns
 returns c = let f = c .before .fits in below (f .low) (f .high) (f .z) (c .if1 .taken)
@@ -17,5 +17,5 @@ cast-t6 c = let f = c .before .before .fits in cast-fits (f .low) (f .high) (f .
 returns-3 : tie.Need-returns-3
 returns-3 c = let f = c .before .before .fits in taken (f .low) (f .high) (f .z) (c .before .before .pre) (c .before .if1 .left) (c .if2 .left)
 
-pub coded-from-spec : {M : Type 1} → statement M
-coded-from-spec = tie.close (tie.spec returns returns-2 sub-t5 cast-t6 returns-3)
+pub code-spec : {M : Type 1} → statement M
+code-spec = tie.close (tie.spec returns returns-2 sub-t5 cast-t6 returns-3)
