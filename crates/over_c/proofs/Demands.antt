@@ -9,12 +9,12 @@ use lib.IntN.{ℤ}
 use lib.Dec.{eqb, ltb}
 use lib.ListN.{length, replicate, length-replicate}
 use borrow.Author.Tests.{eq-eqb, ne-eqb, eqb-true, eqb-false, le-ltb, ltb-false}
+use mir.Syntax.{w16}
+use mir.Val.{SFits}
 use Rattle.series.specs.Sum.{at}
 use Rattle.series.specs.Checks.{cond-zero, or-false}
 use Rattle.series.specs.Front.{inFront, front-at, front-past, front-length}
 use Rattle.series.specs.Rows.{rows}
-use Rattle.levels.specs.Code.{lowestPoint, decoded}
-use Rattle.levels.proofs.Casts.{point-fits}
 use Rattle.session.specs.Profile.{Profile, Schedule, Spans}
 use Rattle.session.specs.Opening.{earlier, opened}
 use Rattle.session.specs.Showing.{floorOn, ceilingOn, totalFloor, totalCeiling, listTooShort, shown}
@@ -45,7 +45,7 @@ use Rattle.byte_sessions.specs.Sessions.{isSession, openRefusal, openBytes, cut
 use Rattle.over_c.specs.InBytes.{HandedBytes, byValue, CameFrom}
 use Rattle.over_c.specs.DemandsInBytes.{BytesLeft, Changed, Unchanged, AfterBytes, readRanges, Read, Reading, openEarlier, NoneAtOpening, NoneAtCutOver, DemandsInBytes}
 use Rattle.over_c.proofs.Bytes.{Came, came, CutHeld, cut-held}
-use Rattle.over_c.proofs.Points.{lent-point, lent-rest, cell-read}
+use Rattle.over_c.proofs.Points.{point-fits, lent-point, lent-rest, cell-read}
 
 -- ---- demand 1
 
@@ -165,8 +165,8 @@ module _ (p : Profile) (hs : List HandedBytes) (b : List ℕ) (c : CameFrom p hs
       read : (S : List ℤ → Type 0) → Exact p S (decoding b) → Read p S b fs cs
       read S x =
           let fits = w .storable .sane .present in
-          let low : (k : ℕ) → k < decoding b .days → _ = λ k h. point-fits {z = floorOn (decoding b) k} refl (fits .floor k h) in
-          let high : (k : ℕ) → k < decoding b .days → _ = λ k h. point-fits {z = ceilingOn (decoding b) k} refl (fits .ceiling k h) in
+          let low : (k : ℕ) → k < decoding b .days → SFits w16 (floorOn (decoding b) k) = λ k h. point-fits (at (decoding b .present .floors) k) (fits .floor k h) in
+          let high : (k : ℕ) → k < decoding b .days → SFits w16 (ceilingOn (decoding b) k) = λ k h. point-fits (at (decoding b .present .ceilings) k) (fits .ceiling k h) in
           record {
             each = λ i h.
                 let k : i < decoding b .days = rw days h in

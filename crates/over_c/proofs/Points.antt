@@ -15,10 +15,17 @@ use Rattle.series.specs.Front.{inFront, front-past}
 use Rattle.series.specs.ListOf.{listOf, listOf-same}
 use Rattle.series.specs.Part.{Part, part-left, part-row, part-all}
 use Rattle.series.specs.Rows.{length-rows}
+use Rattle.levels.specs.Code.{lowestPoint, decoded}
+use Rattle.levels.proofs.Casts.{less-fits}
+use Rattle.levels.proofs.Laws.{point-less, decoded-less}
 use Rattle.little_endian.specs.Fields.{u16At, u16Bytes, i16Bytes}
 use Rattle.little_endian.proofs.Laws.{u16-length, i16-length, u16-read, i16-read}
 use Rattle.byte_lists.specs.Lists.{pointAt, pointsIn, pointBytes, cellBytes, lentPoints}
 use Rattle.byte_lists.proofs.Laws.{points-left, points-filled}
+
+-- the point of a level fits 16 bits
+pub point-fits : (n : ℕ) → n ≤ 5000 → SFits w16 (decoded lowestPoint n)
+point-fits n h = less-fits w16 (decoded lowestPoint n) n 1000 (decoded-less lowestPoint n 1000 point-less) (omega arith) (omega arith)
 
 front-part : (xs l : List ℕ) → Part (inFront xs l) 0 xs
 unfolding inFront

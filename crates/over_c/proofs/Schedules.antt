@@ -14,7 +14,6 @@ use Rattle.series.specs.Lent.{list-filled}
 use Rattle.series.specs.ListOf.{listOf, length-listOf, get-listOf, listOf-all}
 use Rattle.series.specs.Written.{written, length-written, written-below}
 use Rattle.levels.specs.Code.{lowestPoint, decoded, on}
-use Rattle.levels.proofs.Casts.{point-fits}
 use Rattle.levels.proofs.Laws.{point-less, decoded-less}
 use Rattle.levels.proofs.Offset.{le-less}
 use Rattle.session.specs.Profile.{Profile, Schedule, total}
@@ -38,7 +37,7 @@ use Rattle.over_c.specs.InBytes.{HandedBytes, byValue, CameFrom}
 use Rattle.over_c.specs.SchedulesInBytes.{valueIn, listWritten, Written, WritingInBytes, InspectionInBytes}
 use Rattle.over_c.proofs.Bytes.{Came, came}
 use Rattle.over_c.proofs.Demands.{days}
-use Rattle.over_c.proofs.Points.{lent-points}
+use Rattle.over_c.proofs.Points.{point-fits, lent-points}
 
 -- a list of n places that is filled
 filled-whole : (f : ℕ → ℤ) (n : ℕ) → written f n (listOf (λ _. pos 0) n) ≡ listOf f n
@@ -81,7 +80,7 @@ module _ (p : Profile) (hs : List HandedBytes) (b : List ℕ) (c : CameFrom p hs
           )
 
       stored : (r : ℕ) → r ≡ 0 → ScheduleFor p (byValue hs) s (valueIn subject) v (pointsIn (lentPoints r point n l) n)
-      stored r z = rw (lent-points r point n l z (λ k h. point-fits refl (low k h))) x
+      stored r z = rw (lent-points r point n l z (λ k h. point-fits (level k) (low k h))) x
 
   by-day : (i : ℕ) (v : ℤ) → dayRefusal s i v n ≡ 0 → ScheduleFor p (byValue hs) s (λ x. on x i) v (listOf (λ k. decoded lowestPoint (dayLevels s i v k)) n)
   unfolding dayWritten
