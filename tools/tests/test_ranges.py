@@ -114,7 +114,7 @@ class RangesCommand(unittest.TestCase):
 
     def test_input_and_output_are_opened_before_anything_is_proved(self):
         for words, status, says in (
-            ("missing", 2, "missing: No such file or directory"),
+            ("missing", 2, "ranges: missing can't be read"),
             (".", 2, "ranges: the input is a directory"),
             ("<.", 2, "ranges: the input is a directory"),
             ("<&-", 2, "ranges: standard input is closed"),
