@@ -39,6 +39,7 @@ use Rattle.demands.proofs.Reached.{after-reached}
 use Rattle.little_endian.specs.Fields.{u16At}
 use Rattle.byte_lists.specs.Lists.{cellBytes}
 use Rattle.byte_lists.specs.Profiles.{haveLengths, lengthRefusal, profileOf}
+use Rattle.byte_lists.proofs.Laws.{points-left}
 use Rattle.session_bytes.specs.Layout.{encoding, decoding}
 use Rattle.session_bytes.proofs.Lengths.{cells-length}
 use Rattle.byte_sessions.specs.Sessions.{isSession, openRefusal, openBytes, cutAnswer, cutBytes, changedBytes, shownOver}
@@ -59,6 +60,7 @@ refused =
       opening = λ b n fs cs rs lo hi h. rw (ne-eqb (openRefusal b n fs cs rs lo hi) 0 h) refl;
       list = λ b t l h. rw (ne-eqb (cutAnswer b t (length l) .refusal) 0 h) refl;
       session = λ b t l h k. left-bytes (cutAnswer b t (length l) .refusal) _ b h k;
+      reading = λ b fs cs h. (points-left _ _ _ fs h, points-left _ _ _ cs h);
     }
 
 -- ---- 8 at opening

@@ -26,14 +26,26 @@ use Rattle.session_bytes.specs.Layout.{encoding, decoding}
 use Rattle.byte_sessions.specs.Sessions.{isSession, openRefusal, openBytes, cutAnswer, cutBytes, changedBytes, shownOver}
 use Rattle.over_c.specs.InBytes.{HandedBytes, byValue, CameFrom}
 
--- ---- demand 1 at opening and at a cut, whatever the bytes
+-- what reading gives of a session's bytes with the lists that are lent, and the lists afterwards (the contract of `cloverdrum_read`)
+abbrev pub readRanges : List ℕ → List ℕ → List ℕ → Shown
+readRanges b fs cs = shownOver b (length fs) (length cs)
 
--- a refused opening writes none of the session's bytes; a refused cut leaves the list, and the session's bytes too, but for 8
+abbrev pub floorsRead : List ℕ → List ℕ → List ℕ → List ℕ
+floorsRead b fs cs = lentPoints (readRanges b fs cs .refusal) (floorOn (decoding b)) (decoding b .days) fs
+
+abbrev pub ceilingsRead : List ℕ → List ℕ → List ℕ → List ℕ
+ceilingsRead b fs cs = lentPoints (readRanges b fs cs .refusal) (ceilingOn (decoding b)) (decoding b .days) cs
+
+-- ---- demand 1, whatever the bytes
+
+-- a refused opening writes none of the session's bytes; a refused cut leaves the list, and the session's bytes too, but for 8; a refused reading leaves both
+-- lists
 pub record BytesLeft : Type 0 where
   pub opening : (b : List ℕ) (n : ℕ) (fs cs rs : List ℕ) (lo hi : ℤ) → (openRefusal b n fs cs rs lo hi ≡ 0 → ⊥) → openBytes b n fs cs rs lo hi ≡ b
   pub list : (b : List ℕ) (t : Told) (l : List ℕ) → (cutAnswer b t (length l) .refusal ≡ 0 → ⊥) → changedBytes b t l ≡ l
   pub session : (b : List ℕ) (t : Told) (l : List ℕ) → (cutAnswer b t (length l) .refusal ≡ 0 → ⊥) → (cutAnswer b t (length l) .refusal ≡ 8 → ⊥)
       → cutBytes b t (length l) ≡ b
+  pub reading : (b fs cs : List ℕ) → (readRanges b fs cs .refusal ≡ 0 → ⊥) → (floorsRead b fs cs ≡ fs) × (ceilingsRead b fs cs ≡ cs)
 
 -- what an accepted cut answers: the first places of the list, as many as days changed, hold exactly the days whose shown range is another than
 -- before, each one time; the rest of the list's bytes are as before
@@ -61,16 +73,6 @@ pub record AfterBytes (p : Profile) (hs : List HandedBytes) (b : List ℕ) : Typ
   pub as-opened : decoding b .spent ≡ true → b ≡ encoding (spend (opened p .session))
   pub exact : decoding b .spent ≡ false → Exact p (Kept p (byValue hs)) (decoding b)
   pub order-free : (gs : List HandedBytes) (c : List ℕ) → CameFrom p gs c → ((e : Cut) → ValidIn p (byValue hs) e ↔ ValidIn p (byValue gs) e) → b ≡ c
-
--- what reading gives of a session's bytes with the lists that are lent, and the lists afterwards (the contract of `cloverdrum_read`)
-abbrev pub readRanges : List ℕ → List ℕ → List ℕ → Shown
-readRanges b fs cs = shownOver b (length fs) (length cs)
-
-abbrev pub floorsRead : List ℕ → List ℕ → List ℕ → List ℕ
-floorsRead b fs cs = lentPoints (readRanges b fs cs .refusal) (floorOn (decoding b)) (decoding b .days) fs
-
-abbrev pub ceilingsRead : List ℕ → List ℕ → List ℕ → List ℕ
-ceilingsRead b fs cs = lentPoints (readRanges b fs cs .refusal) (ceilingOn (decoding b)) (decoding b .days) cs
 
 -- the ranges that a caller finds in the lists and the lent numbers are exact for the schedules of S
 pub record Read (p : Profile) (S : List ℤ → Type 0) (b fs cs : List ℕ) : Type 0 where
