@@ -2,23 +2,19 @@
 use mathlib.Core.Path.{_≡_, refl, sym, ap, _∙_}
 use mathlib.Core.Bool.{Bool, true, false}
 use mathlib.Core.Logic.{_↔_}
-use mathlib.Core.List.{List, [], _∷_, _++_}
+use mathlib.Core.List.{[], _∷_, _++_}
 use Prim.Native.Nat.{ℕ}
 use native.Mathlib.Omega.{arith}
-use lib.IntN.{ℤ}
 use lib.Dec.{eqb}
 use lib.ListN.{replicate, length-replicate}
 use borrow.Author.Tests.{eqb-true, eq-eqb}
-use Rattle.session.specs.Profile.{Profile}
 use Rattle.session.specs.Opening.{opened}
 use Rattle.session.specs.declared.Session.{Session}
-use Rattle.cuts.specs.declared.Cut.{Cut}
 use Rattle.cuts.specs.declared.Told.{Told}
 use Rattle.cuts.specs.declared.Told.the-variants.{Known, Unknown}
-use Rattle.cutting.specs.Cutting.{earlier, earlierTold, afterCut, afterTold}
-use Rattle.cutting.specs.declared.AfterCut.{AfterCut}
+use Rattle.cutting.specs.Cutting.{earlier, earlierTold, afterTold}
 use Rattle.cutting.proofs.Laws.{passed, refused-same}
-use Rattle.demands.specs.Cuts.{Handed, Kept, after}
+use Rattle.demands.specs.Cuts.{after}
 use Rattle.demands.specs.Demands.{NoneAtCut}
 use Rattle.demands.proofs.Demand1.{earlier-never-8, demand-1}
 use Rattle.demands.proofs.Demand3.{demand-3}

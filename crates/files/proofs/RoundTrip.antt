@@ -1,23 +1,30 @@
 -- `round-trips`, by the round trips of the format.
 use mathlib.Core.Path.{_≡_, refl, ap, _∙_}
 use mathlib.Core.List.{List}
-use Prim.Native.Nat.{ℕ, _-_}
-use lib.ListN.{length}
+use Prim.Native.Nat.{ℕ, _-_, _≤_}
+use lib.IntN.{ℤ}
+use lib.ListN.{length, take}
 use Rattle.series.specs.Front.{inFront}
-use Rattle.series.specs.Lent.{list-filled}
-use Rattle.series.specs.ListOf.{take-written}
+use Rattle.series.specs.Lent.{lentList, list-filled}
+use Rattle.series.specs.ListOf.{listOf, take-written}
 use Rattle.little_endian.specs.Fields.{Bytes}
 use Rattle.session.specs.Profile.{Profile}
+use Rattle.session.specs.Opening.{profile}
 use Rattle.cuts.specs.declared.Cut.{Cut}
 use Rattle.cuts.specs.Sheet.{cutsOf}
-use Rattle.profile_file.specs.Format.{dayCount, floorAt, ceilingAt, riseAt, profileIn, cutsIn, file}
+use Rattle.profile_file.specs.Format.{dayCount, totalFloor, totalCeiling, floorAt, ceilingAt, riseAt, profileIn, cutsIn, file}
 use Rattle.profile_file.proofs.Taken.{Taken, not-refused}
 use Rattle.profile_file.proofs.RoundTrip.{Reads, reads-again, written-back}
 use Rattle.file_reader.specs.Reading.{contents}
+use Rattle.file_reader.specs.declared.ReadAnswer.{ReadAnswer}
 use Rattle.file_reader.proofs.Laws.{sheet-cuts, Room, read-taken, read-all}
 use Rattle.file_writer.specs.Writing.{writeAnswer}
 use Rattle.file_writer.proofs.Laws.{written-passed, written-front, written-file}
 use Rattle.files.specs.RoundTrips.{Lists, read, filled, profileOf, Roomy, ReadAgain, WrittenBack, RoundTrips}
+
+-- what stands in the front of a lent list that was filled
+found : (refusal : ℕ) (f : ℕ → ℤ) (l : List ℤ) {m n : ℕ} → refusal ≡ 0 → m ≡ n → n ≤ length l → take m (lentList refusal f n l) ≡ listOf f n
+found refusal f l {m} {n} z e long = ap (λ k. take k (lentList refusal f n l)) e ∙ ap (take n) (list-filled refusal f n l z) ∙ take-written f n l long
 
 module _ (b : List ℕ) (l : Lists) (e : read b l .refusal ≡ 0) where
   whole : (read b l ≡ contents b) × Taken b × Room b (length (l .floors)) (length (l .ceilings)) (length (l .rises))
@@ -26,15 +33,15 @@ module _ (b : List ℕ) (l : Lists) (e : read b l .refusal ≡ 0) where
   pub profile-read : profileOf (read b l) (filled b l) ≡ profileIn b
   unfolding profileIn contents
   profile-read =
-      cc (
-        list-filled (read b l .refusal) (floorAt b) (dayCount b) (l .floors) e,
-        list-filled (read b l .refusal) (ceilingAt b) (dayCount b) (l .ceilings) e,
-        list-filled (read b l .refusal) (riseAt b) (dayCount b - 1) (l .rises) e,
-        whole .0,
-        take-written (floorAt b) (dayCount b) (l .floors) (whole .2 .floors-long),
-        take-written (ceilingAt b) (dayCount b) (l .ceilings) (whole .2 .ceilings-long),
-        take-written (riseAt b) (dayCount b - 1) (l .rises) (whole .2 .rises-long),
-      )
+      let p : Profile = profileOf (read b l) (filled b l) in
+      let room = whole .2 in
+      let days : p .days ≡ dayCount b = ap (λ (a : ReadAnswer). a .days) (whole .0) in
+      let floors : p .floors ≡ profileIn b .floors = found _ (floorAt b) (l .floors) e days (room .floors-long) in
+      let ceilings : p .ceilings ≡ profileIn b .ceilings = found _ (ceilingAt b) (l .ceilings) e days (room .ceilings-long) in
+      let rises : p .rises ≡ profileIn b .rises = found _ (riseAt b) (l .rises) e (ap (λ n. n - 1) days) (room .rises-long) in
+      let lowest : p .lowest ≡ totalFloor b = ap (λ (a : ReadAnswer). a .lowest) (whole .0) in
+      let highest : p .highest ≡ totalCeiling b = ap (λ (a : ReadAnswer). a .highest) (whole .0) in
+      λ i. profile (days i) (floors i) (ceilings i) (rises i) (lowest i) (highest i)
 
   pub cuts-read : cutsOf (read b l .sheet) ≡ cutsIn b
   unfolding contents

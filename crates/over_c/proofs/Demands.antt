@@ -8,11 +8,10 @@ use native.Mathlib.Omega.{arith}
 use lib.IntN.{ℤ}
 use lib.Dec.{eqb, ltb}
 use lib.ListN.{length, replicate, length-replicate}
-use borrow.Author.Tests.{eq-eqb, ne-eqb, eqb-true, eqb-false, le-ltb, ltb-false}
+use borrow.Author.Tests.{eq-eqb, ne-eqb, eqb-false, ltb-false}
 use mir.Syntax.{w16}
 use mir.Val.{SFits}
 use Rattle.series.specs.Sum.{at}
-use Rattle.series.specs.Checks.{cond-zero, or-false}
 use Rattle.series.specs.Front.{inFront, front-at, front-past, front-length}
 use Rattle.series.specs.Rows.{rows}
 use Rattle.session.specs.Profile.{Profile, Schedule, Spans}
@@ -44,8 +43,8 @@ use Rattle.session_bytes.specs.Layout.{encoding, decoding}
 use Rattle.session_bytes.proofs.Lengths.{cells-length}
 use Rattle.byte_sessions.specs.Sessions.{isSession, openRefusal, openBytes, cutAnswer, cutBytes, changedBytes, shownOver}
 use Rattle.over_c.specs.InBytes.{HandedBytes, byValue, CameFrom}
-use Rattle.over_c.specs.DemandsInBytes.{BytesLeft, Changed, Unchanged, AfterBytes, readRanges, Read, Reading, openEarlier, NoneAtOpening, NoneAtCutOver, DemandsInBytes}
-use Rattle.over_c.proofs.Bytes.{Came, came, CutHeld, cut-held}
+use Rattle.over_c.specs.DemandsInBytes.{BytesLeft, Changed, Unchanged, AfterBytes, readRanges, Read, Reading, NoneAtOpening, NoneAtCutOver, DemandsInBytes}
+use Rattle.over_c.proofs.Bytes.{Came, came, cut-held}
 use Rattle.over_c.proofs.Points.{point-fits, lent-point, lent-rest, cell-read}
 
 -- ---- demand 1
@@ -113,9 +112,6 @@ shown-whole s a c = go (ltb a (s .days)) (ltb c (s .days)) refl refl
 module _ (p : Profile) (hs : List HandedBytes) (b : List ℕ) (c : CameFrom p hs b) where
   w : Came p hs b
   w = came p hs b c
-
-  s : Session
-  s = decoding b
 
   after : AfterBytes p hs b
   after =

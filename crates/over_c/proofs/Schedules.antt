@@ -16,13 +16,13 @@ use Rattle.series.specs.Written.{written, length-written, written-below}
 use Rattle.levels.specs.Code.{lowestPoint, decoded, on}
 use Rattle.levels.proofs.Laws.{point-less, decoded-less}
 use Rattle.levels.proofs.Offset.{le-less}
-use Rattle.session.specs.Profile.{Profile, Schedule, total}
+use Rattle.session.specs.Profile.{Profile, total}
 use Rattle.session.specs.Showing.{floorOn, ceilingOn, totalFloor, totalCeiling}
 use Rattle.session.specs.declared.Session.{Session}
 use Rattle.schedules.specs.Writing.{dayLevels, totalLevels, dayRefusal, totalRefusal, dayWritten, totalWritten}
 use Rattle.inspection.specs.Inspecting.{Finding, refused, kept, inspected}
 use Rattle.demands.specs.Cuts.{Kept}
-use Rattle.demands.specs.Schedules.{presentProfile, ScheduleFor, Ranged}
+use Rattle.demands.specs.Schedules.{ScheduleFor, Ranged}
 use Rattle.demands.proofs.Inspected.{inspection}
 use Rattle.demands.proofs.Reached.{present-schedules}
 use Rattle.demands.proofs.Written.{writing}
@@ -30,7 +30,7 @@ use Rattle.byte_lists.specs.Lists.{isLong, pointsIn, lentPoints}
 use Rattle.byte_lists.proofs.Laws.{points-left}
 use Rattle.session_bytes.specs.Layout.{decoding}
 use Rattle.byte_sessions.specs.Sessions.{isSession}
-use Rattle.byte_schedules.specs.Schedules.{refusalFor, setpointFor, writeRefusal, inspectedOver}
+use Rattle.byte_schedules.specs.Schedules.{refusalFor, writeRefusal, inspectedOver}
 use Rattle.byte_schedules.specs.declared.Subject.{Subject}
 use Rattle.byte_schedules.specs.declared.Subject.the-variants.{Day, Total}
 use Rattle.over_c.specs.InBytes.{HandedBytes, byValue, CameFrom}

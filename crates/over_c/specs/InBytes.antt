@@ -2,7 +2,6 @@
 use mathlib.Core.Path.{_≡_}
 use mathlib.Core.List.{List, [], _∷_}
 use Prim.Native.Nat.{ℕ, _/_}
-use lib.IntN.{ℤ}
 use Rattle.session.specs.Profile.{Profile}
 use Rattle.session.specs.Opening.{opened}
 use Rattle.cuts.specs.declared.Told.{Told}

@@ -25,7 +25,7 @@ use Rattle.levels.proofs.Casts.{less-fits}
 use Rattle.little_endian.proofs.Laws.{u16-length, i32-length, u16-read, i32-read}
 use Rattle.byte_lists.specs.Lists.{cellBytes}
 use Rattle.session_bytes.proofs.Lengths.{totals-length, block-length}
-use Rattle.session_bytes.specs.Storing.{DecodingSane, Padded, Storable, DecodingEncoding}
+use Rattle.session_bytes.specs.Storing.{DecodingSane, Padded, DecodingEncoding}
 use Rattle.session_bytes.specs.Layout.{encoding, blockBytes, totalBytes, cellsAt, totalAt, rangesAt, daysAt, decoding}
 
 -- ---- in bounds
