@@ -1,8 +1,8 @@
 /* Opens document 01's profile A, whose small numbers are made for working by hand, cuts day 0 to at least 3 and the total to at most 11, and prints the
  * ranges: the total's floor and ceiling, then each day's number, floor and ceiling, in points. A refusal is printed as its number, with what was asked.
  *
- *     rt staticlib panel
- *     gcc -Iinclude -o target/panel examples/panel.c target/staticlib/libpanel.a && target/panel */
+ *     rt staticlib cloverdrum
+ *     gcc -Iinclude -o target/panel examples/panel.c target/staticlib/libcloverdrum.a && target/panel */
 #include "cloverdrum.h"
 
 #include <stdio.h>

@@ -1,7 +1,7 @@
 /* What the library does at every number that the header names: a bound is taken and one past it is refused, a length fits exactly, each refusal, kind of
  * cut and rule comes back under its name. A difference is printed as a line with its name, and the exit status is 1.
  *
- *     gcc -Iinclude -o target/header tests/header.c target/staticlib/libpanel.a && target/header */
+ *     gcc -Iinclude -o target/header tests/header.c target/staticlib/libcloverdrum.a && target/header */
 #include "cloverdrum.h"
 
 #include <stdio.h>

@@ -1,4 +1,4 @@
-//! Links the static library `libpanel.a`, calls its C entries at random, and compares every answer
+//! Links the static library `libcloverdrum.a`, calls its C entries at random, and compares every answer
 //! with an independent implementation (module `oracle`).
 //!
 //!     cargo run --release --offline -- [SEED]

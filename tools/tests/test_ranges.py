@@ -14,18 +14,18 @@ CRATES = """\
 low:
 high: low io # a comment
 aside: high
-ranges: low high io libc
+program_ranges: low high io libc
 """
 RT = """\
 #!/bin/sh
-[ "$*" = "check ranges" ] || exit 2
+[ "$*" = "check program_ranges" ] || exit 2
 echo "rt: low proved (unchanged since it was last proved)"
 echo "logic=proved"
 echo "rt: high proved (12 s)"
-echo "rt: ranges proved (3 s)"
+echo "rt: program_ranges proved (3 s)"
 mkdir -p target/bin
-cp program target/bin/ranges
-echo "rt: ranges ran, and wrote what its file 'stdout' has (0 s)"
+cp program target/bin/program_ranges
+echo "rt: program_ranges ran, and wrote what its file 'stdout' has (0 s)"
 echo "rt: ok, 3 crates proved"
 """
 FAILING_RT = """\
@@ -43,7 +43,7 @@ PROVING = """\
 ranges: proving 3 crates and building the program (once, about 3 minutes on two cores)
 ranges: 1 of 3 crates proved: low
 ranges: 2 of 3 crates proved: high
-ranges: 3 of 3 crates proved: ranges
+ranges: 3 of 3 crates proved: program_ranges
 """
 FAILED = """\
 ranges: proving 3 crates and building the program (once, about 3 minutes on two cores)
@@ -90,17 +90,17 @@ class RangesCommand(unittest.TestCase):
 
     def test_newer_sources_are_proved(self):
         self.run_ranges()
-        program = self.root / "target/bin/ranges"
+        program = self.root / "target/bin/program_ranges"
         newer = program.stat().st_mtime + 1
         os.utime(self.root / "crates.txt", (newer, newer))
         self.assertEqual(self.run_ranges(data=TEXT)[2], PROVING)
 
     def test_a_program_that_is_gone_is_built_again(self):
         self.run_ranges()
-        stamp = self.root / "target/stamp/ranges"
+        stamp = self.root / "target/stamp/program_ranges"
         stamp.parent.mkdir()
         stamp.touch()
-        (self.root / "target/bin/ranges").unlink()
+        (self.root / "target/bin/program_ranges").unlink()
         self.assertEqual(self.run_ranges(data=TEXT), (0, TEXT.decode(), PROVING))
         self.assertFalse(stamp.exists())
 
@@ -141,7 +141,7 @@ class RangesCommand(unittest.TestCase):
         self.write_script("program", "#!/bin/sh\necho total\nexit 1\n")
         status, output, errors = self.run_ranges()
         self.assertEqual((status, output), (2, ""))
-        self.assertTrue(errors.endswith("ranges: the input can't be read, or target/bin/ranges can't be run\n"))
+        self.assertTrue(errors.endswith("ranges: the input can't be read, or target/bin/program_ranges can't be run\n"))
 
     def test_usage(self):
         status, usage, errors = self.run_ranges("--help")

@@ -7,13 +7,13 @@ use native.Mathlib.Omega.{arith}
 use lib.Dec.{eqb, ltb}
 use lib.ListN.{length}
 use borrow.Author.Tests.{eq-eqb, ne-eqb, lt-ltb, le-ltb}
-use Rattle.series.specs.First.{firstWhere}
-use Rattle.series.specs.Checks.{cond-zero}
-use Rattle.little_endian.specs.Fields.{u16At}
-use Rattle.little_endian.proofs.Laws.{zero-field}
-use Rattle.profile_file.specs.Format.{dayOffset, fileLength, dayCount, cutCount, daysOffset, cutsOffset, toldAt}
-use Rattle.profile_file.specs.Reading.{badCounts, badLayout, badFields, badCut, earlier}
-use Rattle.profile_file.proofs.Taken.{counted, laid}
+use Rattle.theory_lists.specs.First.{firstWhere}
+use Rattle.theory_lists.specs.Checks.{cond-zero}
+use Rattle.base_little_endian.specs.Fields.{u16At}
+use Rattle.base_little_endian.proofs.Laws.{zero-field}
+use Rattle.file_format.specs.Format.{dayOffset, fileLength, dayCount, cutCount, daysOffset, cutsOffset, toldAt}
+use Rattle.file_format.specs.Reading.{badCounts, badLayout, badFields, badCut, earlier}
+use Rattle.file_format.proofs.Taken.{counted, laid}
 
 -- ---- counts_refusal
 

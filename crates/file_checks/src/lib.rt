@@ -4,14 +4,14 @@ ghost use mathlib.Core.Bool.{cond, _||_};
 ghost use Prim.Native.Nat.{_+_, _*_, _≤_, _<_};
 ghost use lib.Dec.{eqb, ltb};
 ghost use lib.ListN.{length};
-ghost use Rattle.series.specs.First.{firstWhere};
-ghost use Rattle.profile_file.specs.Format.{fileLength, dayCount, cutCount, toldAt};
-ghost use Rattle.profile_file.specs.Reading.{badLayout, badFields, badCut, earlier};
-use cuts::Cut;
-use cuts::Told;
-use little_endian::i32_at;
-use little_endian::u16_at;
-use numbers::wide;
+ghost use Rattle.theory_lists.specs.First.{firstWhere};
+ghost use Rattle.file_format.specs.Format.{fileLength, dayCount, cutCount, toldAt};
+ghost use Rattle.file_format.specs.Reading.{badLayout, badFields, badCut, earlier};
+use base_little_endian::i32_at;
+use base_little_endian::u16_at;
+use base_numbers::wide;
+use session_cuts::Cut;
+use session_cuts::Told;
 
 // The cut that begins at a place.
 pub fn told_at(bytes: &[u8], at: usize) -> Told

@@ -4,16 +4,16 @@ ghost use mathlib.Core.List.{_++_};
 ghost use Prim.Native.Nat.{ℕ, _+_, _*_, _≤_, _<_};
 ghost use lib.ListN.{length, getD};
 ghost use lib.Seq.{sets};
-ghost use Rattle.series.specs.Rows.{rows};
-ghost use Rattle.levels.specs.Code.{on};
-ghost use Rattle.little_endian.specs.Fields.{u16Bytes, i32Bytes};
-ghost use Rattle.cuts.specs.Sheet.{blank, dayOf};
-ghost use Rattle.profile_file.specs.Format.{dayOffset, header, dayBytes, cutBytes};
-use cuts::Cut;
-use cuts::Entry;
-use little_endian::put_i16;
-use little_endian::put_i32;
-use little_endian::put_u16;
+ghost use Rattle.theory_lists.specs.Rows.{rows};
+ghost use Rattle.base_codes.specs.Code.{on};
+ghost use Rattle.base_little_endian.specs.Fields.{u16Bytes, i32Bytes};
+ghost use Rattle.session_cuts.specs.Sheet.{blank, dayOf};
+ghost use Rattle.file_format.specs.Format.{dayOffset, header, dayBytes, cutBytes};
+use base_little_endian::put_i16;
+use base_little_endian::put_i32;
+use base_little_endian::put_u16;
+use session_cuts::Cut;
+use session_cuts::Entry;
 
 pub fn put_header(days: usize, cuts: usize, lowest: i32, highest: i32, out: &mut [u8])
     requires { ⌜ (days ≤ 512) × (cuts ≤ 512) × (16 ≤ length (now out)) ⌝ }

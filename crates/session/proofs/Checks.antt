@@ -10,16 +10,16 @@ use lib.Dec.{eqb, ltb}
 use lib.ListN.{length}
 use lib.Signed.{ltZ}
 use borrow.Author.Tests.{ne-eqb, lt-ltb, le-ltb}
-use Rattle.series.specs.Sum.{at}
-use Rattle.series.specs.Written.{written}
-use Rattle.levels.specs.Code.{lowestPoint, highestPoint, lowestRise, highestRise, lowestTotal, highestTotal, within, code, on, firstOutside}
-use Rattle.levels.proofs.Laws.{first-most, first-before, first-here}
-use Rattle.method.specs.Filter.{InBounds, firstCrossed, zeros}
-use Rattle.method.specs.Stages.{Crossing, crossing}
+use Rattle.theory_lists.specs.Sum.{at}
+use Rattle.theory_lists.specs.Written.{written}
+use Rattle.base_codes.specs.Code.{lowestPoint, highestPoint, lowestRise, highestRise, lowestTotal, highestTotal, within, code, on, firstOutside}
+use Rattle.base_codes.proofs.Laws.{first-most, first-before, first-here}
+use Rattle.theory_method.specs.Filter.{InBounds, firstCrossed, zeros}
+use Rattle.theory_method.specs.Stages.{Crossing, crossing}
 use Rattle.session.specs.Profile.{Profile}
 use Rattle.session.specs.Opening.{narrowed, openedWith, every, crossed, earlier, opened, refusedWith, codes, badCount, badLength, badPoint, badRise, badTotal, badRange}
 use Rattle.session.specs.Stages.{openedCodes, lengthRefusal}
-use Rattle.levels.proofs.Order.{less-test}
+use Rattle.base_codes.proofs.Order.{less-test}
 use Rattle.session.proofs.Entered.{Entered, every-on, Sized, sized, passed, codes-bounds, or-true, floor-less, ceiling-less, lowest-less, highest-less}
 
 -- ---- every number within its bounds

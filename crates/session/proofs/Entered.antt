@@ -9,13 +9,13 @@ use lib.IntN.{ℤ}
 use lib.Dec.{eqb}
 use lib.ListN.{length, length-replicate, getD-replicate}
 use borrow.Author.Tests.{not-false, ltb-false, eqb-true, eqb-false}
-use Rattle.series.specs.Checks.{cond-zero, or-false}
-use Rattle.series.specs.Sum.{at}
-use Rattle.series.specs.Written.{written-below, written-past, length-written}
-use Rattle.levels.specs.Code.{lowestPoint, highestPoint, lowestRise, highestRise, lowestTotal, highestTotal, within, code, on}
-use Rattle.levels.proofs.Offset.{Less}
-use Rattle.levels.proofs.Laws.{point-less, rise-less, total-less, within-less, point-most, rise-most, total-most}
-use Rattle.method.specs.Filter.{InBounds, zeros}
+use Rattle.theory_lists.specs.Checks.{cond-zero, or-false}
+use Rattle.theory_lists.specs.Sum.{at}
+use Rattle.theory_lists.specs.Written.{written-below, written-past, length-written}
+use Rattle.base_codes.specs.Code.{lowestPoint, highestPoint, lowestRise, highestRise, lowestTotal, highestTotal, within, code, on}
+use Rattle.base_codes.proofs.Offset.{Less}
+use Rattle.base_codes.proofs.Laws.{point-less, rise-less, total-less, within-less, point-most, rise-most, total-most}
+use Rattle.theory_method.specs.Filter.{InBounds, zeros}
 use Rattle.session.specs.Profile.{Profile}
 use Rattle.session.specs.Opening.{earlier, every, badCount, badLength, badPoint, badRise, badTotal, codes}
 

@@ -5,10 +5,10 @@ use Prim.Native.Nat.{ℕ, suc, _+_, _*_, _<_}
 use native.Mathlib.Omega.{arith}
 use lib.IntN.{ℤ, _+ℤ_}
 use lib.ListN.{length}
-use Rattle.chains.specs.Sum.{sum, all}
-use Rattle.chains.specs.Mirror.{sum-first}
-use Rattle.levels.specs.Code.{on}
-use Rattle.levels.proofs.Offset.{Less, less-add}
+use Rattle.theory_chains.specs.Sum.{sum, all}
+use Rattle.theory_chains.specs.Mirror.{sum-first}
+use Rattle.base_codes.specs.Code.{on}
+use Rattle.base_codes.proofs.Offset.{Less, less-add}
 use Rattle.session.specs.Profile.{total}
 
 -- a total is the sum of the numbers over the offset, over the sum of the offsets

@@ -7,11 +7,11 @@ use lib.IntN.{pos}
 use lib.Dec.{eqb}
 use lib.ListN.{length-replicate, getD-replicate}
 use borrow.Author.Tests.{eqb-true}
-use Rattle.series.specs.Sum.{at}
-use Rattle.series.specs.Written.{written, length-written, written-below}
-use Rattle.levels.specs.Code.{lowestPoint, lowestRise, code}
-use Rattle.method.specs.Filter.{zeros}
-use Rattle.method.proofs.Exact.{exact, exact-in-bounds}
+use Rattle.theory_lists.specs.Sum.{at}
+use Rattle.theory_lists.specs.Written.{written, length-written, written-below}
+use Rattle.base_codes.specs.Code.{lowestPoint, lowestRise, code}
+use Rattle.theory_method.specs.Filter.{zeros}
+use Rattle.theory_method.proofs.Exact.{exact, exact-in-bounds}
 use Rattle.session.specs.Profile.{Profile}
 use Rattle.session.specs.Opening.{earlier, badCount, badLength, badPoint, badRise, badTotal, badRange, opened, openedWith, refusedWith, narrowed, allZero, codes}
 use Rattle.session.specs.Showing.{Fits, Sane}

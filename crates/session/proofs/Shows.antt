@@ -8,12 +8,12 @@ use lib.IntN.{ℤ}
 use mir.Syntax.{w32}
 use mir.Val.{toZ, ofZ}
 use mir.Facts.{toZ-ofZ}
-use Rattle.levels.specs.Code.{lowestTotal, decoded}
-use Rattle.levels.proofs.Laws.{decoded-less, total-less}
-use Rattle.levels.proofs.Casts.{less-fits}
+use Rattle.base_codes.specs.Code.{lowestTotal, decoded}
+use Rattle.base_codes.proofs.Laws.{decoded-less, total-less}
+use Rattle.base_codes.proofs.Casts.{less-fits}
 use lib.Dec.{ltb}
 use borrow.Author.Tests.{lt-ltb, le-ltb}
-use Rattle.series.specs.Lent.{lentList, list-left}
+use Rattle.theory_lists.specs.Lent.{lentList, list-left}
 use Rattle.session.specs.Showing.{shown, listTooShort, totalFloor, totalCeiling}
 use Rattle.session.specs.declared.Session.{Session}
 use Rattle.session.specs.declared.Shown.{Shown}

@@ -5,8 +5,8 @@ use mathlib.Core.List.{List}
 use Prim.Native.Nat.{ℕ, _≤_, _<_}
 use lib.Dec.{ltb}
 use borrow.Author.Tests.{lt-ltb, le-ltb}
-use Rattle.series.specs.Sum.{at}
-use Rattle.method.specs.Filter.{Tight, tightened, firstCrossed}
+use Rattle.theory_lists.specs.Sum.{at}
+use Rattle.theory_method.specs.Filter.{Tight, tightened, firstCrossed}
 use Rattle.session.specs.Opening.{openedWith, refusedWith, fresh, rangesOf}
 use Rattle.session.specs.Stages.{openedCodes}
 use Rattle.session.proofs.Entered.{or-true}

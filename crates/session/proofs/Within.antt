@@ -1,7 +1,7 @@
 -- Levels within a session's ranges.
 use mathlib.Core.List.{List}
 use Prim.Native.Nat.{ℕ}
-use Rattle.method.specs.Levels.{Levels}
+use Rattle.theory_method.specs.Levels.{Levels}
 use Rattle.session.specs.declared.Ranges.{Ranges}
 
 -- n days' levels are within ranges, and keep the rises

@@ -6,9 +6,9 @@ use lib.IntN.{ℤ, pos}
 use lib.Dec.{eqb, ltb}
 use lib.ListN.{length}
 use lib.Signed.{ltZ}
-use Rattle.series.specs.Written.{written}
-use Rattle.levels.specs.Code.{lowestPoint, highestPoint, lowestRise, highestRise, lowestTotal, highestTotal, within, code, on}
-use Rattle.method.specs.Filter.{Tight, tightened, zeros}
+use Rattle.theory_lists.specs.Written.{written}
+use Rattle.base_codes.specs.Code.{lowestPoint, highestPoint, lowestRise, highestRise, lowestTotal, highestTotal, within, code, on}
+use Rattle.theory_method.specs.Filter.{Tight, tightened, zeros}
 use Rattle.session.specs.Profile.{Profile}
 use Rattle.session.specs.declared.Ranges.{Ranges}
 use Rattle.session.specs.declared.Session.{Session}

@@ -5,7 +5,7 @@ use Prim.Native.Nat.{ℕ, _+_, _<_}
 use lib.IntN.{ℤ, pos, _+ℤ_}
 use lib.ListN.{length}
 use lib.Signed.{_≤ℤ_}
-use Rattle.levels.specs.Code.{on}
+use Rattle.base_codes.specs.Code.{on}
 
 -- A profile (document 01): days, a floor and a ceiling in points for each, the least rise from each day to the next, and the range of the total
 pub record Profile : Type 0 where

@@ -4,9 +4,9 @@ use mathlib.Core.List.{List}
 use Prim.Native.Nat.{ℕ}
 use lib.IntN.{ℤ, pos}
 use lib.Dec.{ltb}
-use Rattle.series.specs.Sum.{at}
-use Rattle.levels.specs.Code.{lowestPoint, lowestRise, lowestTotal, decoded}
-use Rattle.method.specs.Filter.{InBounds}
+use Rattle.theory_lists.specs.Sum.{at}
+use Rattle.base_codes.specs.Code.{lowestPoint, lowestRise, lowestTotal, decoded}
+use Rattle.theory_method.specs.Filter.{InBounds}
 use Rattle.session.specs.declared.Ranges.{Ranges}
 use Rattle.session.specs.declared.Session.{Session}
 use Rattle.session.specs.declared.Shown.{Shown}

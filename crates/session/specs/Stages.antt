@@ -3,8 +3,8 @@ use mathlib.Core.Bool.{cond, not, _&&_, _||_}
 use mathlib.Core.List.{List}
 use Prim.Native.Nat.{ℕ, _-_}
 use lib.Dec.{eqb, ltb}
-use Rattle.series.specs.Sum.{at}
-use Rattle.method.specs.Filter.{tightened, firstCrossed}
+use Rattle.theory_lists.specs.Sum.{at}
+use Rattle.theory_method.specs.Filter.{tightened, firstCrossed}
 use Rattle.session.specs.Opening.{openedWith, refusedWith}
 use Rattle.session.specs.declared.Opened.{Opened}
 

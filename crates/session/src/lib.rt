@@ -1,12 +1,12 @@
 // A session: document 01's profile, opened, with its ranges, for one batch.
 ghost use mathlib.Core.Path.{_≡_};
 ghost use lib.ListN.{length};
-ghost use Rattle.series.specs.Lent.{lentList};
-ghost use Rattle.method.specs.Filter.{InBounds};
+ghost use Rattle.theory_lists.specs.Lent.{lentList};
+ghost use Rattle.theory_method.specs.Filter.{InBounds};
 ghost use Rattle.session.specs.Opening.{opened, refusedWith, profile};
 ghost use Rattle.session.specs.Stages.{openedCodes, lengthRefusal};
 ghost use Rattle.session.specs.Showing.{Sane, shown, listTooShort, floorOn, ceilingOn};
-use levels::Coded;
+use base_codes::Coded;
 
 // The range of each day as levels, a point plus 1,000, and of the total, held plus 512,000.
 pub struct Ranges {
@@ -97,7 +97,7 @@ fn open_codes(
     requires { ⌜ InBounds floors ceilings rises days least most ⌝ }
     ensures { λ r. ⌜ r ≡ openedCodes days floors ceilings rises least most ⌝ }
 {
-    if carry::first_crossed(&floors, &ceilings, days) < days {
+    if tighten_carry::first_crossed(&floors, &ceilings, days) < days {
         return refused(6);
     }
     if most < least {
@@ -105,7 +105,7 @@ fn open_codes(
     }
     let mut low = floors;
     let mut high = ceilings;
-    let t = filtering::tighten(&mut low, &mut high, &rises, days, least, most);
+    let t = tighten_filtering::tighten(&mut low, &mut high, &rises, days, least, most);
     if t.found {
         let ranges = Ranges {
             floors: low,
@@ -172,23 +172,33 @@ impl Session {
         let mut low = [0u16; 512];
         let mut high = [0u16; 512];
         let mut steps = [0u16; 512];
-        let inside = levels::code_all(floors, Self::LOWEST_POINT, Self::HIGHEST_POINT, &mut low);
+        let inside = base_codes::code_all(
+            floors,
+            Self::LOWEST_POINT,
+            Self::HIGHEST_POINT,
+            &mut low,
+        );
         if inside < days {
             return refused(3);
         }
-        let inside = levels::code_all(ceilings, Self::LOWEST_POINT, Self::HIGHEST_POINT, &mut high);
+        let inside = base_codes::code_all(
+            ceilings,
+            Self::LOWEST_POINT,
+            Self::HIGHEST_POINT,
+            &mut high,
+        );
         if inside < days {
             return refused(3);
         }
-        let inside = levels::code_all(rises, Self::LOWEST_RISE, Self::HIGHEST_RISE, &mut steps);
+        let inside = base_codes::code_all(rises, Self::LOWEST_RISE, Self::HIGHEST_RISE, &mut steps);
         if inside + 1 < days {
             return refused(4);
         }
-        let Coded::Code(least) = levels::code(lowest, Self::LOWEST_TOTAL, Self::HIGHEST_TOTAL)
+        let Coded::Code(least) = base_codes::code(lowest, Self::LOWEST_TOTAL, Self::HIGHEST_TOTAL)
         else {
             return refused(5);
         };
-        let Coded::Code(most) = levels::code(highest, Self::LOWEST_TOTAL, Self::HIGHEST_TOTAL)
+        let Coded::Code(most) = base_codes::code(highest, Self::LOWEST_TOTAL, Self::HIGHEST_TOTAL)
         else {
             return refused(5);
         };
@@ -212,12 +222,12 @@ impl Session {
         let ranges = self.present;
         let low = ranges.floors;
         let high = ranges.ceilings;
-        levels::decode_all(&low, n, Self::LOWEST_POINT, floors);
-        levels::decode_all(&high, n, Self::LOWEST_POINT, ceilings);
+        base_codes::decode_all(&low, n, Self::LOWEST_POINT, floors);
+        base_codes::decode_all(&high, n, Self::LOWEST_POINT, ceilings);
         Shown {
             refusal: 0,
-            least: levels::decode(ranges.least, Self::LOWEST_TOTAL),
-            most: levels::decode(ranges.most, Self::LOWEST_TOTAL),
+            least: base_codes::decode(ranges.least, Self::LOWEST_TOTAL),
+            most: base_codes::decode(ranges.most, Self::LOWEST_TOTAL),
             spent: self.spent,
         }
     }

@@ -3,9 +3,9 @@ use Prim.Native.Nat.{_+_, _-_, _*_}
 use mathlib.Core.Path.{_≡_, sym, ap, _∙_}
 use native.Mathlib.Omega.{arith}
 use borrow.Author.Needs.{needs}
-use Rattle.series.specs.First.{Nowhere, nowhere-none, nowhere-more, nowhere-here, nowhere-all}
-use Rattle.profile_file.specs.Format.{toldAt}
-use Rattle.profile_file.specs.Reading.{badCut}
+use Rattle.theory_lists.specs.First.{Nowhere, nowhere-none, nowhere-more, nowhere-here, nowhere-all}
+use Rattle.file_format.specs.Format.{toldAt}
+use Rattle.file_format.specs.Reading.{badCut}
 use Rattle.file_checks.proofs.first_bad.Statement.{statement}
 use Rattle.file_checks.proofs.first_bad.Tie as tie
 

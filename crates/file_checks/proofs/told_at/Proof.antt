@@ -4,8 +4,8 @@ use lib.IntN.{ℤ}
 use mir.Syntax.{w32}
 use mir.Facts.{toZ-ofZ}
 use borrow.Author.Needs.{sfits-of, needs}
-use Rattle.cuts.specs.declared.Told.{Told}
-use Rattle.cuts.specs.Told.{told}
+use Rattle.session_cuts.specs.declared.Told.{Told}
+use Rattle.session_cuts.specs.Told.{told}
 use Rattle.file_checks.proofs.told_at.Statement.{statement}
 use Rattle.file_checks.proofs.told_at.Tie as tie
 

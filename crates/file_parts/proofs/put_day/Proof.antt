@@ -1,9 +1,9 @@
 use mathlib.Core.List.{_++_}
 use mathlib.Core.Path.{refl}
 use mir.Facts.{toZ-ofZ}
-use Rattle.little_endian.specs.Fields.{u16Bytes, i16Bytes}
-use Rattle.profile_file.specs.Format.{dayBytes}
-use Rattle.series.specs.Rows.{stored-after}
+use Rattle.base_little_endian.specs.Fields.{u16Bytes, i16Bytes}
+use Rattle.file_format.specs.Format.{dayBytes}
+use Rattle.theory_lists.specs.Rows.{stored-after}
 use borrow.Author.Needs.{needs}
 use Rattle.file_parts.proofs.put_day.Statement.{statement}
 use Rattle.file_parts.proofs.put_day.Tie as tie

@@ -1,10 +1,10 @@
 use Prim.Native.Nat.{_+_, _-_, _*_}
 use mir.Facts.{toZ-ofZ}
 use mir.Syntax.{w16}
-use Rattle.levels.specs.Code.{on}
-use Rattle.profile_file.specs.Format.{dayBytes}
-use Rattle.profile_file.proofs.Parts.{day-length}
-use Rattle.series.specs.Rows.{Stored, stored-all, even-none, even-more}
+use Rattle.base_codes.specs.Code.{on}
+use Rattle.file_format.specs.Format.{dayBytes}
+use Rattle.file_format.proofs.Parts.{day-length}
+use Rattle.theory_lists.specs.Rows.{Stored, stored-all, even-none, even-more}
 use borrow.Author.Needs.{needs, sfits-of}
 use Rattle.file_parts.proofs.put_days.Statement.{statement}
 use Rattle.file_parts.proofs.put_days.Tie as tie

@@ -1,9 +1,9 @@
 use Prim.Native.Nat.{_+_, _-_, _*_}
 use lib.ListN.{getD}
-use Rattle.cuts.specs.Sheet.{blank}
-use Rattle.profile_file.specs.Format.{cutBytes}
-use Rattle.profile_file.proofs.Parts.{cut-length}
-use Rattle.series.specs.Rows.{Stored, stored-all, even-none, even-more}
+use Rattle.session_cuts.specs.Sheet.{blank}
+use Rattle.file_format.specs.Format.{cutBytes}
+use Rattle.file_format.proofs.Parts.{cut-length}
+use Rattle.theory_lists.specs.Rows.{Stored, stored-all, even-none, even-more}
 use borrow.Author.Needs.{needs}
 use Rattle.file_parts.proofs.put_entries.Statement.{statement}
 use Rattle.file_parts.proofs.put_entries.Tie as tie

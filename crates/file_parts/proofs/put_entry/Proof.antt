@@ -1,6 +1,6 @@
 use mir.Facts.{toZ-ofZ}
 use mir.Syntax.{w32}
-use Rattle.profile_file.specs.Format.{cutBytes}
+use Rattle.file_format.specs.Format.{cutBytes}
 use borrow.Author.Needs.{needs, sfits-of}
 use Rattle.file_parts.proofs.put_entry.Statement.{statement}
 use Rattle.file_parts.proofs.put_entry.Tie as tie

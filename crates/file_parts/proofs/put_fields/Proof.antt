@@ -1,8 +1,8 @@
 use mathlib.Core.List.{_++_}
 use mathlib.Core.Path.{refl}
 use mir.Facts.{toZ-ofZ}
-use Rattle.little_endian.specs.Fields.{u16Bytes, i32Bytes}
-use Rattle.series.specs.Rows.{stored-after}
+use Rattle.base_little_endian.specs.Fields.{u16Bytes, i32Bytes}
+use Rattle.theory_lists.specs.Rows.{stored-after}
 use borrow.Author.Needs.{needs}
 use Rattle.file_parts.proofs.put_fields.Statement.{statement}
 use Rattle.file_parts.proofs.put_fields.Tie as tie

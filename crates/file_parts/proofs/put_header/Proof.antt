@@ -2,9 +2,9 @@ use mathlib.Core.List.{_++_}
 use mathlib.Core.Path.{refl, ap, _∙_}
 use lib.Seq.{sets}
 use mir.Facts.{toZ-ofZ}
-use Rattle.little_endian.specs.Fields.{u16Bytes, u32Bytes, i32Bytes}
-use Rattle.profile_file.specs.Format.{header, dayOffset}
-use Rattle.series.specs.Rows.{stored-after}
+use Rattle.base_little_endian.specs.Fields.{u16Bytes, u32Bytes, i32Bytes}
+use Rattle.file_format.specs.Format.{header, dayOffset}
+use Rattle.theory_lists.specs.Rows.{stored-after}
 use borrow.Author.Needs.{needs}
 use Rattle.file_parts.proofs.put_header.Statement.{statement}
 use Rattle.file_parts.proofs.put_header.Tie as tie

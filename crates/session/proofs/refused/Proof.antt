@@ -1,4 +1,4 @@
-use Rattle.series.specs.Written.{written}
+use Rattle.theory_lists.specs.Written.{written}
 use mathlib.Core.Path.{refl}
 use borrow.Author.Needs.{needs}
 use Rattle.session.proofs.refused.Statement.{statement}

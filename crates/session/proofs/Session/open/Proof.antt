@@ -3,9 +3,9 @@ use mathlib.Core.Path.{_≡_, _∙_}
 use denote.Ref.{now}
 use borrow.Author.Needs.{needs}
 use native.Mathlib.Omega.{arith}
-use Rattle.levels.specs.Code.{lowestPoint, highestPoint, lowestRise, highestRise, lowestTotal, highestTotal, firstOutside, coded}
-use Rattle.levels.proofs.Laws.{coded-code, coded-outside}
-use Rattle.levels.proofs.Casts.{coded-seen}
+use Rattle.base_codes.specs.Code.{lowestPoint, highestPoint, lowestRise, highestRise, lowestTotal, highestTotal, firstOutside, coded}
+use Rattle.base_codes.proofs.Laws.{coded-code, coded-outside}
+use Rattle.base_codes.proofs.Casts.{coded-seen}
 use Rattle.session.specs.Profile.{Profile}
 use Rattle.session.specs.Opening.{profile}
 use Rattle.session.proofs.Checks.{lengths-refused, sizes, rises-few, floor-outside, ceiling-outside, rise-outside, lowest-outside, highest-outside, in-bounds, all-opened}

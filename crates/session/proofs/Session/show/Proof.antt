@@ -1,5 +1,5 @@
 use mathlib.Core.Path.{refl, sym, _∙_}
-use Rattle.series.specs.Lent.{list-filled}
+use Rattle.theory_lists.specs.Lent.{list-filled}
 use Rattle.session.proofs.Shows.{first-short, second-short, both-long, left, total-seen}
 use borrow.Author.Needs.{needs}
 use native.Mathlib.Omega.{arith}

@@ -1,0 +1,38 @@
+-- `arrays::sum` meets its contract: the loop of Laws, `Summed`. The measure is the days left. Assumes nothing.
+use Prim.Native.Nat.{_-_}
+use Rattle.theory_lists.specs.Sum.{at}
+use Rattle.base_arrays.proofs.Laws.{Summed, summed-none, summed-more, summed-all}
+use borrow.Author.Needs.{needs}
+use Rattle.base_arrays.proofs.sum.Statement.{statement}
+use Rattle.base_arrays.proofs.sum.Tie as tie
+
+abbrev Inv-loop : tie.InvT-loop
+Inv-loop levels n total₀ count₀ total count = Summed (at levels) n count total
+
+abbrev μ-loop : tie.MeasureT-loop
+μ-loop levels n total₀ count₀ total count = n - count
+
+loop-holds : tie.Need-loop-holds Inv-loop μ-loop
+loop-holds c = summed-none
+
+loop-again : tie.Need-loop-again Inv-loop μ-loop
+loop-again c = summed-more (c .before .before .before .loop .inv) (c .before .before .loop-test .taken) (c .wide .ensures)
+
+returns : tie.Need-returns Inv-loop μ-loop
+returns c = summed-all (c .before .loop .inv) (c .loop-test .left)
+
+pub sum-spec : {M : Type 1} → statement M
+sum-spec =
+    tie.close
+    (tie.spec
+    Inv-loop
+    μ-loop
+    loop-holds
+    (λ c. search needs)
+    (λ c. search needs)
+    (λ c. search needs)
+    (λ c. search needs)
+    (λ c. search needs)
+    (λ c. search needs)
+    loop-again
+    returns)

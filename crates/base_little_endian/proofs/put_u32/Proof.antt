@@ -1,0 +1,28 @@
+use mathlib.Core.Path.{ap, _∙_}
+use lib.Seq.{sets}
+use Prim.Native.Nat.{_+_, _%_, _/_}
+use Rattle.base_little_endian.specs.Fields.{u16Bytes, u32Bytes}
+use Rattle.theory_lists.specs.Rows.{sets-append}
+use borrow.Author.Needs.{needs}
+use Rattle.base_little_endian.proofs.put_u32.Statement.{statement}
+use Rattle.base_little_endian.proofs.put_u32.Tie as tie
+
+returns : tie.Need-returns
+unfolding u16Bytes u32Bytes
+returns c =
+    let s = c .before .before .before .before .before .before .before .before .before .args in
+    c .before .before .put-u162 .ensures
+    ∙ ap (λ l. sets l (s .at + 2) (u16Bytes (s .x / 65536))) (c .before .before .before .before .before .before .put-u16 .ensures)
+    ∙ sets-append (u16Bytes (s .x % 65536)) (u16Bytes (s .x / 65536)) (s .out .now) (s .at)
+
+pub put-u32-spec : {M : Type 1} → statement M
+put-u32-spec =
+    tie.close
+    (tie.spec
+    (λ c. search needs)
+    (λ c. search needs)
+    (λ c. search needs)
+    (λ c. search needs)
+    (λ c. search needs)
+    (λ c. search needs)
+    returns)

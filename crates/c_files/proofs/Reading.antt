@@ -1,0 +1,112 @@
+-- What `read` gives and leaves in its lists, by the checks that refuse and by the bytes that it stores.
+use Prim.Native.Nat.{ℕ, _-_, _*_, _/_, _≤_}
+use mathlib.Core.Path.{_≡_, refl, ap, sym, _∙_}
+use mathlib.Core.Bool.{Bool, true, false, _||_}
+use mathlib.Core.List.{List}
+use native.Mathlib.Omega.{arith}
+use lib.IntN.{ℤ, pos}
+use lib.Dec.{ltb}
+use lib.ListN.{length, drop, length-drop, replicate}
+use lib.Seq.{sets}
+use borrow.Author.Tests.{ltb-false, ne-eqb}
+use Rattle.theory_lists.specs.Checks.{or-false}
+use Rattle.theory_lists.specs.Lent.{lentList}
+use Rattle.theory_lists.specs.Rows.{front-sets}
+use Rattle.base_codes.specs.Code.{on}
+use Rattle.c_lists.specs.Lists.{pointBytes, lentPoints}
+use Rattle.c_lists.proofs.Laws.{points-stored}
+use Rattle.file_format.specs.Format.{dayOffset, dayCount, cutCount, floorAt, ceilingAt, riseAt}
+use Rattle.file_format.specs.Reading.{earlier}
+use Rattle.file_format.proofs.Taken.{Taken, not-refused}
+use Rattle.file_reading.specs.declared.ReadAnswer.{ReadAnswer}
+use Rattle.file_reading.specs.Reading.{contents, readFrom}
+use Rattle.file_reading.proofs.Laws.{read-number, read-taken}
+use Rattle.c_files.specs.declared.Contents.{Contents}
+use Rattle.c_files.specs.Reading.{noRoom, readRefusal, refusedContents, readInto, cutsLent}
+
+-- what the reader of files found, where it refused nothing
+pub record Found (b : List ℕ) (r : ReadAnswer) : Type 0 where
+  pub taken : Taken b
+  pub days : r .days ≡ dayCount b
+  pub all : r ≡ contents b
+
+pub found : (b : List ℕ) {r : ReadAnswer} → r ≡ readFrom b 512 512 512 → r .refusal ≡ 0 → Found b r
+unfolding contents
+found b e z =
+    let t = read-taken b 512 512 512 (sym (ap (λ a. a .refusal) e) ∙ z) in
+    record { taken = t .1; days = ap (λ a. a .days) (e ∙ t .0); all = e ∙ t .0 }
+
+-- what 2 lets pass
+pub record Room (n m floors ceilings rises cuts : ℕ) : Type 0 where
+  pub floors-long : n * 2 ≤ floors
+  pub ceilings-long : n * 2 ≤ ceilings
+  pub rises-long : (n - 1) * 2 ≤ rises
+  pub cuts-long : m * 8 ≤ cuts
+
+pub roomy : (n m floors ceilings rises cuts : ℕ) → noRoom n m floors ceilings rises cuts ≡ false → Room n m floors ceilings rises cuts
+roomy n m floors ceilings rises cuts e =
+    let low : Bool = ltb (floors / 2) n in
+    let high : Bool = ltb (ceilings / 2) n in
+    let steps : Bool = ltb (rises / 2) (n - 1) in
+    let three = or-false (low || high || steps) (ltb cuts (m * 8)) e in
+    let two = or-false (low || high) steps (three .0) in
+    let one = or-false low high (two .0) in
+    record {
+      floors-long = omega (arith, ltb-false (floors / 2) n (one .0));
+      ceilings-long = omega (arith, ltb-false (ceilings / 2) n (one .1));
+      rises-long = omega (arith, ltb-false (rises / 2) (n - 1) (two .1));
+      cuts-long = ltb-false _ _ (three .1);
+    }
+
+module _ (b fs cs rs ks : List ℕ) where
+  -- what `read` ensures
+  abbrev Answers : Contents → List ℕ → List ℕ → List ℕ → List ℕ → Type 0
+  Answers r floors ceilings rises cuts =
+      (r ≡ readInto b (length fs) (length cs) (length rs) (length ks))
+      × ((floors ≡ lentPoints (r .refusal) (floorAt b) (dayCount b) fs)
+      × ((ceilings ≡ lentPoints (r .refusal) (ceilingAt b) (dayCount b) cs)
+      × ((rises ≡ lentPoints (r .refusal) (riseAt b) (dayCount b - 1) rs)
+      × (cuts ≡ cutsLent (r .refusal) b ks))))
+
+  refused : (number : ℕ) {r : Contents} → readRefusal b (length fs) (length cs) (length rs) (length ks) ≡ number → (number ≡ 0 → ⊥) → r ≡ refusedContents number → Answers r fs cs rs ks
+  unfolding readInto lentPoints cutsLent
+  refused number e x a =
+      let test = ne-eqb number 0 x in
+      let z = ap (λ (s : Contents). s .refusal) a in
+      (rw (e, test) a, (rw (z, test), (rw (z, test), (rw (z, test), rw (z, test)))))
+
+  pub bad-file : {a : ReadAnswer} {r : Contents} → a ≡ readFrom b 512 512 512 → (a .refusal ≡ 0 → ⊥) → r ≡ refusedContents (a .refusal) → Answers r fs cs rs ks
+  unfolding readRefusal
+  bad-file {a} e x d =
+      let number : a .refusal ≡ earlier b = ap (λ s. s .refusal) e ∙ read-number b 512 512 512 (omega arith) (omega arith) (omega arith) in
+      refused (a .refusal) (rw (← number, ne-eqb (a .refusal) 0 x) refl) x d
+
+  module _ {a : ReadAnswer} (here : Found b a) {m : ℕ} (em : m ≡ cutCount b) where
+    pub too-short : {r : Contents} → noRoom (a .days) m (length fs) (length cs) (length rs) (length ks) ≡ true → r ≡ refusedContents 2 → Answers r fs cs rs ks
+    unfolding readRefusal
+    too-short e d = refused 2 (rw (not-refused b (here .taken), rw (here .days, em) at e) refl) (λ z. omega arith) d
+
+    pub read-all : {lowest highest : ℤ} {low high steps : List ℤ} {floors ceilings rises cuts : List ℕ} → noRoom (a .days) m (length fs) (length cs) (length rs) (length ks) ≡ false
+        → lowest ≡ a .lowest → highest ≡ a .highest
+        → low ≡ lentList (a .refusal) (floorAt b) (dayCount b) (replicate 512 (pos 0)) → floors ≡ sets fs 0 (pointBytes (on low) (a .days))
+        → high ≡ lentList (a .refusal) (ceilingAt b) (dayCount b) (replicate 512 (pos 0)) → ceilings ≡ sets cs 0 (pointBytes (on high) (a .days))
+        → steps ≡ lentList (a .refusal) (riseAt b) (dayCount b - 1) (replicate 512 (pos 0)) → rises ≡ sets rs 0 (pointBytes (on steps) (a .days - 1))
+        → cuts ≡ sets ks 0 (drop (dayOffset (a .days)) b) → Answers (record { refusal = 0; days = a .days; cuts = m; lowest = lowest; highest = highest }) floors ceilings rises cuts
+    unfolding readRefusal readInto contents lentPoints cutsLent
+    read-all e el eh low f high c steps s k =
+        let n = here .days in
+        let z : a .refusal ≡ 0 = ap (λ q. q .refusal) (here .all) in
+        let few : a .days ≤ 512 = omega (arith, here .taken .few) in
+        let room = roomy (a .days) m (length fs) (length cs) (length rs) (length ks) e in (
+          rw (not-refused b (here .taken), rw (n, em) at e, n, em, el, eh, here .all) refl,
+          (
+            rw (← n) (points-stored (floorAt b) (a .days) fs z (rw (← n) at low) few (room .floors-long) f),
+            (
+              rw (← n) (points-stored (ceilingAt b) (a .days) cs z (rw (← n) at high) few (room .ceilings-long) c),
+              (
+                rw (← n) (points-stored (riseAt b) (a .days - 1) rs z (rw (← n) at steps) (omega arith) (room .rises-long) s),
+                rw (← n) (k ∙ front-sets (drop (dayOffset (a .days)) b) ks (omega (arith, length-drop (dayOffset (a .days)) b, here .taken .whole, room .cuts-long))),
+              ),
+            ),
+          ),
+        )

@@ -1,0 +1,226 @@
+// Profile files, read into byte lists and written from them, as a caller in C hands them over.
+ghost use mathlib.Core.Path.{_≡_};
+ghost use Prim.Native.Nat.{_+_, _-_, _*_, _≤_, _<_};
+ghost use lib.ListN.{length, drop};
+ghost use lib.Seq.{sets};
+ghost use Rattle.theory_lists.specs.First.{firstNonzero};
+ghost use Rattle.c_lists.specs.Lists.{lentPoints};
+ghost use Rattle.file_format.specs.Format.{dayCount, floorAt, ceilingAt, riseAt, toldAt};
+ghost use Rattle.c_files.specs.Reading.{noRoom, refusedContents, readInto, cutsLent};
+ghost use Rattle.c_files.specs.Writing.{toldRefusal, lengthsRefusal, writeOver, outputOver};
+use base_little_endian::u16_at;
+use base_numbers::wide;
+use c_lists::length_refusal;
+use c_lists::points;
+use c_lists::put_points;
+use file_checks::told_at;
+use file_parts::put_days;
+use file_parts::put_header;
+use file_writing::WriteAnswer;
+use file_writing::profile_refusal;
+use session_cuts::Told;
+use session_cutting::malformed;
+
+// What reading gives beside the lists: the refusal's number, 0 for none; how many days and cuts there are, and the total's bounds.
+pub struct Contents {
+    pub refusal: u8,
+    pub days: usize,
+    pub cuts: usize,
+    pub lowest: i32,
+    pub highest: i32,
+}
+
+// Stores all bytes that stand from `start` on, from a place on.
+fn put_rest(from: &[u8], start: usize, out: &mut [u8], place: usize)
+    requires { ⌜ (start ≤ length (now from)) × (place + (length (now from) - start) ≤ length (now out)) ⌝ }
+    ensures { λ r. ⌜ now (out .exit) ≡ sets (now (out .entry)) place (drop start (now (from .entry))) ⌝ }
+{
+    let count = from.len() - start;
+    let mut i = 0;
+    while i < count {
+        out[place + i] = from[start + i];
+        i += 1;
+    }
+}
+
+// ---- reading
+
+fn refused(number: u8) -> Contents
+    ensures { λ r. ⌜ r ≡ refusedContents number ⌝ }
+{
+    Contents {
+        refusal: number,
+        days: 0,
+        cuts: 0,
+        lowest: 0,
+        highest: 0,
+    }
+}
+
+// Whether a list is too short for what it would hold, by the lists' counts of bytes.
+fn has_no_room(
+    days: usize,
+    cuts: usize,
+    floors: usize,
+    ceilings: usize,
+    rises: usize,
+    list: usize,
+) -> bool
+    requires { ⌜ (0 < days) × (cuts ≤ 512) ⌝ }
+    ensures { λ r. ⌜ r ≡ noRoom days cuts floors ceilings rises list ⌝ }
+{
+    (floors / 2 < days) | (ceilings / 2 < days) | (rises / 2 < days - 1) | (list < cuts * 8)
+}
+
+// Reads a file: document 01's checks 11, 1, 11, 12, then 2. The cuts are stored as they stand in the file.
+pub fn read(
+    file: &[u8],
+    floors: &mut [u8],
+    ceilings: &mut [u8],
+    rises: &mut [u8],
+    cuts: &mut [u8],
+) -> Contents
+    ensures { λ r. ⌜ r ≡ readInto (now (file .entry)) (length (now (floors .entry))) (length (now (ceilings .entry))) (length (now (rises .entry))) (length (now (cuts .entry))) ⌝ }
+    ensures { λ r. ⌜ now (floors .exit) ≡ lentPoints (r .refusal) (floorAt (now (file .entry))) (dayCount (now (file .entry))) (now (floors .entry)) ⌝ }
+    ensures { λ r. ⌜ now (ceilings .exit) ≡ lentPoints (r .refusal) (ceilingAt (now (file .entry))) (dayCount (now (file .entry))) (now (ceilings .entry)) ⌝ }
+    ensures { λ r. ⌜ now (rises .exit) ≡ lentPoints (r .refusal) (riseAt (now (file .entry))) (dayCount (now (file .entry)) - 1) (now (rises .entry)) ⌝ }
+    ensures { λ r. ⌜ now (cuts .exit) ≡ cutsLent (r .refusal) (now (file .entry)) (now (cuts .entry)) ⌝ }
+{
+    let mut low = [0i16; 512];
+    let mut high = [0i16; 512];
+    let mut steps = [0i16; 512];
+    let found = file_reading::read(file, &mut low, &mut high, &mut steps);
+    if found.refusal != 0 {
+        return refused(found.refusal);
+    }
+    let days = found.days;
+    let count = wide(u16_at(file, 2));
+    if has_no_room(
+        days,
+        count,
+        floors.len(),
+        ceilings.len(),
+        rises.len(),
+        cuts.len(),
+    ) {
+        return refused(2);
+    }
+    put_points(&low, days, floors);
+    put_points(&high, days, ceilings);
+    put_points(&steps, days - 1, rises);
+    put_rest(file, 16 + days * 6, cuts, 0);
+    let lowest = found.lowest;
+    let highest = found.highest;
+    Contents {
+        refusal: 0,
+        days,
+        cuts: count,
+        lowest,
+        highest,
+    }
+}
+
+// ---- writing
+
+// The refusal that a told cut has by itself: 12, 7, then 3 or 5, else 0.
+fn told_refusal(told: Told, days: usize) -> u8
+    ensures { λ r. ⌜ r ≡ toldRefusal days told ⌝ }
+{
+    let Told::Known(cut) = told else {
+        return 12;
+    };
+    malformed(cut, days)
+}
+
+// The first refusal of the cuts in their order, or 0.
+fn cuts_refusal(cuts: &[u8], count: usize, days: usize) -> u8
+    requires { ⌜ (count ≤ 512) × (count * 8 ≤ length (now cuts)) ⌝ }
+    ensures { λ r. ⌜ r ≡ firstNonzero (λ j. toldRefusal days (toldAt (now (cuts .entry)) (j * 8))) count ⌝ }
+{
+    let mut j = 0;
+    while j < count {
+        let refusal = told_refusal(told_at(cuts, j * 8), days);
+        if refusal != 0 {
+            return refusal;
+        }
+        j += 1;
+    }
+    0
+}
+
+// 1 for the counts, then 2 for a list of the wrong length, else 0, by the lists' counts of bytes.
+fn lengths_refusal(days: usize, floors: usize, ceilings: usize, rises: usize, cuts: usize) -> u8
+    ensures { λ r. ⌜ r ≡ lengthsRefusal days floors ceilings rises cuts ⌝ }
+{
+    if 512 < cuts / 8 {
+        return 1;
+    }
+    let refusal = length_refusal(days, floors, ceilings, rises);
+    if refusal != 0 {
+        return refusal;
+    }
+    if cuts % 8 != 0 {
+        return 2;
+    }
+    0
+}
+
+fn refuse(number: u8) -> WriteAnswer
+    ensures { λ r. ⌜ r ≡ record { refusal = number; length = 0 } ⌝ }
+{
+    WriteAnswer {
+        refusal: number,
+        length: 0,
+    }
+}
+
+// Writes a file: document 01's checks 1 to 6 as opening does, each cut in order as cutting does, then 2 where the output is too short.
+pub fn write(
+    days: usize,
+    floors: &[u8],
+    ceilings: &[u8],
+    rises: &[u8],
+    lowest: i32,
+    highest: i32,
+    cuts: &[u8],
+    out: &mut [u8],
+) -> WriteAnswer
+    ensures { λ r. ⌜ r ≡ writeOver days (now (floors .entry)) (now (ceilings .entry)) (now (rises .entry)) lowest highest (now (cuts .entry)) (length (now (out .entry))) ⌝ }
+    ensures { λ r. ⌜ now (out .exit) ≡ outputOver days (now (floors .entry)) (now (ceilings .entry)) (now (rises .entry)) lowest highest (now (cuts .entry)) (now (out .entry)) ⌝ }
+{
+    let of_lists = lengths_refusal(days, floors.len(), ceilings.len(), rises.len(), cuts.len());
+    if of_lists != 0 {
+        return refuse(of_lists);
+    }
+    let mut low = [0i16; 512];
+    let mut high = [0i16; 512];
+    let mut steps = [0i16; 512];
+    points(floors, days, &mut low);
+    points(ceilings, days, &mut high);
+    points(rises, days - 1, &mut steps);
+    let of_profile = profile_refusal(
+        days,
+        &low[..days],
+        &high[..days],
+        &steps[..days - 1],
+        lowest,
+        highest,
+    );
+    if of_profile != 0 {
+        return refuse(of_profile);
+    }
+    let count = cuts.len() / 8;
+    let of_cuts = cuts_refusal(cuts, count, days);
+    if of_cuts != 0 {
+        return refuse(of_cuts);
+    }
+    let from = 16 + days * 6;
+    let length = from + count * 8;
+    if out.len() < length {
+        return refuse(2);
+    }
+    put_header(days, count, lowest, highest, out);
+    put_days(&low[..days], &high[..days], &steps[..days - 1], days, out);
+    put_rest(cuts, 0, out, from);
+    WriteAnswer { refusal: 0, length }
+}

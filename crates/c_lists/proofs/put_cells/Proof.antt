@@ -1,0 +1,43 @@
+use Prim.Native.Nat.{_+_, _-_, _*_}
+use Rattle.base_little_endian.specs.Fields.{u16Bytes}
+use Rattle.base_little_endian.proofs.Laws.{u16-length}
+use Rattle.c_lists.specs.Lists.{cellBytes}
+use Rattle.theory_lists.specs.Sum.{at}
+use Rattle.theory_lists.specs.Rows.{Stored, stored-all, even-none, even-more}
+use borrow.Author.Needs.{needs}
+use Rattle.c_lists.proofs.put_cells.Statement.{statement}
+use Rattle.c_lists.proofs.put_cells.Tie as tie
+
+abbrev Inv-loop : tie.InvT-loop
+Inv-loop cells n place out₀ k₀ out k = Stored (λ j. u16Bytes (at cells j)) n place out₀ k (place + k * 2) out
+
+abbrev μ-loop : tie.MeasureT-loop
+μ-loop cells n place out₀ k₀ out k = n - k
+
+loop-holds : tie.Need-loop-holds Inv-loop μ-loop
+loop-holds c = even-none 2
+
+loop-again : tie.Need-loop-again Inv-loop μ-loop
+loop-again c = even-more 2 (λ j. u16-length _) (c .before .before .before .before .before .before .loop .inv) (c .before .before .before .before .before .loop-test .taken) (c .before .before .put-u16 .ensures)
+
+returns : tie.Need-returns Inv-loop μ-loop
+unfolding cellBytes
+returns c = stored-all (c .before .loop .inv) (c .loop-test .left) .0
+
+pub put-cells-spec : {M : Type 1} → statement M
+put-cells-spec =
+    tie.close
+    (tie.spec
+    Inv-loop
+    μ-loop
+    loop-holds
+    (λ c. search needs)
+    (λ c. search needs)
+    (λ c. search needs)
+    (λ c. search needs)
+    (λ c. search needs)
+    (λ c. search needs)
+    (λ c. search needs)
+    loop-again
+    (λ c. search needs)
+    returns)

@@ -1,0 +1,86 @@
+-- What writing and inspecting by a session's bytes give, by what their tests found.
+use mathlib.Core.Path.{_≡_, refl, sym, _∙_}
+use mathlib.Core.Bool.{Bool, true, false, _&&_}
+use mathlib.Core.List.{List, _++_}
+use Prim.Native.Nat.{ℕ, _+_, _*_}
+use native.Mathlib.Omega.{arith}
+use lib.IntN.{ℤ}
+use lib.ListN.{length, take}
+use lib.Seq.{sets}
+use borrow.Author.Tests.{eq-eqb, ne-eqb}
+use Rattle.theory_lists.specs.Sum.{at}
+use Rattle.theory_lists.specs.Written.{written}
+use Rattle.theory_lists.specs.Lent.{lentList}
+use Rattle.base_codes.specs.Code.{on}
+use Rattle.session.specs.declared.Session.{Session}
+use Rattle.schedule_writing.specs.Writing.{dayRefusal, totalRefusal, dayWritten, totalWritten}
+use Rattle.schedule_inspection.specs.Inspecting.{Finding, refused, inspected}
+use Rattle.c_lists.specs.Lists.{isLong, pointAt, pointBytes, lentPoints}
+use Rattle.c_lists.proofs.Laws.{held, points-left}
+use Rattle.c_storage.specs.Layout.{sessionBytes, decoding}
+use Rattle.c_sessions.specs.Sessions.{isSession}
+use Rattle.c_schedules.specs.Schedules.{refusalFor, setpointFor, writeRefusal, inspectedOver}
+use Rattle.c_schedules.specs.declared.Subject.{Subject}
+use Rattle.c_schedules.specs.declared.Subject.the-variants.{Day, Total}
+use Rattle.c_sessions.proofs.Held.{held-few, blanks, part-stored}
+
+module _ (s : Session) (value : ℤ) (l : List ℤ) {subject : Subject} {out : List ℤ} {r : ℕ} (h : length l ≡ s .days) where
+  pub wrote-day : (day : ℕ) → subject ≡ Day day → (r ≡ dayRefusal s day value (length l)) × (out ≡ dayWritten s day value l)
+      → (r ≡ refusalFor s subject value) × (out ≡ lentList r (setpointFor s subject value) (s .days) l)
+  unfolding dayWritten
+  wrote-day day q e = rw q (rw h at (e .0), rw (← e .0) at (e .1))
+
+  pub wrote-total : subject ≡ Total → (r ≡ totalRefusal s value (length l)) × (out ≡ totalWritten s value l)
+      → (r ≡ refusalFor s subject value) × (out ≡ lentList r (setpointFor s subject value) (s .days) l)
+  unfolding totalWritten
+  wrote-total q e = rw q (rw h at (e .0), rw (← e .0) at (e .1))
+
+-- the session's bytes and the list are as long as asked
+unfoldable pub both : List ℕ → List ℕ → Bool
+both b l = isSession b && isLong l (decoding b .days)
+
+pub no-session : (b l : List ℕ) → (length b ≡ sessionBytes → ⊥) → both b l ≡ false
+unfolding both
+no-session b l h = rw (ne-eqb (length b) sessionBytes h) refl
+
+module _ (b l : List ℕ) {s : Session} (h : length b ≡ sessionBytes) (d : s ≡ decoding b) where
+  pub no-list : (length l ≡ s .days * 2 → ⊥) → both b l ≡ false
+  unfolding both
+  no-list n = rw (eq-eqb (length b) sessionBytes h, ← d) (ne-eqb (length l) (s .days * 2) n)
+
+  pub session-and-list : length l ≡ s .days * 2 → both b l ≡ true
+  unfolding both
+  session-and-list e = rw (eq-eqb (length b) sessionBytes h, ← d) (eq-eqb (length l) (s .days * 2) e)
+
+module _ (b : List ℕ) (subject : Subject) (value : ℤ) (l : List ℕ) where
+  -- what is given, and the list afterwards
+  abbrev Writes : ℕ → List ℕ → Type 0
+  Writes r out = (r ≡ writeRefusal b subject value l) × (out ≡ lentPoints r (setpointFor (decoding b) subject value) (decoding b .days) l)
+
+  pub write-unread : both b l ≡ false → Writes 2 l
+  unfolding both writeRefusal
+  write-unread e = (rw e refl, sym (points-left 2 _ _ l (λ z. absurd (omega arith))))
+
+  module _ {s : Session} {r : ℕ} (d : s ≡ decoding b) (e : both b l ≡ true) (f : r ≡ refusalFor s subject value) where
+    refusal : r ≡ writeRefusal b subject value l
+    unfolding both writeRefusal
+    refusal = rw (e, ← d) f
+
+    pub write-refused : (r ≡ 0 → ⊥) → Writes r l
+    write-refused h = (refusal, sym (points-left r _ _ l h))
+
+    pub write-all : {part : List ℤ} (rest : List ℤ) {out : List ℕ} → r ≡ 0 → length l ≡ s .days * 2
+        → part ≡ lentList r (setpointFor s subject value) (s .days) (take (s .days) blanks) → out ≡ sets l 0 (pointBytes (on (part ++ rest)) (s .days)) → Writes 0 out
+    write-all rest z n p o =
+        let few = held-few b d in
+        (sym z ∙ refusal, rw (← d) (rw z at (part-stored {m = s .days} (setpointFor s subject value) l rest z (omega arith) few (omega arith) p o)))
+
+module _ (b l : List ℕ) where
+  pub inspect-unread : both b l ≡ false → refused 2 ≡ inspectedOver b l
+  unfolding both inspectedOver
+  inspect-unread e = rw e refl
+
+  pub inspect-all : {s : Session} {low : List ℤ} {f : Finding} → s ≡ decoding b → both b l ≡ true → low ≡ written (pointAt l) (s .days) blanks
+      → f ≡ inspected s (take (s .days) low) → f ≡ inspectedOver b l
+  unfolding both inspectedOver
+  inspect-all {s} d e w f = rw (e, ← d, ← held l (s .days) (held-few b d) w .same) f

@@ -1,0 +1,9 @@
+use borrow.Author.Needs.{needs}
+use Rattle.c_schedules.proofs.inspect.Statement.{statement}
+use Rattle.c_schedules.proofs.inspect.Tie as tie
+
+returns : tie.Need-returns
+returns c = rw (c .before .judge .ensures) at (c .number .ensures)
+
+pub inspect-spec : {M : Type 1} → statement M
+inspect-spec = tie.close (tie.spec (λ c. search needs) (λ c. search needs) returns)

@@ -1,0 +1,154 @@
+-- What opening, cutting and showing by a session's bytes give, by what their tests found.
+use mathlib.Core.Path.{_≡_, refl, ap, sym, _∙_}
+use mathlib.Core.List.{List, _++_}
+use Prim.Native.Nat.{ℕ, _+_, _*_, _/_, _≤_, _<_, min}
+use native.Mathlib.Omega.{arith}
+use native.Mathlib.Decide.{decLt}
+use lib.IntN.{ℤ, pos}
+use lib.Dec.{ltb}
+use lib.ListN.{length, take, drop, length-append, length-replicate, List·getD-append}
+use lib.Seq.{sets, length-take-le}
+use borrow.Author.Tests.{eq-eqb, ne-eqb, lt-ltb, le-ltb}
+use Rattle.theory_lists.specs.Sum.{at}
+use Rattle.theory_lists.specs.Lent.{lentList}
+use Rattle.theory_lists.specs.Front.{inFront}
+use Rattle.base_codes.specs.Code.{on}
+use Rattle.session.specs.Showing.{Sane, shown, listTooShort, floorOn, ceilingOn}
+use Rattle.session.specs.declared.Session.{Session}
+use Rattle.session.specs.declared.Shown.{Shown}
+use Rattle.session.proofs.Shows.{first-short, second-short}
+use Rattle.session_cuts.specs.declared.Told.{Told}
+use Rattle.session_cuts.specs.declared.Told.the-variants.{Known, Unknown}
+use Rattle.session_cutting.specs.Cutting.{earlier, afterCut, afterTold, changedDays, listAfter}
+use Rattle.session_cutting.proofs.Laws.{accepted-list, told-accepted, told-sane, Accepted}
+use Rattle.session_cutting.specs.declared.AfterCut.{AfterCut}
+use Rattle.session_cutting.specs.declared.CutAnswer.{CutAnswer}
+use Rattle.c_lists.specs.Lists.{pointBytes, cellBytes, lentPoints}
+use Rattle.c_lists.proofs.Laws.{cells-front, points-left}
+use Rattle.c_storage.specs.Layout.{sessionBytes, encoding, decoding}
+use Rattle.c_storage.proofs.Inverse.{decoding-sane}
+use Rattle.c_sessions.specs.Sessions.{cutAnswer, cutBytes, changedBytes, shownOver}
+use Rattle.c_sessions.proofs.Held.{held-few, blank, blanks, part-stored}
+
+-- ---- cutting
+
+-- of a list's length only whether it is long enough matters
+room-same : (s : Session) (t : Told) (a b : ℕ) → ltb a (s .days) ≡ ltb b (s .days) → afterTold s t a ≡ afterTold s t b
+unfolding afterTold afterCut earlier
+room-same s (Known c) a b e = rw e refl
+room-same s Unknown a b e = refl
+
+least-room : (n r : ℕ) → n ≤ 512 → ltb (min 512 r) n ≡ ltb r n
+least-room n r h = go (decLt r n)
+  where
+    go : Dec (r < n) → ltb (min 512 r) n ≡ ltb r n
+    go (yes l) = lt-ltb (min 512 r) n (omega arith) ∙ sym (lt-ltb r n l)
+    go (no l) = le-ltb (min 512 r) n (omega arith) ∙ sym (le-ltb r n (omega arith))
+
+-- a cut with a list of at most 512 places
+pub cut-room : (b : List ℕ) (t : Told) {s : Session} {r : AfterCut} {room : ℕ} (list : ℕ) → s ≡ decoding b → room ≡ min 512 list
+    → r ≡ afterTold s t (length (take room blank)) → r ≡ afterTold (decoding b) t list
+cut-room b t {s} {r} {room} list d least e =
+    let long = length-take-le room blank (omega (arith, length-replicate {A = ℕ} 512 0)) in
+    rw (long, d, least, room-same (decoding b) t (min 512 list) list (least-room (decoding b .days) list (held-few b refl))) at e
+
+module _ (b : List ℕ) (t : Told) (size : ℕ) {r : AfterCut} (e : r ≡ afterTold (decoding b) t (size / 2)) where
+  pub cut-keeps : Sane (r .session)
+  cut-keeps = rw e (told-sane (decoding b) t (size / 2) (decoding-sane b))
+
+  accepted : r .answer .refusal ≡ 0 → Accepted (decoding b) (size / 2) r
+  accepted z = rw e (told-accepted (decoding b) t (size / 2) (rw e at z))
+
+  -- there is room for the changed days
+  pub cut-fits : r .answer .refusal ≡ 0 → (r .answer .changed ≤ 512) × (0 + r .answer .changed * 2 ≤ size)
+  cut-fits z = let a = accepted z in omega (arith, held-few b refl)
+
+-- what a list begins with, also where more stands behind it
+front-still : (xs l rest : List ℕ) (k : ℕ) → k < length xs → at (inFront xs l ++ rest) k ≡ at xs k
+unfolding inFront
+front-still xs l rest k h =
+    let behind = drop (length xs) l in
+    List·getD-append (xs ++ behind) rest 0 k (omega (arith, length-append xs behind)) ∙ List·getD-append xs behind 0 k h
+
+module _ (b : List ℕ) (t : Told) (l : List ℕ) where
+  -- what is given, and the session's bytes and the list afterwards
+  abbrev Cuts : CutAnswer → List ℕ → List ℕ → Type 0
+  Cuts answer bytes list = (answer ≡ cutAnswer b t (length l)) × ((bytes ≡ cutBytes b t (length l)) × (list ≡ changedBytes b t l))
+
+  pub cut-unread : (length b ≡ sessionBytes → ⊥) → Cuts (record { refusal = 2; changed = 0 }) b l
+  unfolding cutAnswer cutBytes changedBytes
+  cut-unread h = rw (ne-eqb (length b) sessionBytes h) (refl, (refl, refl))
+
+module _ (b : List ℕ) (t : Told) (l : List ℕ) (h : length b ≡ sessionBytes) {r : AfterCut} (e : r ≡ afterTold (decoding b) t (length l / 2)) where
+  pub cut-refused : (r .answer .refusal ≡ 0 → ⊥) → (r .answer .refusal ≡ 8 → ⊥) → Cuts b t l (r .answer) b l
+  unfolding cutAnswer cutBytes changedBytes
+  cut-refused x y = rw (eq-eqb (length b) sessionBytes h, ← e, ne-eqb (r .answer .refusal) 0 x, ne-eqb (r .answer .refusal) 8 y) (refl, (refl, refl))
+
+  pub cut-spent : r .answer .refusal ≡ 8 → {after : List ℕ} → after ≡ encoding (r .session) → Cuts b t l (r .answer) after l
+  unfolding cutAnswer cutBytes changedBytes
+  cut-spent z f = rw (eq-eqb (length b) sessionBytes h, ← e, z) (refl, (f, refl))
+
+  -- the changed days stand at the front of the scratch array
+  pub cut-listed : (front rest : List ℕ) {s : Session} {part after list : List ℕ} → r .answer .refusal ≡ 0 → s ≡ decoding b → part ≡ listAfter s r front
+      → list ≡ sets l 0 (cellBytes (at (part ++ rest)) (r .answer .changed)) → after ≡ encoding (r .session) → Cuts b t l (r .answer) after list
+  unfolding cutAnswer cutBytes changedBytes
+  cut-listed front rest {s} {part} {after} {list} z d p f g =
+      let days : List ℕ = changedDays (decoding b .days) (decoding b .present) (r .session .present) in
+      let a = accepted b t (length l) e z in
+      let q : part ≡ inFront days front = rw (d, accepted-list (decoding b) r front z) at p in
+      let room : length days * 2 ≤ length l = omega (arith, cut-fits b t (length l) e z .1, a .counted) in
+      rw (eq-eqb (length b) sessionBytes h, ← e, z)
+      (refl, (g, cells-front (at days) (at (part ++ rest)) (length days) l (λ k u. rw q (front-still days front rest k u)) room (rw (a .counted) at f)))
+
+-- ---- showing
+
+-- of the lists' lengths only whether they are long enough matters
+pub show-room : (b : List ℕ) {s : Session} {r : Shown} {low high : ℕ} (floors ceilings : ℕ) → s ≡ decoding b → low ≡ min 512 floors → high ≡ min 512 ceilings
+    → r ≡ shown s (length (take low blanks)) (length (take high blanks)) → r ≡ shown (decoding b) floors ceilings
+unfolding shown
+show-room b {s} {r} {low} {high} floors ceilings d u v e =
+    let size = length-replicate 512 (pos 0) in
+    let few = held-few b refl in
+    rw (length-take-le low blanks (omega arith), length-take-le high blanks (omega arith), d, u, v, least-room (decoding b .days) floors few, least-room (decoding b .days) ceilings few) at e
+
+-- both lists are long enough where nothing is refused
+pub show-fits : (b : List ℕ) (floors ceilings : ℕ) {s : Session} {r : Shown} → s ≡ decoding b → r ≡ shown (decoding b) (floors / 2) (ceilings / 2) → r .refusal ≡ 0
+    → (s .days ≤ 512) × ((s .days * 2 ≤ floors) × (s .days * 2 ≤ ceilings))
+show-fits b floors ceilings {s} d e z = go (decLt (floors / 2) (s .days)) (decLt (ceilings / 2) (s .days))
+  where
+    short : listTooShort ≡ shown s (floors / 2) (ceilings / 2) → ⊥
+    short f = let x : _≡_ {A = ℕ} 2 0 = ap (λ (a : Shown). a .refusal) (f ∙ rw (← d) at (sym e)) ∙ z in absurd (omega arith)
+
+    go : Dec (floors / 2 < s .days) → Dec (ceilings / 2 < s .days) → (s .days ≤ 512) × ((s .days * 2 ≤ floors) × (s .days * 2 ≤ ceilings))
+    go (yes l) m = absurd (short (first-short s (floors / 2) (ceilings / 2) l))
+    go (no l) (yes m) = absurd (short (second-short s (floors / 2) (ceilings / 2) m))
+    go (no l) (no m) = (held-few b d, (omega arith, omega arith))
+
+module _ (b fs cs : List ℕ) where
+  -- what is given, and both lists afterwards
+  abbrev Shows : Shown → List ℕ → List ℕ → Type 0
+  Shows r floors ceilings =
+      (r ≡ shownOver b (length fs) (length cs))
+      × ((floors ≡ lentPoints (r .refusal) (floorOn (decoding b)) (decoding b .days) fs)
+      × (ceilings ≡ lentPoints (r .refusal) (ceilingOn (decoding b)) (decoding b .days) cs))
+
+  pub show-unread : (length b ≡ sessionBytes → ⊥) → Shows listTooShort fs cs
+  unfolding shownOver
+  show-unread h =
+      (rw (ne-eqb (length b) sessionBytes h) refl, (sym (points-left 2 _ _ fs (λ z. absurd (omega arith))), sym (points-left 2 _ _ cs (λ z. absurd (omega arith)))))
+
+module _ (b fs cs : List ℕ) {r : Shown} (e : r ≡ shown (decoding b) (length fs / 2) (length cs / 2)) where
+  given : length b ≡ sessionBytes → r ≡ shownOver b (length fs) (length cs)
+  unfolding shownOver
+  given h = rw (eq-eqb (length b) sessionBytes h) e
+
+  pub show-refused : length b ≡ sessionBytes → (r .refusal ≡ 0 → ⊥) → Shows b fs cs r fs cs
+  show-refused h x = (given h, (sym (points-left (r .refusal) _ _ fs x), sym (points-left (r .refusal) _ _ cs x)))
+
+  pub show-all : length b ≡ sessionBytes → r .refusal ≡ 0 → {s : Session} → s ≡ decoding b → {low high : ℕ} → low ≡ min 512 (length fs / 2) → high ≡ min 512 (length cs / 2)
+      → {first second : List ℤ} (rest more : List ℤ) → first ≡ lentList (r .refusal) (floorOn s) (s .days) (take low blanks) → second ≡ lentList (r .refusal) (ceilingOn s) (s .days) (take high blanks)
+      → {floors ceilings : List ℕ} → floors ≡ sets fs 0 (pointBytes (on (first ++ rest)) (s .days)) → ceilings ≡ sets cs 0 (pointBytes (on (second ++ more)) (s .days)) → Shows b fs cs r floors ceilings
+  show-all h z {s} d {low} {high} u v rest more first second floors ceilings =
+      let fits = show-fits b (length fs) (length cs) d e z in
+      rw (← d)
+      (given h, (part-stored {m = low} (floorOn s) fs rest z (omega arith) (omega arith) (fits .1 .0) first floors, part-stored {m = high} (ceilingOn s) cs more z (omega arith) (omega arith) (fits .1 .1) second ceilings))

@@ -1,0 +1,138 @@
+// A session's bytes, opened, cut and shown, as a caller in C hands them over.
+ghost use mathlib.Core.Path.{_≡_};
+ghost use lib.ListN.{length};
+ghost use Rattle.session_cuts.specs.Told.{told};
+ghost use Rattle.session.specs.Showing.{floorOn, ceilingOn};
+ghost use Rattle.session.specs.Opening.{opened};
+ghost use Rattle.c_lists.specs.Lists.{lentPoints};
+ghost use Rattle.c_lists.specs.Profiles.{lengthRefusal, profileOf};
+ghost use Rattle.c_storage.specs.Layout.{decoding};
+ghost use Rattle.c_sessions.specs.Sessions.{openRefusal, openBytes, cutAnswer, cutBytes, changedBytes, shownOver};
+use base_numbers::least;
+use c_lists::length_refusal;
+use c_lists::points;
+use c_lists::put_cells;
+use c_lists::put_points;
+use c_storage::SESSION_BYTES;
+use c_storage::decode;
+use c_storage::encode;
+use session::Opened;
+use session::Session;
+use session::Shown;
+use session_cutting::CutAnswer;
+
+// ---- opening
+
+// Opens a profile whose lists are as long as its days ask.
+fn open_lists(
+    days: usize,
+    floors: &[u8],
+    ceilings: &[u8],
+    rises: &[u8],
+    lowest: i32,
+    highest: i32,
+) -> Opened
+    requires { ⌜ lengthRefusal days (length (now floors)) (length (now ceilings)) (length (now rises)) ≡ 0 ⌝ }
+    ensures { λ r. ⌜ r ≡ opened (profileOf days (now (floors .entry)) (now (ceilings .entry)) (now (rises .entry)) lowest highest) ⌝ }
+{
+    let mut low = [0i16; 512];
+    let mut high = [0i16; 512];
+    let mut steps = [0i16; 512];
+    points(floors, days, &mut low);
+    points(ceilings, days, &mut high);
+    points(rises, days - 1, &mut steps);
+    Session::open(
+        days,
+        &low[..days],
+        &high[..days],
+        &steps[..days - 1],
+        lowest,
+        highest,
+    )
+}
+
+// Opens a profile: document 01's checks 1 to 6, then 8; a refusal writes no byte.
+pub fn open(
+    session: &mut [u8],
+    days: usize,
+    floors: &[u8],
+    ceilings: &[u8],
+    rises: &[u8],
+    lowest: i32,
+    highest: i32,
+) -> u8
+    ensures { λ r. ⌜ r ≡ openRefusal (now (session .entry)) days (now (floors .entry)) (now (ceilings .entry)) (now (rises .entry)) lowest highest ⌝ }
+    ensures { λ r. ⌜ now (session .exit) ≡ openBytes (now (session .entry)) days (now (floors .entry)) (now (ceilings .entry)) (now (rises .entry)) lowest highest ⌝ }
+{
+    if session.len() != SESSION_BYTES {
+        return 2;
+    }
+    let refusal = length_refusal(days, floors.len(), ceilings.len(), rises.len());
+    if refusal != 0 {
+        return refusal;
+    }
+    let opened = open_lists(days, floors, ceilings, rises, lowest, highest);
+    if opened.refusal != 0 {
+        return opened.refusal;
+    }
+    encode(opened.session, session);
+    0
+}
+
+// ---- cutting
+
+pub fn cut(session: &mut [u8], kind: usize, day: usize, value: i32, changed: &mut [u8]) -> CutAnswer
+    ensures { λ r. ⌜ r ≡ cutAnswer (now (session .entry)) (told kind day value) (length (now (changed .entry))) ⌝ }
+    ensures { λ r. ⌜ now (session .exit) ≡ cutBytes (now (session .entry)) (told kind day value) (length (now (changed .entry))) ⌝ }
+    ensures { λ r. ⌜ now (changed .exit) ≡ changedBytes (now (session .entry)) (told kind day value) (now (changed .entry)) ⌝ }
+{
+    if session.len() != SESSION_BYTES {
+        return CutAnswer {
+            refusal: 2,
+            changed: 0,
+        };
+    }
+    let mut list = [0u16; 512];
+    let room = least(512, changed.len() / 2);
+    let after = session_cutting::cut_told(decode(session), kind, day, value, &mut list[..room]);
+    let answer = after.answer;
+    if answer.refusal == 0 {
+        put_cells(&list, answer.changed, 0, changed);
+        encode(after.session, session);
+        return answer;
+    }
+    if answer.refusal == 8 {
+        encode(after.session, session);
+    }
+    answer
+}
+
+// ---- showing
+
+pub fn show(session: &[u8], floors: &mut [u8], ceilings: &mut [u8]) -> Shown
+    ensures { λ r. ⌜ r ≡ shownOver (now (session .entry)) (length (now (floors .entry))) (length (now (ceilings .entry))) ⌝ }
+    ensures { λ r. ⌜ now (floors .exit) ≡ lentPoints (r .refusal) (floorOn (decoding (now (session .entry)))) (decoding (now (session .entry)) .days) (now (floors .entry)) ⌝ }
+    ensures { λ r. ⌜ now (ceilings .exit) ≡ lentPoints (r .refusal) (ceilingOn (decoding (now (session .entry)))) (decoding (now (session .entry)) .days) (now (ceilings .entry)) ⌝ }
+{
+    if session.len() != SESSION_BYTES {
+        return Shown {
+            refusal: 2,
+            least: 0,
+            most: 0,
+            spent: false,
+        };
+    }
+    let held = decode(session);
+    let n = held.days;
+    let mut low = [0i16; 512];
+    let mut high = [0i16; 512];
+    let low_room = least(512, floors.len() / 2);
+    let high_room = least(512, ceilings.len() / 2);
+    let shown = held.show(&mut low[..low_room], &mut high[..high_room]);
+    if shown.refusal != 0 {
+        return shown;
+    }
+    put_points(&low, n, floors);
+    put_points(&high, n, ceilings);
+    shown
+}

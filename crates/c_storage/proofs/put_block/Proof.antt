@@ -1,0 +1,33 @@
+use Prim.Native.Nat.{_+_, _-_, _*_}
+use mathlib.Core.Path.{_≡_, ap, _∙_}
+use lib.ListN.{replicate}
+use lib.Seq.{sets}
+use Rattle.theory_lists.specs.Sum.{at}
+use Rattle.c_lists.specs.Lists.{cellBytes}
+use Rattle.c_storage.specs.Layout.{blockBytes}
+use Rattle.c_storage.proofs.Lengths.{cells-length}
+use Rattle.c_storage.proofs.Laws.{laid, laid-last}
+use borrow.Author.Needs.{needs}
+use native.Mathlib.Omega.{arith}
+use Rattle.c_storage.proofs.put_block.Statement.{statement}
+use Rattle.c_storage.proofs.put_block.Tie as tie
+
+returns : tie.Need-returns
+unfolding blockBytes
+returns c =
+    let a = c .before .before .before .before .before .before .before .before .before .args in
+    let q : a .place + 1024 - (a .place + a .n * 2) ≡ (512 - a .n) * 2 = omega arith in
+    laid-last (laid (a .out .now) (a .place) (cellBytes (at (a .cells .now)) (a .n)) (c .before .before .before .before .before .before .put-cells .ensures) (cells-length _ (a .n)))
+    (replicate ((512 - a .n) * 2) 0) (c .before .before .put-zeros .ensures ∙ ap (λ m. sets (c .before .before .before .before .before .before .put-cells .last .1 .1 .1 .0) (a .place + a .n * 2) (replicate m 0)) q)
+
+pub put-block-spec : {M : Type 1} → statement M
+put-block-spec =
+    tie.close
+    (tie.spec
+    (λ c. search needs)
+    (λ c. search needs)
+    (λ c. search needs)
+    (λ c. search needs)
+    (λ c. search needs)
+    (λ c. search needs)
+    returns)

@@ -1,0 +1,62 @@
+-- A session as a byte string of one length, as the panel's firmware holds it: the day count and whether it is spent, 2 bytes each; the floor and the
+-- ceiling of the total, 4 bytes each, as opened and at present; then the rises, the floors and ceilings as opened, and those at present, each as 512
+-- cells of 2 bytes. All fields are little-endian. A cell has what the session holds, and past the last day 0.
+use mathlib.Core.Bool.{cond, not}
+use mathlib.Core.List.{List, _++_}
+use Prim.Native.Nat.{ℕ, _+_, _-_, _*_, min, max}
+use lib.Dec.{eqb}
+use lib.ListN.{replicate}
+use Rattle.theory_lists.specs.Sum.{at}
+use Rattle.theory_lists.specs.Written.{written}
+use Rattle.base_codes.specs.Code.{lowestTotal, highestTotal, within, code, decoded}
+use Rattle.theory_method.specs.Filter.{zeros}
+use Rattle.base_little_endian.specs.Fields.{u16At, i32At, u16Bytes, i32Bytes}
+use Rattle.c_lists.specs.Lists.{cellBytes}
+use Rattle.session.specs.declared.Ranges.{Ranges}
+use Rattle.session.specs.declared.Session.{Session}
+
+abbrev pub sessionBytes : ℕ
+sessionBytes = 5140
+
+-- ---- the bytes of a session
+
+unfoldable pub totalBytes : ℕ → ℕ → List ℕ
+totalBytes least most = i32Bytes (decoded lowestTotal least) ++ i32Bytes (decoded lowestTotal most)
+
+unfoldable pub blockBytes : List ℕ → ℕ → List ℕ
+blockBytes cells n = cellBytes (at cells) n ++ replicate ((512 - n) * 2) 0
+
+unfoldable pub encoding : Session → List ℕ
+encoding s =
+    u16Bytes (s .days) ++ u16Bytes (cond (s .spent) 1 0)
+    ++ totalBytes (s .opened .least) (s .opened .most) ++ totalBytes (s .present .least) (s .present .most)
+    ++ blockBytes (s .rises) (s .days)
+    ++ (blockBytes (s .opened .floors) (s .days) ++ blockBytes (s .opened .ceilings) (s .days))
+    ++ (blockBytes (s .present .floors) (s .days) ++ blockBytes (s .present .ceilings) (s .days))
+
+-- ---- the session in bytes: numbers in bounds, whatever the bytes are
+
+-- n cells from a place on, each at most that, and 0 past them
+abbrev pub cellsAt : List ℕ → ℕ → ℕ → ℕ → List ℕ
+cellsAt b n most place = written (λ k. min (u16At b (place + k * 2)) most) n zeros
+
+-- a bound of the total, as it is held, or 0 where it is outside its bounds
+abbrev pub totalAt : List ℕ → ℕ → ℕ
+totalAt b place = cond (within lowestTotal highestTotal (i32At b place)) (code lowestTotal (i32At b place)) 0
+
+unfoldable pub rangesAt : List ℕ → ℕ → ℕ → ℕ → Ranges
+rangesAt b n totals place =
+    record { floors = cellsAt b n 5000 place; ceilings = cellsAt b n 5000 (place + 1024); least = totalAt b totals; most = totalAt b (totals + 4) }
+
+abbrev pub daysAt : List ℕ → ℕ
+daysAt b = max 1 (min 512 (u16At b 0))
+
+unfoldable pub decoding : List ℕ → Session
+decoding b =
+    record {
+      days = daysAt b;
+      rises = cellsAt b (daysAt b) 4000 20;
+      opened = rangesAt b (daysAt b) 4 1044;
+      present = rangesAt b (daysAt b) 12 3092;
+      spent = not (eqb (u16At b 2) 0);
+    }

@@ -1,4 +1,0 @@
-pub mod Cuts
-pub mod Demands
-pub mod Starred
-pub mod Schedules

@@ -1,0 +1,99 @@
+-- Document 01: the profile file. A header of 16 bytes, each day 6 bytes, each cut 8 bytes, and no byte after.
+use mathlib.Core.List.{List, _++_}
+use Prim.Native.Nat.{ℕ, _+_, _-_, _*_}
+use lib.IntN.{ℤ, pos}
+use lib.ListN.{length}
+use Rattle.theory_lists.specs.ListOf.{listOf}
+use Rattle.theory_lists.specs.Rows.{rows}
+use Rattle.base_codes.specs.Code.{on}
+use Rattle.base_little_endian.specs.Fields.{u16At, i16At, i32At, u16Bytes, i16Bytes, i32Bytes}
+use Rattle.session.specs.Profile.{Profile}
+use Rattle.session.specs.Opening.{profile}
+use Rattle.session_cuts.specs.declared.Cut.{Cut}
+use Rattle.session_cuts.specs.declared.Cut.the-variants.{DayFloor}
+use Rattle.session_cuts.specs.declared.Told.{Told}
+use Rattle.session_cuts.specs.declared.Told.the-variants.{Known, Unknown}
+use Rattle.session_cuts.specs.Told.{told}
+use Rattle.session_cuts.specs.Sheet.{cutOn, kindOf, dayOf, valueOf}
+
+-- where day k begins, where the cuts of n days begin, where cut j of them begins
+abbrev pub dayOffset : ℕ → ℕ
+dayOffset k = 16 + k * 6
+
+abbrev pub cutOffset : ℕ → ℕ → ℕ
+cutOffset n j = dayOffset n + j * 8
+
+-- how long a file of n days and m cuts is
+abbrev pub fileLength : ℕ → ℕ → ℕ
+fileLength n m = cutOffset n m
+
+-- ---- what a file's bytes say
+
+abbrev pub dayCount : List ℕ → ℕ
+dayCount b = u16At b 0
+
+abbrev pub cutCount : List ℕ → ℕ
+cutCount b = u16At b 2
+
+abbrev pub daysOffset : List ℕ → ℕ
+daysOffset b = u16At b 4
+
+abbrev pub cutsOffset : List ℕ → ℕ
+cutsOffset b = u16At b 6
+
+abbrev pub totalFloor : List ℕ → ℤ
+totalFloor b = i32At b 8
+
+abbrev pub totalCeiling : List ℕ → ℤ
+totalCeiling b = i32At b 12
+
+-- day k: its floor, its ceiling, and the rise to the next day
+abbrev pub floorAt : List ℕ → ℕ → ℤ
+floorAt b k = i16At b (dayOffset k)
+
+abbrev pub ceilingAt : List ℕ → ℕ → ℤ
+ceilingAt b k = i16At b (dayOffset k + 2)
+
+abbrev pub riseAt : List ℕ → ℕ → ℤ
+riseAt b k = i16At b (dayOffset k + 4)
+
+-- the cut that begins at a place: kind, day, value
+abbrev pub toldAt : List ℕ → ℕ → Told
+toldAt b i = told (u16At b i) (u16At b (i + 2)) (i32At b (i + 4))
+
+-- cut j
+abbrev pub cutAt : List ℕ → ℕ → Told
+cutAt b j = toldAt b (cutOffset (dayCount b) j)
+
+-- a told cut whose kind is known; the reader refuses files with others
+abbrev pub known : Told → Cut
+known (Known c) = c
+known Unknown = DayFloor 0 (pos 0)
+
+-- the profile and the cuts of a file that the reader takes; the last rise is not handed on
+unfoldable pub profileIn : List ℕ → Profile
+profileIn b =
+    profile (dayCount b) (listOf (floorAt b) (dayCount b)) (listOf (ceilingAt b) (dayCount b)) (listOf (riseAt b) (dayCount b - 1)) (totalFloor b) (totalCeiling b)
+
+unfoldable pub cutsIn : List ℕ → List Cut
+cutsIn b = listOf (λ j. known (cutAt b j)) (cutCount b)
+
+-- ---- the bytes of a profile and its cuts
+
+-- of n days and m cuts, with the total's floor and ceiling
+unfoldable pub header : ℕ → ℕ → ℤ → ℤ → List ℕ
+header n m low high = u16Bytes n ++ u16Bytes m ++ u16Bytes 16 ++ u16Bytes (dayOffset n) ++ i32Bytes low ++ i32Bytes high
+
+-- floor, ceiling, rise to the next day
+unfoldable pub dayBytes : ℤ → ℤ → ℤ → List ℕ
+dayBytes floor ceiling rise = i16Bytes floor ++ i16Bytes ceiling ++ i16Bytes rise
+
+unfoldable pub cutBytes : Cut → List ℕ
+cutBytes c = u16Bytes (kindOf c) ++ u16Bytes (dayOf c) ++ i32Bytes (valueOf c)
+
+-- the days of a profile; past the end of the list of rises, on the last day, stands 0
+abbrev pub dayRow : Profile → ℕ → List ℕ
+dayRow p k = dayBytes (on (p .floors) k) (on (p .ceilings) k) (on (p .rises) k)
+
+unfoldable pub file : Profile → List Cut → List ℕ
+file p cs = header (p .days) (length cs) (p .lowest) (p .highest) ++ rows (dayRow p) (p .days) ++ rows (λ j. cutBytes (cutOn cs j)) (length cs)

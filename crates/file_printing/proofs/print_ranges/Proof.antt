@@ -1,0 +1,150 @@
+-- `report::print_ranges` meets its contract: a law of Lines for the stage that refuses, or for none. Assumes nothing.
+use Prim.Native.Nat.{ℕ}
+use mathlib.Core.Path.{_≡_, ap, sym, _∙_}
+use mathlib.Core.List.{List}
+use native.Mathlib.Omega.{arith}
+use mir.Syntax.{w32}
+use mir.Facts.{toZ-ofZ}
+use borrow.Author.Needs.{sfits-of}
+use Rattle.session.specs.Opening.{opened}
+use Rattle.session.specs.declared.Opened.{Opened}
+use Rattle.session.proofs.Sanity.{opened-sane}
+use Rattle.file_format.specs.Format.{profileIn}
+use Rattle.file_reading.proofs.Laws.{read-number}
+use Rattle.file_printing.specs.Printing.{printed, answerText, refusedLine}
+use Rattle.file_printing.proofs.Lines.{answer-refused, answer-ranges, read-refused, open-refused, sheet-applied}
+use Rattle.file_printing.proofs.Laws.{stage-passed, stage-refused, stage-number}
+use Rattle.file_printing.proofs.Reading.{Got, got}
+use borrow.Author.Needs.{needs}
+use Rattle.file_printing.proofs.print_ranges.Statement.{statement}
+use Rattle.file_printing.proofs.print_ranges.Tie as tie
+
+-- ---- the places on the way: the file is read, reading has passed, the profile is opened, the cuts are applied
+
+abbrev at-start : tie.After-read → tie.Start
+at-start c = c .before .before .before .before .before
+
+abbrev at-read : tie.After-stage-of → tie.After-read
+at-read c = c .before .before .before .before
+
+abbrev at-reading : tie.After-enum-told → tie.After-stage-of
+at-reading c = c .before .before
+
+abbrev at-passed : tie.After-open-read → tie.After-enum-told
+at-passed c = c .before .before .before .before .before .before
+
+abbrev at-opened : tie.After-cut-all → tie.After-open-read
+at-opened c = c .before .before .before .before .before .before
+
+-- the file's bytes
+abbrev bytes : tie.After-read → List ℕ
+bytes c = at-start c .args .file .now
+
+abbrev opened-bytes : tie.After-open-read → List ℕ
+opened-bytes c = bytes (at-read (at-reading (at-passed c)))
+
+-- ---- what each stage gave
+
+got-file : (c : tie.After-enum-told)
+    → let r = at-read (at-reading c) in
+    Got (bytes r) (r .read .result) (r .read .last .1 .0) (r .read .last .1 .1 .0) (r .read .last .1 .1 .1 .0)
+got-file c =
+    let s = at-reading c in
+    let r = at-read s in
+    let e = r .read .ensures in
+    got (bytes r) (e .0) (stage-passed (r .read .result .refusal) (s .stage-of .ensures) (c .enum-told .given .1)) (e .1 .0) (e .1 .1 .0) (e .1 .1 .1)
+
+opens : (c : tie.After-open-read) → c .open-read .result ≡ opened (profileIn (opened-bytes c))
+opens c =
+    let r = at-read (at-reading (at-passed c)) in
+    let total = c .before .struct-told2 .given in
+    rw (toZ-ofZ (sfits-of {w = w32} {z = r .read .result .lowest} (total .1 .1 .0 .1)), toZ-ofZ (sfits-of {w = w32} {z = r .read .result .highest} (total .1 .1 .1 .0 .1))) at (c .open-read .ensures)
+    ∙ ap opened (got-file (at-passed c) .entered)
+
+cuts : (c : tie.After-cut-all) → printed (opened-bytes (at-opened c)) ≡ answerText (c .cut-all .result)
+cuts c =
+    let o = at-opened c in
+    let g = got-file (at-passed o) in
+    sheet-applied (opened-bytes o) (g .none) (at-read (at-reading (at-passed o)) .read .result .sheet) (g .cuts)
+    ∙ ap answerText (sym (rw (opens o) at (c .cut-all .ensures .0)))
+
+-- ---- reading refused
+
+returns : tie.Need-returns
+returns c =
+    let n = c .before .before in
+    let s = n .before .before .before in
+    let r = at-read s in
+    let number = ap (λ a. a .refusal) (r .read .ensures .0) ∙ read-number (bytes r) 512 512 511 (omega arith) (omega arith) (omega arith) in
+    let shown = n .number-of .ensures ∙ stage-number (r .read .result .refusal) (s .stage-of .ensures) in
+    let some = stage-refused (r .read .result .refusal) (s .stage-of .ensures) (n .before .enum-told2 .given .1) in
+    rw (read-refused (bytes r) (λ z. some (number ∙ z)) ∙ ap refusedLine (sym (shown ∙ number))) (c .put-refusal .ensures)
+
+-- ---- opening refused
+
+open-read-requires : tie.Need-open-read-requires
+open-read-requires c κs = let g = got-file (c .before .before .before .before .before) in (g .some, g .few)
+
+returns-2 : tie.Need-returns-2
+returns-2 c =
+    let n = c .before .before in
+    let s = n .before .before .before in
+    let o = s .before in
+    let e = opens o in
+    let shown = n .number-of2 .ensures ∙ stage-number (o .open-read .result .refusal) (s .stage-of2 .ensures) in
+    let some = stage-refused (o .open-read .result .refusal) (s .stage-of2 .ensures) (n .before .enum-told4 .given .1) in
+    rw (open-refused (opened-bytes o) (got-file (at-passed o) .none) (rw e at some) ∙ ap refusedLine (sym (shown ∙ ap (λ (a : Opened). a .refusal) e))) (c .put-refusal2 .ensures)
+
+-- ---- a cut refused, or none
+
+cut-all-requires : tie.Need-cut-all-requires
+cut-all-requires c κs =
+    let o = c .before .before .before .before .before in
+    (rw (opens o) (opened-sane (profileIn (opened-bytes o))), got-file (at-passed o) .fewCuts)
+
+returns-3 : tie.Need-returns-3
+returns-3 c =
+    let n = c .before .before in
+    let s = n .before .before .before in
+    let a = s .before in
+    let shown = n .number-of3 .ensures ∙ stage-number (a .cut-all .result .refusal) (s .stage-of3 .ensures) in
+    let some = stage-refused (a .cut-all .result .refusal) (s .stage-of3 .ensures) (n .before .enum-told6 .given .1) in
+    rw (cuts a ∙ answer-refused (a .cut-all .result) some ∙ ap refusedLine (sym shown)) (c .put-refusal3 .ensures)
+
+returns-4 : tie.Need-returns-4
+returns-4 c =
+    let p = c .before .before .before in
+    let s = p .before .before in
+    let a = s .before in
+    rw (cuts a ∙ answer-ranges (a .cut-all .result) (stage-passed (a .cut-all .result .refusal) (s .stage-of3 .ensures) (p .enum-told5 .given .1))) (c .put-ranges .ensures)
+
+pub print-ranges-spec : {M : Type 1} → statement M
+print-ranges-spec =
+    tie.close
+    (tie.spec
+    (λ c. search needs)
+    (λ c. search needs)
+    (λ c. search needs)
+    (λ c. search needs)
+    (λ c. search needs)
+    (λ c. search needs)
+    (λ c. search needs)
+    (λ c. search needs)
+    (λ c. search needs)
+    returns
+    open-read-requires
+    (λ c. search needs)
+    (λ c. search needs)
+    (λ c. search needs)
+    (λ c. search needs)
+    (λ c. search needs)
+    returns-2
+    cut-all-requires
+    (λ c. search needs)
+    (λ c. search needs)
+    (λ c. search needs)
+    (λ c. search needs)
+    (λ c. search needs)
+    returns-3
+    (λ c. search needs)
+    returns-4)

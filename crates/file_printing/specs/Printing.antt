@@ -1,0 +1,67 @@
+-- Document 01: what the program `ranges` prints for a file.
+use mathlib.Core.Path.{_≡_}
+use mathlib.Core.Bool.{cond}
+use mathlib.Core.List.{List, [], _∷_, _++_}
+use Prim.Native.Nat.{ℕ, zero, suc, _<_}
+use lib.IntN.{ℤ}
+use lib.Dec.{eqb}
+use lib.ListN.{length, take}
+use Rattle.theory_lists.specs.Rows.{rows}
+use Rattle.base_text.specs.Numbers.{decimal, number}
+use Rattle.session.specs.Opening.{opened, refusedWith}
+use Rattle.session.specs.Showing.{floorOn, ceilingOn, totalFloor, totalCeiling}
+use Rattle.session.specs.declared.Session.{Session}
+use Rattle.session.specs.declared.Opened.{Opened}
+use Rattle.session_cuts.specs.declared.Cut.{Cut}
+use Rattle.session_cuts.specs.Sheet.{cutOn}
+use Rattle.session_cutting.specs.Cutting.{afterCut}
+use Rattle.session_cutting.specs.declared.AfterCut.{AfterCut}
+use Rattle.file_format.specs.Format.{profileIn, cutsIn}
+use Rattle.file_format.specs.Reading as Reading
+
+-- ---- the work
+
+-- one cut more, where nothing has been refused; the list lent for changed days is 512 long
+abbrev pub afterEntry : AfterCut → Opened
+afterEntry a = record { refusal = a .answer .refusal; session = a .session }
+
+unfoldable pub cutOnce : Opened → Cut → Opened
+cutOnce o c = cond (eqb (o .refusal) 0) (afterEntry (afterCut (o .session) c 512)) o
+
+-- the first m cuts in order, up to the first refusal
+unfoldable pub cutAll : Opened → (ℕ → Cut) → ℕ → Opened
+cutAll o f zero = o
+cutAll o f (suc m) = cutOnce (cutAll o f m) (f m)
+
+-- a file read, opened, and its cuts applied: the first refusal, or 0 and the session
+unfoldable pub fileOpened : List ℕ → Opened
+fileOpened b =
+    cond (eqb (Reading.earlier b) 0) (cutAll (opened (profileIn b)) (cutOn (cutsIn b)) (length (cutsIn b))) (refusedWith (Reading.earlier b))
+
+-- ---- the text: "total", "day", "refused", a space between fields, a line feed after each line
+
+abbrev pub range : ℤ → ℤ → List ℕ
+range low high = 32 ∷ number low ++ 32 ∷ number high ++ 10 ∷ []
+
+unfoldable pub totalLine : ℤ → ℤ → List ℕ
+totalLine low high = (116 ∷ 111 ∷ 116 ∷ 97 ∷ 108 ∷ []) ++ range low high
+
+unfoldable pub dayLine : ℕ → ℤ → ℤ → List ℕ
+dayLine day low high = (100 ∷ 97 ∷ 121 ∷ 32 ∷ []) ++ decimal day ++ range low high
+
+unfoldable pub refusedLine : ℕ → List ℕ
+refusedLine refusal = (114 ∷ 101 ∷ 102 ∷ 117 ∷ 115 ∷ 101 ∷ 100 ∷ 32 ∷ []) ++ decimal refusal ++ 10 ∷ []
+
+-- the total's range, then each day's
+unfoldable pub rangesText : Session → List ℕ
+rangesText s = totalLine (totalFloor s) (totalCeiling s) ++ rows (λ k. dayLine k (floorOn s k) (ceilingOn s k)) (s .days)
+
+unfoldable pub answerText : Opened → List ℕ
+answerText o = cond (eqb (o .refusal) 0) (rangesText (o .session)) (refusedLine (o .refusal))
+
+unfoldable pub printed : List ℕ → List ℕ
+printed b = answerText (fileOpened b)
+
+-- of an input longer than the longest file, 7,184 bytes, the first 7,185 bytes tell what is printed
+abbrev pub PrintedLong : Type 0
+PrintedLong = (b : List ℕ) → 7184 < length b → printed (take 7185 b) ≡ printed b

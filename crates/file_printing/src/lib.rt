@@ -1,0 +1,217 @@
+// What the program `ranges` prints for a file.
+ghost use mathlib.Core.Path.{_≡_};
+ghost use Prim.Native.Nat.{ℕ, _+_, _-_, _*_, _≤_, _<_};
+ghost use lib.ListN.{length, getD, take};
+ghost use lib.Seq.{sets};
+ghost use Rattle.theory_lists.specs.Front.{inFront};
+ghost use Rattle.theory_lists.specs.Rows.{rows};
+ghost use Rattle.base_codes.specs.Code.{on};
+ghost use Rattle.session.specs.Opening.{opened, profile};
+ghost use Rattle.session.specs.Showing.{Sane};
+ghost use Rattle.session_cuts.specs.Sheet.{blank};
+ghost use Rattle.file_printing.specs.Printing.{cutOnce, cutAll, range, totalLine, dayLine, refusedLine, rangesText, printed};
+ghost use Rattle.file_printing.specs.Stages.{stageOf, numberOf};
+use session::Opened;
+use session::Session;
+use session_cuts::Entry;
+
+// A stage's answer: that it passed, or the number of its refusal.
+enum Stage {
+    Passed,
+    Refused(u8),
+}
+
+fn stage_of(refusal: u8) -> Stage
+    ensures { λ r. ⌜ r ≡ stageOf refusal ⌝ }
+{
+    if refusal == 0 {
+        return Stage::Passed;
+    }
+    Stage::Refused(refusal)
+}
+
+// The refusal's number, 0 for none.
+fn number_of(stage: Stage) -> u8
+    ensures { λ r. ⌜ r ≡ numberOf stage ⌝ }
+{
+    let Stage::Refused(number) = stage else {
+        return 0;
+    };
+    number
+}
+
+// ---- the cuts
+
+fn cut_once(opened: Opened, entry: Entry) -> Opened
+    requires { ⌜ Sane (opened .session) ⌝ }
+    ensures { λ r. ⌜ (r ≡ cutOnce opened (entry .cut)) × Sane (r .session) ⌝ }
+{
+    let Stage::Passed = stage_of(opened.refusal) else {
+        return opened;
+    };
+    let session = opened.session;
+    let cut = entry.cut;
+    let mut changed = [0u16; 512];
+    let after = session_lent::cut_held(session, cut, &mut changed);
+    let answer = after.answer;
+    let session = after.session;
+    Opened {
+        refusal: answer.refusal,
+        session,
+    }
+}
+
+// Applies the first `count` entries in order, up to the first refusal.
+fn cut_all(opened: Opened, count: usize, entries: [Entry; 512]) -> Opened
+    requires { ⌜ Sane (opened .session) × (count ≤ 512) ⌝ }
+    ensures { λ r. ⌜ (r ≡ cutAll opened (λ j. getD entries j blank .cut) count) × Sane (r .session) ⌝ }
+{
+    let mut after = opened;
+    let mut j = 0;
+    while j < count {
+        after = cut_once(after, entries[j]);
+        j += 1;
+    }
+    after
+}
+
+// ---- the text
+
+fn put_range(out: &mut [u8], at: usize, low: i32, high: i32) -> usize
+    requires { ⌜ at + length (range low high) ≤ length (now out) ⌝ }
+    ensures { λ r. ⌜ now (out .exit) ≡ sets (now (out .entry)) at (range low high) ⌝ }
+    ensures { λ r. ⌜ r ≡ at + length (range low high) ⌝ }
+{
+    let first = base_text::put(out, at, b" ");
+    let between = base_text::put_number(out, first, low);
+    let second = base_text::put(out, between, b" ");
+    let end = base_text::put_number(out, second, high);
+    base_text::put(out, end, b"\n")
+}
+
+fn put_total(out: &mut [u8], low: i32, high: i32) -> usize
+    requires { ⌜ length (totalLine low high) ≤ length (now out) ⌝ }
+    ensures { λ r. ⌜ now (out .exit) ≡ sets (now (out .entry)) 0 (totalLine low high) ⌝ }
+    ensures { λ r. ⌜ r ≡ length (totalLine low high) ⌝ }
+{
+    let at = base_text::put(out, 0, b"total");
+    put_range(out, at, low, high)
+}
+
+fn put_day(out: &mut [u8], at: usize, day: usize, low: i16, high: i16) -> usize
+    requires { ⌜ at + length (dayLine day low high) ≤ length (now out) ⌝ }
+    ensures { λ r. ⌜ now (out .exit) ≡ sets (now (out .entry)) at (dayLine day low high) ⌝ }
+    ensures { λ r. ⌜ r ≡ at + length (dayLine day low high) ⌝ }
+{
+    let number = base_text::put(out, at, b"day ");
+    let after = base_text::put_decimal(out, number, day);
+    put_range(out, after, low as i32, high as i32)
+}
+
+// A line for each day, from `at` on.
+fn put_days(
+    out: &mut [u8],
+    at: usize,
+    days: usize,
+    floors: &[i16; 512],
+    ceilings: &[i16; 512],
+) -> usize
+    requires { ⌜ (days ≤ 512) × ((k : ℕ) → k < days → length (dayLine k (on (now floors) k) (on (now ceilings) k)) ≤ 20) × (at + days * 20 ≤ length (now out)) ⌝ }
+    ensures { λ r. ⌜ now (out .exit) ≡ sets (now (out .entry)) at (rows (λ k. dayLine k (on (now (floors .entry)) k) (on (now (ceilings .entry)) k)) days) ⌝ }
+    ensures { λ r. ⌜ r ≡ at + length (rows (λ k. dayLine k (on (now (floors .entry)) k) (on (now (ceilings .entry)) k)) days) ⌝ }
+{
+    let mut next = at;
+    let mut k = 0;
+    while k < days {
+        next = put_day(out, next, k, floors[k], ceilings[k]);
+        k += 1;
+    }
+    next
+}
+
+fn put_ranges(session: Session, out: &mut [u8; 10262]) -> usize
+    requires { ⌜ Sane session ⌝ }
+    ensures { λ r. ⌜ now (out .exit) ≡ inFront (rangesText session) (now (out .entry)) ⌝ }
+    ensures { λ r. ⌜ r ≡ length (rangesText session) ⌝ }
+{
+    let days = session.days;
+    let mut floors = [0i16; 512];
+    let mut ceilings = [0i16; 512];
+    let shown = session.show(&mut floors, &mut ceilings);
+    let at = put_total(out, shown.least, shown.most);
+    put_days(out, at, days, &floors, &ceilings)
+}
+
+fn put_refusal(number: u8, out: &mut [u8; 10262]) -> usize
+    ensures { λ r. ⌜ now (out .exit) ≡ inFront (refusedLine number) (now (out .entry)) ⌝ }
+    ensures { λ r. ⌜ r ≡ length (refusedLine number) ⌝ }
+{
+    let at = base_text::put(out, 0, b"refused ");
+    let end = base_text::put_decimal(out, at, number as usize);
+    base_text::put(out, end, b"\n")
+}
+
+// ---- the stages
+
+// Opens what was read of a file.
+fn open_read(
+    days: usize,
+    floors: &[i16; 512],
+    ceilings: &[i16; 512],
+    rises: &[i16; 511],
+    lowest: i32,
+    highest: i32,
+) -> Opened
+    requires { ⌜ (0 < days) × (days ≤ 512) ⌝ }
+    ensures { λ r. ⌜ r ≡ opened (profile days (take days (now (floors .entry))) (take days (now (ceilings .entry))) (take (days - 1) (now (rises .entry))) lowest highest) ⌝ }
+{
+    let low: &[i16] = floors;
+    let high: &[i16] = ceilings;
+    let least: &[i16] = rises;
+    let steps = days - 1;
+    Session::open(
+        days,
+        &low[..days],
+        &high[..days],
+        &least[..steps],
+        lowest,
+        highest,
+    )
+}
+
+// Reads a file, opens its profile, applies its cuts in order, and stores at the front of `out` the first refusal, or the ranges.
+// Answers how long the text is.
+pub fn print_ranges(file: &[u8], out: &mut [u8; 10262]) -> usize
+    ensures { λ r. ⌜ now (out .exit) ≡ inFront (printed (now (file .entry))) (now (out .entry)) ⌝ }
+    ensures { λ r. ⌜ r ≡ length (printed (now (file .entry))) ⌝ }
+{
+    let mut floors = [0i16; 512];
+    let mut ceilings = [0i16; 512];
+    let mut rises = [0i16; 511];
+    let read = file_reading::read(file, &mut floors, &mut ceilings, &mut rises);
+    let reading = stage_of(read.refusal);
+    let Stage::Passed = reading else {
+        return put_refusal(number_of(reading), out);
+    };
+    let opened = open_read(
+        read.days,
+        &floors,
+        &ceilings,
+        &rises,
+        read.lowest,
+        read.highest,
+    );
+    let opening = stage_of(opened.refusal);
+    let Stage::Passed = opening else {
+        return put_refusal(number_of(opening), out);
+    };
+    let sheet = read.sheet;
+    let entries = sheet.entries;
+    let after = cut_all(opened, sheet.count, entries);
+    let cutting = stage_of(after.refusal);
+    let Stage::Passed = cutting else {
+        return put_refusal(number_of(cutting), out);
+    };
+    let session = after.session;
+    put_ranges(session, out)
+}

@@ -1,0 +1,113 @@
+// The profile file's reader.
+ghost use mathlib.Core.Path.{_≡_};
+ghost use Prim.Native.Nat.{_+_, _-_, _*_, _≤_};
+ghost use lib.ListN.{length};
+ghost use Rattle.theory_lists.specs.Lent.{lentList};
+ghost use Rattle.file_format.specs.Format.{fileLength, dayCount, cutCount, floorAt, ceilingAt, riseAt, toldAt, known};
+ghost use Rattle.file_reading.specs.Reading.{sheetFrom, refusedRead, contents, readFrom};
+use base_little_endian::i32_at;
+use base_little_endian::u16_at;
+use base_numbers::wide;
+use file_checks::file_refusal;
+use file_checks::told_at;
+use file_days::store_days;
+use session_cuts::Cut;
+use session_cuts::Entry;
+use session_cuts::Sheet;
+use session_cuts::Told;
+
+// The refusal's number, 0 for none; the day count, the total's bounds and the cuts.
+pub struct ReadAnswer {
+    pub refusal: u8,
+    pub days: usize,
+    pub lowest: i32,
+    pub highest: i32,
+    pub sheet: Sheet,
+}
+
+fn entry_at(bytes: &[u8], at: usize) -> Entry
+    requires { ⌜ at + 8 ≤ length (now bytes) ⌝ }
+    ensures { λ r. ⌜ r ≡ record { cut = known (toldAt (now (bytes .entry)) at) } ⌝ }
+{
+    let Told::Known(cut) = told_at(bytes, at) else {
+        return Entry {
+            cut: Cut::DayFloor(0, 0),
+        };
+    };
+    Entry { cut }
+}
+
+fn read_sheet(bytes: &[u8], from: usize, count: usize) -> Sheet
+    requires { ⌜ (from + count * 8 ≤ length (now bytes)) × (count ≤ 512) ⌝ }
+    ensures { λ r. ⌜ r ≡ sheetFrom (now (bytes .entry)) from count ⌝ }
+{
+    let blank = Entry {
+        cut: Cut::DayFloor(0, 0),
+    };
+    let mut entries = [blank; 512];
+    let mut j = 0;
+    while j < count {
+        entries[j] = entry_at(bytes, from + j * 8);
+        j += 1;
+    }
+    Sheet { count, entries }
+}
+
+fn refused(number: u8) -> ReadAnswer
+    ensures { λ r. ⌜ r ≡ refusedRead number ⌝ }
+{
+    let blank = Entry {
+        cut: Cut::DayFloor(0, 0),
+    };
+    let entries = [blank; 512];
+    ReadAnswer {
+        refusal: number,
+        days: 0,
+        lowest: 0,
+        highest: 0,
+        sheet: Sheet { count: 0, entries },
+    }
+}
+
+// What is read of a file beside its days.
+fn read_contents(bytes: &[u8], days: usize) -> ReadAnswer
+    requires { ⌜ (days ≡ dayCount (now bytes)) × (fileLength days (cutCount (now bytes)) ≡ length (now bytes)) × (days ≤ 512) × (cutCount (now bytes) ≤ 512) ⌝ }
+    ensures { λ r. ⌜ r ≡ contents (now (bytes .entry)) ⌝ }
+{
+    let lowest = i32_at(bytes, 8);
+    let highest = i32_at(bytes, 12);
+    let count = wide(u16_at(bytes, 2));
+    let sheet = read_sheet(bytes, 16 + days * 6, count);
+    ReadAnswer {
+        refusal: 0,
+        days,
+        lowest,
+        highest,
+        sheet,
+    }
+}
+
+// Reads a file: document 01's checks 11, 1, 11, 12, then 2. Values are left to opening and cutting.
+pub fn read(bytes: &[u8], floors: &mut [i16], ceilings: &mut [i16], rises: &mut [i16]) -> ReadAnswer
+    ensures { λ r. ⌜ r ≡ readFrom (now (bytes .entry)) (length (now (floors .entry))) (length (now (ceilings .entry))) (length (now (rises .entry))) ⌝ }
+    ensures { λ r. ⌜ now (floors .exit) ≡ lentList (r .refusal) (floorAt (now (bytes .entry))) (dayCount (now (bytes .entry))) (now (floors .entry)) ⌝ }
+    ensures { λ r. ⌜ now (ceilings .exit) ≡ lentList (r .refusal) (ceilingAt (now (bytes .entry))) (dayCount (now (bytes .entry))) (now (ceilings .entry)) ⌝ }
+    ensures { λ r. ⌜ now (rises .exit) ≡ lentList (r .refusal) (riseAt (now (bytes .entry))) (dayCount (now (bytes .entry)) - 1) (now (rises .entry)) ⌝ }
+{
+    let refusal = file_refusal(bytes);
+    if refusal != 0 {
+        return refused(refusal);
+    }
+    let days = wide(u16_at(bytes, 0));
+    if floors.len() < days {
+        return refused(2);
+    }
+    if ceilings.len() < days {
+        return refused(2);
+    }
+    if rises.len() < days - 1 {
+        return refused(2);
+    }
+    store_days(bytes, days, floors, ceilings, rises);
+    read_contents(bytes, days)
+}

@@ -1,0 +1,109 @@
+// The profile file's writer.
+ghost use mathlib.Core.Path.{_≡_};
+ghost use Prim.Native.Nat.{_≤_};
+ghost use lib.ListN.{length, getD};
+ghost use Rattle.theory_lists.specs.First.{firstNonzero};
+ghost use Rattle.session.specs.Opening.{earlier, profile};
+ghost use Rattle.session_cuts.specs.Sheet.{blank, cutsOf};
+ghost use Rattle.session_cutting.specs.Cutting.{malformed};
+ghost use Rattle.file_writing.specs.Writing.{writeAnswer, output};
+use file_parts::put_days;
+use file_parts::put_entries;
+use file_parts::put_header;
+use session::Session;
+use session_cuts::Entry;
+use session_cuts::Sheet;
+
+// The refusal's number, 0 for none, and how many bytes were written.
+pub struct WriteAnswer {
+    pub refusal: u8,
+    pub length: usize,
+}
+
+// 1, 2, 3, 4, 5, 6 as opening does; whether there is a schedule is not checked.
+pub fn profile_refusal(
+    days: usize,
+    floors: &[i16],
+    ceilings: &[i16],
+    rises: &[i16],
+    lowest: i32,
+    highest: i32,
+) -> u8
+    ensures { λ r. ⌜ r ≡ earlier (profile days (now (floors .entry)) (now (ceilings .entry)) (now (rises .entry)) lowest highest) ⌝ }
+{
+    let opened = Session::open(days, floors, ceilings, rises, lowest, highest);
+    if opened.refusal == 8 {
+        return 0;
+    }
+    opened.refusal
+}
+
+fn entry_refusal(entry: Entry, days: usize) -> u8
+    ensures { λ r. ⌜ r ≡ malformed days (entry .cut) ⌝ }
+{
+    let cut = entry.cut;
+    session_cutting::malformed(cut, days)
+}
+
+// The first refusal of the entries in their order, or 0.
+fn entries_refusal(entries: [Entry; 512], count: usize, days: usize) -> u8
+    requires { ⌜ count ≤ 512 ⌝ }
+    ensures { λ r. ⌜ r ≡ firstNonzero (λ j. malformed days (getD entries j blank .cut)) count ⌝ }
+{
+    let mut j = 0;
+    while j < count {
+        let refusal = entry_refusal(entries[j], days);
+        if refusal != 0 {
+            return refusal;
+        }
+        j += 1;
+    }
+    0
+}
+
+fn refuse(number: u8) -> WriteAnswer
+    ensures { λ r. ⌜ r ≡ record { refusal = number; length = 0 } ⌝ }
+{
+    WriteAnswer {
+        refusal: number,
+        length: 0,
+    }
+}
+
+// Writes a file: document 01's checks 1 to 6 as opening does, each cut in order as cutting does, then 2 where the output is too short.
+pub fn write(
+    days: usize,
+    floors: &[i16],
+    ceilings: &[i16],
+    rises: &[i16],
+    lowest: i32,
+    highest: i32,
+    sheet: Sheet,
+    out: &mut [u8],
+) -> WriteAnswer
+    ensures { λ r. ⌜ r ≡ writeAnswer (profile days (now (floors .entry)) (now (ceilings .entry)) (now (rises .entry)) lowest highest) (cutsOf sheet) (length (now (out .entry))) ⌝ }
+    ensures { λ r. ⌜ now (out .exit) ≡ output (profile days (now (floors .entry)) (now (ceilings .entry)) (now (rises .entry)) lowest highest) (cutsOf sheet) (now (out .entry)) ⌝ }
+{
+    let count = sheet.count;
+    let entries = sheet.entries;
+    if 512 < count {
+        return refuse(1);
+    }
+    let of_profile = profile_refusal(days, floors, ceilings, rises, lowest, highest);
+    let of_cuts = entries_refusal(entries, count, days);
+    if of_profile != 0 {
+        return refuse(of_profile);
+    }
+    if of_cuts != 0 {
+        return refuse(of_cuts);
+    }
+    let from = 16 + days * 6;
+    let length = from + count * 8;
+    if out.len() < length {
+        return refuse(2);
+    }
+    put_header(days, count, lowest, highest, out);
+    put_days(floors, ceilings, rises, days, out);
+    put_entries(entries, count, from, out);
+    WriteAnswer { refusal: 0, length }
+}

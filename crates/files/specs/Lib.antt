@@ -1,3 +1,0 @@
-pub mod RoundTrips
-pub mod Printing
-pub mod Example

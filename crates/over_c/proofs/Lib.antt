@@ -1,6 +1,0 @@
-pub mod Storable
-pub mod Bytes
-pub mod Points
-pub mod Demands
-pub mod Schedules
-pub mod Files

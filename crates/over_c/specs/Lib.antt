@@ -1,4 +1,0 @@
-pub mod InBytes
-pub mod DemandsInBytes
-pub mod SchedulesInBytes
-pub mod FilesInBytes

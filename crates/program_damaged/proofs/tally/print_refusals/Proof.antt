@@ -1,0 +1,26 @@
+-- `damaged::tally::print_refusals` meets its contract. The measure is the numbers left. Assumes nothing.
+use Prim.Native.Nat.{_-_, _≤_}
+use borrow.Author.Needs.{needs}
+use Rattle.program_damaged.proofs.tally.print_refusals.Statement.{statement}
+use Rattle.program_damaged.proofs.tally.print_refusals.Tie as tie
+
+abbrev Inv-loop : tie.InvT-loop
+Inv-loop counts k₀ k = k ≤ 13
+
+abbrev μ-loop : tie.MeasureT-loop
+μ-loop counts k₀ k = 13 - k
+
+pub print-refusals-spec : {M : Type 1} → statement M
+print-refusals-spec =
+    tie.close
+    (tie.spec
+    Inv-loop
+    μ-loop
+    (λ c. search needs)
+    (λ c. search needs)
+    (λ c. search needs)
+    (λ c. search needs)
+    (λ c. search needs)
+    (λ c. search needs)
+    (λ c. search needs)
+    (λ c. search needs))

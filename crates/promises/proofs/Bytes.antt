@@ -1,0 +1,120 @@
+-- The bytes of a session that came from opening and cuts.
+use mathlib.Core.Path.{_≡_, refl, sym, ap, _∙_}
+use mathlib.Core.Bool.{Bool, true, false, cond, _||_}
+use mathlib.Core.List.{List, [], _∷_}
+use Prim.Native.Nat.{ℕ, _/_}
+use native.Mathlib.Omega.{arith}
+use lib.IntN.{ℤ}
+use lib.Dec.{eqb}
+use lib.ListN.{length, replicate, length-replicate}
+use borrow.Author.Tests.{eq-eqb, eqb-false}
+use Rattle.session.specs.Profile.{Profile}
+use Rattle.session.specs.Opening.{opened}
+use Rattle.session.specs.declared.Session.{Session}
+use Rattle.session_cuts.specs.declared.Told.{Told}
+use Rattle.session_cutting.specs.Cutting.{afterTold}
+use Rattle.promises.specs.Cuts.{after}
+use Rattle.promises.proofs.Demand1.{demand-1}
+use Rattle.c_lists.specs.Profiles.{lengthRefusal, profileOf}
+use Rattle.c_storage.specs.Layout.{sessionBytes, encoding, decoding}
+use Rattle.c_storage.specs.Storing.{Storable}
+use Rattle.c_storage.proofs.Lengths.{encoding-length}
+use Rattle.c_storage.proofs.Inverse.{decoding-encoding}
+use Rattle.c_sessions.specs.Sessions.{isSession, openRefusal, openBytes, cutAnswer, cutBytes}
+use Rattle.promises.specs.InBytes.{HandedBytes, byValue, bytesAfter, CameFrom, SessionsInBytes}
+use Rattle.promises.proofs.Storable.{opened-storable, told-storable}
+
+encoded : (s : Session) → Storable s → isSession (encoding s) ≡ true
+encoded s h = eq-eqb (length (encoding s)) sessionBytes (encoding-length s (h .sane .opened .most))
+
+-- ---- cuts
+
+written-or-left : (r : ℕ) (s after : Session) → ((r ≡ 0 → ⊥) → (r ≡ 8 → ⊥) → after ≡ s) → cond (eqb r 0 || eqb r 8) (encoding after) (encoding s) ≡ encoding after
+written-or-left r s after left = go (eqb r 0) (eqb r 8) refl refl
+  where
+    go : (a b : Bool) → eqb r 0 ≡ a → eqb r 8 ≡ b → cond (a || b) (encoding after) (encoding s) ≡ encoding after
+    go true b e f = refl
+    go false true e f = refl
+    go false false e f = ap encoding (sym (left (eqb-false r 0 e) (eqb-false r 8 f)))
+
+-- one cut: a refusal other than 8 leaves the session, and so its bytes
+cut-encoded : (s : Session) (t : Told) (bytes : ℕ) → Storable s → cutBytes (encoding s) t bytes ≡ encoding (afterTold s t (bytes / 2) .session)
+unfolding cutBytes cutAnswer
+cut-encoded s t bytes h =
+    let left = rw (length-replicate {A = ℕ} (bytes / 2) 0) at (demand-1 .refused s t (replicate (bytes / 2) 0) .session) in
+    rw (encoded s h, decoding-encoding s h)
+    (written-or-left (afterTold s t (bytes / 2) .answer .refusal) s (afterTold s t (bytes / 2) .session) left)
+
+-- a whole list of cuts
+follow : (s : Session) (hs : List HandedBytes) → Storable s → (bytesAfter (encoding s) hs ≡ encoding (after s (byValue hs))) × Storable (after s (byValue hs))
+follow s [] h = (refl, h)
+follow s (c ∷ hs) h =
+    let f = follow (afterTold s (c .told) (c .bytes / 2) .session) hs (told-storable s (c .told) (c .bytes / 2) h) in
+    (ap (λ b. bytesAfter b hs) (cut-encoded s (c .told) (c .bytes) h) ∙ f .0, f .1)
+
+-- ---- opening
+
+module _ (b : List ℕ) (n : ℕ) (fs cs rs : List ℕ) (lo hi : ℤ) (e : openRefusal b n fs cs rs lo hi ≡ 0) where
+  abbrev lengths : ℕ
+  lengths = lengthRefusal n (length fs) (length cs) (length rs)
+
+  abbrev number : ℕ
+  number = opened (profileOf n fs cs rs lo hi) .refusal
+
+  passes : (a c : Bool) → eqb lengths 0 ≡ c → cond a (cond c number lengths) 2 ≡ 0 → number ≡ 0
+  passes true true q z = z
+  passes true false q z = absurd (eqb-false lengths 0 q z)
+  passes false c q z = absurd (omega arith)
+
+  unrefused : opened (profileOf n fs cs rs lo hi) .refusal ≡ 0
+  unfolding openRefusal
+  unrefused = passes (isSession b) (eqb lengths 0) refl e
+
+  written : openBytes b n fs cs rs lo hi ≡ encoding (opened (profileOf n fs cs rs lo hi) .session)
+  unfolding openBytes
+  written = rw (eq-eqb (openRefusal b n fs cs rs lo hi) 0 e) refl
+
+-- ---- both
+
+-- what is known of bytes that came from opening and cuts
+pub record Came (p : Profile) (hs : List HandedBytes) (b : List ℕ) : Type 0 where
+  pub opens : opened p .refusal ≡ 0
+  pub bytes : b ≡ encoding (after (opened p .session) (byValue hs))
+  pub held : decoding b ≡ after (opened p .session) (byValue hs)
+  pub back : b ≡ encoding (decoding b)
+  pub storable : Storable (decoding b)
+  pub sized : isSession b ≡ true
+
+pub came : (p : Profile) (hs : List HandedBytes) (b : List ℕ) → CameFrom p hs b → Came p hs b
+came p hs b c =
+    let s : Session = after (opened p .session) (byValue hs) in
+    let opens : opened p .refusal ≡ 0 = rw (← c .entered) at (unrefused (c .lent) (p .days) (c .floors) (c .ceilings) (c .rises) (p .lowest) (p .highest) (c .accepted)) in
+    let opening = written (c .lent) (p .days) (c .floors) (c .ceilings) (c .rises) (p .lowest) (p .highest) (c .accepted) in
+    let f = follow (opened p .session) hs (opened-storable p opens) in
+    let bytes : b ≡ encoding s = c .bytes ∙ ap (λ a. bytesAfter a hs) (opening ∙ rw (← c .entered) refl) ∙ f .0 in
+    let held : decoding b ≡ s = ap decoding bytes ∙ decoding-encoding s (f .1) in
+    record {
+      opens = opens;
+      bytes = bytes;
+      held = held;
+      back = bytes ∙ ap encoding (sym held);
+      storable = rw held (f .1);
+      sized = rw bytes (encoded s (f .1));
+    }
+
+-- one cut more
+pub record CutHeld (b : List ℕ) (t : Told) (bytes : ℕ) : Type 0 where
+  pub after-bytes : cutBytes b t bytes ≡ encoding (afterTold (decoding b) t (bytes / 2) .session)
+  pub after-held : decoding (cutBytes b t bytes) ≡ afterTold (decoding b) t (bytes / 2) .session
+
+pub cut-held : (p : Profile) (hs : List HandedBytes) (b : List ℕ) → CameFrom p hs b → (t : Told) (bytes : ℕ) → CutHeld b t bytes
+cut-held p hs b c t bytes =
+    let w = came p hs b c in
+    let e = ap (λ a. cutBytes a t bytes) (w .back) ∙ cut-encoded (decoding b) t bytes (w .storable) in
+    record {
+      after-bytes = e;
+      after-held = ap decoding e ∙ decoding-encoding (afterTold (decoding b) t (bytes / 2) .session) (told-storable (decoding b) t (bytes / 2) (w .storable));
+    }
+
+pub sessions-in-bytes : SessionsInBytes
+sessions-in-bytes p hs b c = let w = came p hs b c in record { opens = w .opens; bytes = w .bytes; held = w .held }

@@ -1,0 +1,116 @@
+-- Files as a caller in C writes and reads them, as statements about what the entries give and store in the lists that they are lent: byte for byte, what
+-- was written, read again, is the same lists, and a file that the reader takes, with contents that the writer takes, is written back.
+use mathlib.Core.Path.{_≡_}
+use mathlib.Core.List.{List}
+use Prim.Native.Nat.{ℕ, _-_, _*_, _≤_}
+use lib.IntN.{ℤ}
+use lib.ListN.{length, take}
+use Rattle.theory_lists.specs.Front.{inFront}
+use Rattle.base_little_endian.specs.Fields.{Bytes}
+use Rattle.session.specs.Profile.{Profile}
+use Rattle.file_format.specs.Format.{dayCount, floorAt, ceilingAt, riseAt}
+use Rattle.file_writing.specs.Writing as ByValue
+use Rattle.file_writing.specs.declared.WriteAnswer.{WriteAnswer}
+use Rattle.c_lists.specs.Lists.{lentPoints}
+use Rattle.c_lists.specs.Profiles.{profileOf}
+use Rattle.c_files.specs.declared.Contents.{Contents}
+use Rattle.c_files.specs.Reading.{readInto, cutsLent}
+use Rattle.c_files.specs.Writing.{cutsOf, writeOver, outputOver}
+
+-- a profile and cuts as the writer is handed them, and as a caller finds them after reading; each list is its bytes
+pub record Lists : Type 0 where
+  pub days : ℕ
+  pub floors : List ℕ
+  pub ceilings : List ℕ
+  pub rises : List ℕ
+  pub lowest : ℤ
+  pub highest : ℤ
+  pub cuts : List ℕ
+
+-- ---- writing
+
+-- what the writer gives, and its output afterwards (the contract of `cloverdrum_write_file`)
+abbrev pub write : Lists → List ℕ → WriteAnswer
+write l out = writeOver (l .days) (l .floors) (l .ceilings) (l .rises) (l .lowest) (l .highest) (l .cuts) (length out)
+
+abbrev pub output : Lists → List ℕ → List ℕ
+output l out = outputOver (l .days) (l .floors) (l .ceilings) (l .rises) (l .lowest) (l .highest) (l .cuts) out
+
+-- the file is as many bytes of the output as the writer says
+abbrev pub written : Lists → List ℕ → List ℕ
+written l out = take (write l out .length) (output l out)
+
+-- the profile that the lists hold
+abbrev pub profileIn : Lists → Profile
+profileIn l = profileOf (l .days) (l .floors) (l .ceilings) (l .rises) (l .lowest) (l .highest)
+
+-- ---- reading
+
+-- byte lists that are lent to the reader
+pub record Lent : Type 0 where
+  pub floors : List ℕ
+  pub ceilings : List ℕ
+  pub rises : List ℕ
+  pub cuts : List ℕ
+
+-- what the reader gives of a file, and the lists afterwards (the contract of `cloverdrum_read_file`)
+abbrev pub readOver : List ℕ → Lent → Contents
+readOver f t = readInto f (length (t .floors)) (length (t .ceilings)) (length (t .rises)) (length (t .cuts))
+
+abbrev pub filledOver : List ℕ → Lent → Lent
+filledOver f t =
+    record {
+      floors = lentPoints (readOver f t .refusal) (floorAt f) (dayCount f) (t .floors);
+      ceilings = lentPoints (readOver f t .refusal) (ceilingAt f) (dayCount f) (t .ceilings);
+      rises = lentPoints (readOver f t .refusal) (riseAt f) (dayCount f - 1) (t .rises);
+      cuts = cutsLent (readOver f t .refusal) f (t .cuts);
+    }
+
+-- the lists that a caller finds in them: what lies past the data is no part of them
+abbrev pub foundIn : Contents → Lent → Lists
+foundIn r t =
+    record {
+      days = r .days;
+      floors = take (r .days * 2) (t .floors);
+      ceilings = take (r .days * 2) (t .ceilings);
+      rises = take ((r .days - 1) * 2) (t .rises);
+      lowest = r .lowest;
+      highest = r .highest;
+      cuts = take (r .cuts * 8) (t .cuts);
+    }
+
+abbrev pub readLists : List ℕ → Lent → Lists
+readLists f t = foundIn (readOver f t) (filledOver f t)
+
+-- the lent lists are long enough
+pub record Roomy (l : Lists) (t : Lent) : Type 0 where
+  pub floors : length (l .floors) ≤ length (t .floors)
+  pub ceilings : length (l .ceilings) ≤ length (t .ceilings)
+  pub rises : length (l .rises) ≤ length (t .rises)
+  pub cuts : length (l .cuts) ≤ length (t .cuts)
+
+-- ---- the round trips
+
+-- the reader takes f, and the same lists are found
+pub record ReadAgain (l : Lists) (f : List ℕ) (t : Lent) : Type 0 where
+  pub taken : readOver f t .refusal ≡ 0
+  pub lists : readLists f t ≡ l
+
+-- the lists that the reader left are written back as f, and what lies past it in the output stays
+pub record WrittenBack (f out : List ℕ) (t : Lent) : Type 0 where
+  pub same : written (readLists f t) out ≡ f
+  pub rest : output (readLists f t) out ≡ inFront f out
+
+-- a refusal leaves the output, and every lent list
+pub record ListsLeft : Type 0 where
+  pub writing : (l : Lists) (out : List ℕ) → (write l out .refusal ≡ 0 → ⊥) → output l out ≡ out
+  pub reading : (f : List ℕ) (t : Lent) → (readOver f t .refusal ≡ 0 → ⊥) → filledOver f t ≡ t
+
+pub record FilesInBytes : Type 0 where
+  pub refused : ListsLeft
+  pub again : (l : Lists) (out : List ℕ) (t : Lent) → Bytes (l .floors) → Bytes (l .ceilings) → Bytes (l .rises) → Bytes (l .cuts) → write l out .refusal ≡ 0 → Roomy l t
+      → ReadAgain l (written l out) t
+  pub back : (f out : List ℕ) (t : Lent) → Bytes f → readOver f t .refusal ≡ 0 → write (readLists f t) out .refusal ≡ 0 → WrittenBack f out t
+  -- what is written is what the writer by value writes
+  pub by-value : (l : Lists) (out : List ℕ) → write l out .refusal ≡ 0
+      → (write l out ≡ ByValue.writeAnswer (profileIn l) (cutsOf (l .cuts)) (length out)) × (output l out ≡ ByValue.output (profileIn l) (cutsOf (l .cuts)) out)

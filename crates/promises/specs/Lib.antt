@@ -1,0 +1,11 @@
+pub mod Cuts
+pub mod Demands
+pub mod Starred
+pub mod Schedules
+pub mod RoundTrips
+pub mod Printing
+pub mod Example
+pub mod InBytes
+pub mod DemandsInBytes
+pub mod SchedulesInBytes
+pub mod FilesInBytes

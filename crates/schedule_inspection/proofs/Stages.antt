@@ -1,0 +1,59 @@
+-- Inspecting by what its tests found.
+use mathlib.Core.Path.{_≡_}
+use mathlib.Core.Bool.{Bool, true, false}
+use mathlib.Core.List.{List}
+use Prim.Native.Nat.{ℕ, _-_, _≤_, _<_}
+use lib.IntN.{ℤ}
+use lib.Dec.{ltb}
+use lib.ListN.{length}
+use borrow.Author.Tests.{eq-eqb, ne-eqb, lt-ltb, le-ltb}
+use Rattle.theory_lists.specs.First.{firstWhere}
+use Rattle.session.specs.declared.Session.{Session}
+use Rattle.schedule_inspection.specs.Inspecting.{refused, kept, broken, judged, inspected}
+use Rattle.schedule_inspection.specs.Stages.{outside, dayOutside, fallen, totalOutside, judgedCodes}
+
+-- ---- is_outside
+
+module _ (low high x : ℕ) where
+  pub below : x < low → true ≡ outside low high x
+  below h = let e : ltb x low ≡ true = lt-ltb x low h in rw e
+
+  pub not-below : low ≤ x → ltb high x ≡ outside low high x
+  not-below h = let e : ltb x low ≡ false = le-ltb x low h in rw e
+
+-- ---- judge_codes
+
+module _ (xs fs cs rs : List ℕ) (n least most : ℕ) {day : ℕ} (first-day : day ≡ firstWhere (dayOutside xs fs cs) n) where
+  pub day-broken : day < n → broken 1 day ≡ judgedCodes xs fs cs rs n least most
+  unfolding judgedCodes
+  day-broken h = rw (← first-day, lt-ltb day n h)
+
+  module _ (days : n ≤ day) {rise : ℕ} (first-rise : rise ≡ firstWhere (fallen xs rs) (n - 1)) where
+    pub rise-broken : rise < n - 1 → broken 2 rise ≡ judgedCodes xs fs cs rs n least most
+    unfolding judgedCodes
+    rise-broken h = rw (← first-day, le-ltb day n days, ← first-rise, lt-ltb rise (n - 1) h)
+
+    module _ (rises : n - 1 ≤ rise) {t : Bool} (test : t ≡ totalOutside xs n least most) where
+      pub total-broken : t ≡ true → broken 3 0 ≡ judgedCodes xs fs cs rs n least most
+      unfolding judgedCodes
+      total-broken h = rw (← first-day, le-ltb day n days, ← first-rise, le-ltb rise (n - 1) rises, ← test, h)
+
+      pub none-broken : t ≡ false → kept ≡ judgedCodes xs fs cs rs n least most
+      unfolding judgedCodes
+      none-broken h = rw (← first-day, le-ltb day n days, ← first-rise, le-ltb rise (n - 1) rises, ← test, h)
+
+-- ---- inspect
+
+module _ (s : Session) (x : List ℤ) where
+  pub wrong-length : (length x ≡ s .days → ⊥) → refused 2 ≡ inspected s x
+  unfolding inspected
+  wrong-length h = rw (ne-eqb (length x) (s .days) h)
+
+  module _ (whole : length x ≡ s .days) where
+    pub spent-refused : s .spent ≡ true → refused 9 ≡ inspected s x
+    unfolding inspected
+    spent-refused h = rw (eq-eqb (length x) (s .days) whole, h)
+
+    pub unspent-judged : s .spent ≡ false → judged s x ≡ inspected s x
+    unfolding inspected
+    unspent-judged h = rw (eq-eqb (length x) (s .days) whole, h)

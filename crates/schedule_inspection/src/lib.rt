@@ -1,0 +1,161 @@
+// Inspecting a schedule that somebody wrote, by a session's present ranges.
+ghost use mathlib.Core.Path.{_≡_};
+ghost use Prim.Native.Nat.{_+_, _-_, _≤_, _<_};
+ghost use lib.Dec.{ltb};
+ghost use lib.ListN.{length};
+ghost use Rattle.theory_lists.specs.First.{firstWhere};
+ghost use Rattle.session.specs.Showing.{Sane};
+ghost use Rattle.schedule_inspection.specs.Inspecting.{finding, judged, inspected};
+ghost use Rattle.schedule_inspection.specs.Stages.{outside, dayOutside, fallen, totalOutside, judgedCodes};
+use base_numbers::wide;
+use session::Session;
+
+// What inspecting answers: that the list is not n long (2), or that the session is spent (9); or that the schedule is kept; or the first broken rule: the range
+// of a day, the rise from a day to the next, or the range of the total.
+pub enum Inspection {
+    WrongLength,
+    Spent,
+    Kept,
+    BrokenDay(usize),
+    BrokenRise(usize),
+    BrokenTotal,
+}
+
+// Every setpoint that a list can hold.
+const LOWEST_SETPOINT: i32 = -32768;
+
+const HIGHEST_SETPOINT: i32 = 32767;
+
+fn is_outside(x: usize, low: usize, high: usize) -> bool
+    ensures { λ r. ⌜ r ≡ outside low high x ⌝ }
+{
+    if x < low {
+        return true;
+    }
+    high < x
+}
+
+// Whether a setpoint, held plus 32,768, is outside a day's range.
+fn is_day_outside(setpoint: u16, floor: u16, ceiling: u16) -> bool
+    ensures { λ r. ⌜ r ≡ outside (floor + 31768) (ceiling + 31768) setpoint ⌝ }
+{
+    is_outside(wide(setpoint), wide(floor) + 31768, wide(ceiling) + 31768)
+}
+
+// Whether a setpoint and the next one break the rise between them.
+fn is_fallen(setpoint: u16, next: u16, rise: u16) -> bool
+    ensures { λ r. ⌜ r ≡ ltb (next + 2000) (setpoint + rise) ⌝ }
+{
+    wide(next) + 2000 < wide(setpoint) + wide(rise)
+}
+
+// Whether the sum of n setpoints is outside the total's range, which is held plus 512,000.
+fn is_total_outside(setpoints: &[u16; 512], n: usize, least: usize, most: usize) -> bool
+    requires { ⌜ (n ≤ 512) × (least ≤ 2560000) × (most ≤ 2560000) ⌝ }
+    ensures { λ r. ⌜ r ≡ totalOutside (now (setpoints .entry)) n least most ⌝ }
+{
+    let sum = base_arrays::sum(setpoints, n) + 512000;
+    let offset = 32768 * n;
+    is_outside(sum, least + offset, most + offset)
+}
+
+// The first of n days whose setpoint is outside the day's range, or n.
+fn first_outside(
+    setpoints: &[u16; 512],
+    floors: &[u16; 512],
+    ceilings: &[u16; 512],
+    n: usize,
+) -> usize
+    requires { ⌜ n ≤ 512 ⌝ }
+    ensures { λ r. ⌜ r ≡ firstWhere (dayOutside (now (setpoints .entry)) (now (floors .entry)) (now (ceilings .entry))) n ⌝ }
+{
+    let mut day = 0;
+    while day < n {
+        if is_day_outside(setpoints[day], floors[day], ceilings[day]) {
+            return day;
+        }
+        day += 1;
+    }
+    n
+}
+
+// The first of the n - 1 rises that is broken, or n - 1.
+fn first_fallen(setpoints: &[u16; 512], rises: &[u16; 512], n: usize) -> usize
+    requires { ⌜ (0 < n) × (n ≤ 512) ⌝ }
+    ensures { λ r. ⌜ r ≡ firstWhere (fallen (now (setpoints .entry)) (now (rises .entry))) (n - 1) ⌝ }
+{
+    let last = n - 1;
+    let mut k = 0;
+    while k < last {
+        let next = k + 1;
+        if is_fallen(setpoints[k], setpoints[next], rises[k]) {
+            return k;
+        }
+        k = next;
+    }
+    last
+}
+
+// The first broken rule: days in order, then rises in order, then the total.
+fn judge_codes(
+    setpoints: &[u16; 512],
+    floors: &[u16; 512],
+    ceilings: &[u16; 512],
+    rises: &[u16; 512],
+    n: usize,
+    least: usize,
+    most: usize,
+) -> Inspection
+    requires { ⌜ (0 < n) × (n ≤ 512) × (least ≤ 2560000) × (most ≤ 2560000) ⌝ }
+    ensures { λ r. ⌜ finding r ≡ judgedCodes (now (setpoints .entry)) (now (floors .entry)) (now (ceilings .entry)) (now (rises .entry)) n least most ⌝ }
+{
+    let day = first_outside(setpoints, floors, ceilings, n);
+    if day < n {
+        return Inspection::BrokenDay(day);
+    }
+    let rise = first_fallen(setpoints, rises, n);
+    if rise < n - 1 {
+        return Inspection::BrokenRise(rise);
+    }
+    if is_total_outside(setpoints, n, least, most) {
+        return Inspection::BrokenTotal;
+    }
+    Inspection::Kept
+}
+
+// Judges a list that is n long by the session's present ranges and rises.
+fn judge(session: Session, list: &[i16]) -> Inspection
+    requires { ⌜ Sane session × (length (now list) ≡ session .days) ⌝ }
+    ensures { λ r. ⌜ finding r ≡ judged session (now (list .entry)) ⌝ }
+{
+    let rises = session.rises;
+    let ranges = session.present;
+    let floors = ranges.floors;
+    let ceilings = ranges.ceilings;
+    let mut setpoints = [0u16; 512];
+    base_codes::code_all(list, LOWEST_SETPOINT, HIGHEST_SETPOINT, &mut setpoints);
+    judge_codes(
+        &setpoints,
+        &floors,
+        &ceilings,
+        &rises,
+        session.days,
+        ranges.least,
+        ranges.most,
+    )
+}
+
+// Judges a list of setpoints by the session's present ranges and rises. Document 01's checks 2, 9.
+pub fn inspect(session: Session, list: &[i16]) -> Inspection
+    requires { ⌜ Sane session ⌝ }
+    ensures { λ r. ⌜ finding r ≡ inspected session (now (list .entry)) ⌝ }
+{
+    let n = session.days;
+    if list.len() != n {
+        return Inspection::WrongLength;
+    }
+    if session.spent {
+        return Inspection::Spent;
+    }
+    judge(session, list)
+}

@@ -1,0 +1,224 @@
+-- Writing by what its tests found.
+use mathlib.Core.Path.{_≡_, refl, ap, sym, _∙_}
+use mathlib.Core.Bool.{Bool, true, false, cond, not, _&&_, true≢false}
+use mathlib.Core.List.{List}
+use Prim.Native.Nat.{ℕ, _≤_, _<_}
+use native.Mathlib.Omega.{arith}
+use native.Mathlib.Decide.{decLt}
+use lib.IntN.{ℤ}
+use lib.Dec.{ltb, leb}
+use lib.ListN.{length, set}
+use borrow.Author.Tests.{eq-eqb, ne-eqb, lt-ltb, le-ltb, le-leb, lt-leb}
+use Rattle.theory_lists.specs.Sum.{at}
+use Rattle.theory_lists.specs.Written.{written, length-written, written-below, written-past, written-same}
+use Rattle.base_codes.specs.Code.{lowestPoint, highestPoint, lowestTotal, highestTotal, within, code, decoded, coded}
+use Rattle.base_codes.specs.declared.Coded.{Coded}
+use Rattle.base_codes.proofs.Offset.{Less, less-le}
+use Rattle.base_codes.proofs.Laws.{point-less, total-less, code-decoded, decoded-code, decoded-less, code-most, within-yes, within-no, within-less}
+use Rattle.base_codes.proofs.Order.{≤ℤ-trans, within-test}
+use Rattle.theory_method.specs.Filter.{InBounds, carried, firstCrossed}
+use Rattle.theory_method.specs.Levels.{refit, refit-day}
+use Rattle.theory_method.specs.Stages.{crossing}
+use Rattle.tighten_carry.specs.Carriable.{Carriable}
+use Rattle.session.specs.Showing.{Sane}
+use Rattle.theory_lists.specs.Lent.{list-left, list-filled}
+use Rattle.session.specs.declared.Session.{Session}
+use Rattle.schedule_raising.specs.Raising.{raisedTo}
+use Rattle.schedule_raising.proofs.Laws.{raised-stands}
+use Rattle.schedule_writing.specs.Writing.{dayRefusal, totalRefusal, dayLevels, totalLevels, dayWritten, totalWritten}
+use Rattle.schedule_writing.specs.Stages.{checked}
+use Rattle.schedule_writing.specs.declared.Checked.{Checked}
+
+-- ---- check and refusal_of
+
+-- what they tell of a value z with a range, in bounds that end at top: the number r, and where it is 0 the value's code c
+pub record Judged (low z : ℤ) (top floor ceiling : ℕ) (spent : Bool) (r c : ℕ) : Type 0 where
+  pub refusal : r ≡ cond spent 9 (cond (not (within (decoded low floor) (decoded low ceiling) z)) 10 0)
+  pub held : r ≡ 0 → c ≡ code low z
+  pub small : r ≡ 0 → c ≤ top
+  pub back : r ≡ 0 → decoded low c ≡ z
+
+unrefused : (spent within : Bool) {r : ℕ} → r ≡ cond spent 9 (cond (not within) 10 0) → r ≡ 0 → within ≡ true
+unrefused true within e z = absurd (omega arith)
+unrefused false true e z = refl
+unrefused false false e z = absurd (omega arith)
+
+not-less : (a b : ℕ) → not (ltb b a) ≡ leb a b
+not-less a b = go (decLt b a)
+  where
+    go : Dec (b < a) → not (ltb b a) ≡ leb a b
+    go (yes h) = rw (lt-ltb b a h, lt-leb a b h)
+    go (no h) = let l : a ≤ b = omega arith in rw (le-ltb b a l, le-leb a b l)
+
+module _ (low z : ℤ) (k top floor ceiling : ℕ) (p : Less low 0 k) where
+  -- a value outside its bounds is outside each range in them
+  within-none : ceiling ≤ top → within low (decoded low top) z ≡ false → within (decoded low floor) (decoded low ceiling) z ≡ false
+  within-none most e =
+      let l = less-le low (decoded low floor) 0 floor k p (decoded-less low floor k p) (omega arith) in
+      let u = less-le (decoded low ceiling) (decoded low top) ceiling top k (decoded-less low ceiling k p) (decoded-less low top k p) most in
+      within-no (decoded low floor) (decoded low ceiling) z .1
+      (λ w. within-no low (decoded low top) z .0 e (≤ℤ-trans low (decoded low floor) z l (w .0), ≤ℤ-trans z (decoded low ceiling) (decoded low top) (w .1) u))
+
+  -- a value in bounds is within a range where its code is
+  within-some : within low (decoded low top) z ≡ true → within (decoded low floor) (decoded low ceiling) z ≡ (leb floor (code low z) && leb (code low z) ceiling)
+  within-some e =
+      cc (
+        within-test (decoded low floor) (decoded low ceiling) z floor ceiling (code low z) k (decoded-less low floor k p) (decoded-less low ceiling k p)
+            (within-less low (decoded low top) z k p e),
+        not-less floor (code low z),
+        not-less (code low z) ceiling,
+      )
+
+module _ (low z : ℤ) (k top floor ceiling : ℕ) (p : Less low 0 k) (most : ceiling ≤ top) {v : Coded} (ev : v ≡ coded low (decoded low top) z)
+    {q : Checked} (eq : q ≡ checked v floor ceiling) where
+  within-is : q .within ≡ within (decoded low floor) (decoded low ceiling) z
+  within-is = go (within low (decoded low top) z) refl
+    where
+      go : (b : Bool) → within low (decoded low top) z ≡ b → q .within ≡ within (decoded low floor) (decoded low ceiling) z
+      go true e = rw (eq, ev, e) (sym (within-some low z k top floor ceiling p e))
+      go false e = rw (eq, ev, e) (sym (within-none low z k top floor ceiling p most e))
+
+  module _ (spent : Bool) {r : ℕ} (er : r ≡ cond spent 9 (cond (not (q .within)) 10 0)) where
+    in-bounds : r ≡ 0 → (within low (decoded low top) z ≡ true) × (q .code ≡ code low z)
+    in-bounds none = go (within low (decoded low top) z) refl
+      where
+        go : (b : Bool) → within low (decoded low top) z ≡ b → (within low (decoded low top) z ≡ true) × (q .code ≡ code low z)
+        go true e = (e, rw (eq, ev, e))
+        go false e = let f : q .within ≡ false = rw (eq, ev, e) in absurd (true≢false (sym (unrefused spent (q .within) er none) ∙ f))
+
+    judged : Judged low z top floor ceiling spent r (q .code)
+    judged =
+        record {
+          refusal = rw within-is at er;
+          held = λ e. in-bounds e .1;
+          small = λ e. omega (arith, in-bounds e .1, code-most low (decoded low top) z (in-bounds e .0), code-decoded low top);
+          back = λ e. rw (in-bounds e .1) (decoded-code low z (within-yes low (decoded low top) z .0 (in-bounds e .0) .0));
+        }
+
+-- of a day's value, and of the total's
+abbrev pub DayJudged : Session → ℕ → ℤ → ℕ → ℕ → Type 0
+DayJudged s day value = Judged lowestPoint value 5000 (at (s .present .floors) day) (at (s .present .ceilings) day) (s .spent)
+
+abbrev pub TotalJudged : Session → ℤ → ℕ → ℕ → Type 0
+TotalJudged s value = Judged lowestTotal value 2560000 (s .present .least) (s .present .most) (s .spent)
+
+module _ (s : Session) (value : ℤ) (sane : Sane s) {v : Coded} {q : Checked} {r : ℕ} where
+  pub day-judged : {day x y : ℕ} → day < s .days → x ≡ at (s .present .floors) day → y ≡ at (s .present .ceilings) day → v ≡ coded lowestPoint highestPoint value
+      → q ≡ checked v x y → r ≡ cond (s .spent) 9 (cond (not (q .within)) 10 0) → DayJudged s day value r (q .code)
+  day-judged {day} {x} {y} known ex ey ev eq er =
+      rw (← ex, ← ey) (judged lowestPoint value 1000 5000 x y point-less (omega (arith, sane .present .ceiling day known)) ev eq (s .spent) er)
+
+  pub total-judged : v ≡ coded lowestTotal highestTotal value → q ≡ checked v (s .present .least) (s .present .most)
+      → r ≡ cond (s .spent) 9 (cond (not (q .within)) 10 0) → TotalJudged s value r (q .code)
+  total-judged ev eq er = judged lowestTotal value 512000 2560000 (s .present .least) (s .present .most) total-less (sane .present .highest) ev eq (s .spent) er
+
+-- ---- write
+
+pub raised-shown : {fs cs rs : List ℕ} {n L U : ℕ} → InBounds fs cs rs n L U → (t : ℕ) {out : List ℕ} → out ≡ written (raisedTo fs cs rs n t) n fs → (l : List ℤ)
+    → written (λ k. decoded lowestPoint (at out k)) n l ≡ written (λ k. decoded lowestPoint (raisedTo fs cs rs n t k)) n l
+raised-shown b t e l = written-same _ _ _ l (λ k h. ap (decoded lowestPoint) (raised-stands b t e k h))
+
+-- ---- write_through
+
+-- floors carried up to the first crossing are at most 5,000: below it they are at most their ceilings
+module _ {fs cs rs : List ℕ} {n L U : ℕ} (b : InBounds fs cs rs n L U) {r : ℕ} (er : r ≡ firstCrossed (carried fs rs) (at cs) n)
+    {gs : List ℕ} (eg : gs ≡ written (carried fs rs) r fs) where
+  carried-small : (k : ℕ) → k < n → at gs k ≤ 5000
+  carried-small k h = rw eg (go (decLt k r))
+    where
+      few : r ≤ n
+      few = omega (arith, crossing (carried fs rs) (at cs) n .most)
+
+      go : Dec (k < r) → at (written (carried fs rs) r fs) k ≤ 5000
+      go (yes l) =
+          omega (
+            arith,
+            written-below (carried fs rs) 0 r fs k l (omega (arith, few, b .floors, b .most)),
+            crossing (carried fs rs) (at cs) n .before k (omega arith),
+            b .ceiling k h,
+          )
+      go (no l) = omega (arith, written-past (carried fs rs) 0 r fs k (omega arith), b .floor k h)
+
+  carried-bounds : (t : ℕ) → t ≤ 2560000 → InBounds gs cs rs n 0 t
+  carried-bounds t = refit b (ap length eg ∙ length-written (carried fs rs) r fs ∙ b .floors) (b .ceilings) carried-small (b .ceiling) (omega arith)
+
+module _ {s : Session} {day level : ℕ} (sane : Sane s) (h : day < s .days) (small : level ≤ 5000) {fs cs : List ℕ}
+    (ef : fs ≡ set (s .present .floors) day level) (ec : cs ≡ set (s .present .ceilings) day level) where
+  set-bounds : InBounds fs cs (s .rises) (s .days) (s .present .least) (s .present .most)
+  set-bounds = rw (ef, ec) (refit-day (sane .present) day level h small)
+
+  pub through-carriable : Carriable cs (s .rises) (s .days)
+  through-carriable = record { most = set-bounds .most; ceiling = set-bounds .ceiling; rise = set-bounds .rise }
+
+  module _ {r : ℕ} (er : r ≡ firstCrossed (carried fs (s .rises)) (at cs) (s .days)) {gs : List ℕ} (eg : gs ≡ written (carried fs (s .rises)) r fs) where
+    pub through-bounds : InBounds gs cs (s .rises) (s .days) 0 (s .present .least)
+    through-bounds = carried-bounds set-bounds er eg (s .present .least) (set-bounds .lowest)
+
+    through-levels : raisedTo gs cs (s .rises) (s .days) (s .present .least) ≡ dayLevels s day (decoded lowestPoint level)
+    unfolding dayLevels
+    through-levels = rw (code-decoded lowestPoint level, eg, er, ef, ec)
+
+    pub through-written : (l : List ℤ) → written (λ k. decoded lowestPoint (raisedTo gs cs (s .rises) (s .days) (s .present .least) k)) (s .days) l
+        ≡ written (λ k. decoded lowestPoint (dayLevels s day (decoded lowestPoint level) k)) (s .days) l
+    through-written l = ap (λ f. written (λ k. decoded lowestPoint (f k)) (s .days) l) through-levels
+
+-- ---- write_day: the number and the list at each return
+
+abbrev DayAnswer : Session → ℕ → ℤ → List ℤ → ℕ → List ℤ → Type 0
+DayAnswer s day value l r l′ = (r ≡ dayRefusal s day value (length l)) × (l′ ≡ dayWritten s day value l)
+
+module _ (s : Session) (day : ℕ) (value : ℤ) (l : List ℤ) where
+  day-left : {r : ℕ} → r ≡ dayRefusal s day value (length l) → (r ≡ 0 → ⊥) → DayAnswer s day value l r l
+  unfolding dayWritten
+  day-left e apart = (e, sym (list-left _ _ (s .days) l (λ z. apart (e ∙ z))))
+
+  pub day-length : (length l ≡ s .days → ⊥) → DayAnswer s day value l 2 l
+  unfolding dayRefusal
+  day-length h = day-left (rw (ne-eqb (length l) (s .days) h)) (λ z. absurd (omega arith))
+
+  module _ (h : length l ≡ s .days) where
+    pub day-unknown : s .days ≤ day → DayAnswer s day value l 7 l
+    unfolding dayRefusal
+    day-unknown u = day-left (rw (eq-eqb (length l) (s .days) h, le-ltb day (s .days) u)) (λ z. absurd (omega arith))
+
+    module _ (known : day < s .days) {r c : ℕ} (j : DayJudged s day value r c) where
+      day-refusal : r ≡ dayRefusal s day value (length l)
+      unfolding dayRefusal
+      day-refusal = rw (eq-eqb (length l) (s .days) h, lt-ltb day (s .days) known) (j .refusal)
+
+      pub day-refused : (r ≡ 0 → ⊥) → DayAnswer s day value l r l
+      day-refused = day-left day-refusal
+
+      pub day-written : r ≡ 0 → {l′ : List ℤ} → l′ ≡ written (λ k. decoded lowestPoint (dayLevels s day (decoded lowestPoint c) k)) (s .days) l → DayAnswer s day value l 0 l′
+      unfolding dayWritten
+      day-written e w = (sym e ∙ day-refusal, w ∙ rw (j .back e) (sym (list-filled _ _ (s .days) l (sym day-refusal ∙ e))))
+
+-- ---- write_total: the same
+
+abbrev TotalAnswer : Session → ℤ → List ℤ → ℕ → List ℤ → Type 0
+TotalAnswer s value l r l′ = (r ≡ totalRefusal s value (length l)) × (l′ ≡ totalWritten s value l)
+
+pub total-bounds : {s : Session} {t : ℕ} → Sane s → t ≤ 2560000 → InBounds (s .present .floors) (s .present .ceilings) (s .rises) (s .days) 0 t
+total-bounds sane = let b = sane .present in refit b (b .floors) (b .ceilings) (b .floor) (b .ceiling) (omega arith)
+
+module _ (s : Session) (value : ℤ) (l : List ℤ) where
+  total-left : {r : ℕ} → r ≡ totalRefusal s value (length l) → (r ≡ 0 → ⊥) → TotalAnswer s value l r l
+  unfolding totalWritten
+  total-left e apart = (e, sym (list-left _ _ (s .days) l (λ z. apart (e ∙ z))))
+
+  pub total-length : (length l ≡ s .days → ⊥) → TotalAnswer s value l 2 l
+  unfolding totalRefusal
+  total-length h = total-left (rw (ne-eqb (length l) (s .days) h)) (λ z. absurd (omega arith))
+
+  module _ (h : length l ≡ s .days) {r c : ℕ} (j : TotalJudged s value r c) where
+    total-refusal : r ≡ totalRefusal s value (length l)
+    unfolding totalRefusal
+    total-refusal = rw (eq-eqb (length l) (s .days) h) (j .refusal)
+
+    pub total-refused : (r ≡ 0 → ⊥) → TotalAnswer s value l r l
+    total-refused = total-left total-refusal
+
+    pub total-written : r ≡ 0 → {l′ : List ℤ}
+        → l′ ≡ written (λ k. decoded lowestPoint (raisedTo (s .present .floors) (s .present .ceilings) (s .rises) (s .days) c k)) (s .days) l → TotalAnswer s value l 0 l′
+    unfolding totalWritten totalLevels
+    total-written e w = (sym e ∙ total-refusal, w ∙ rw (j .held e) (sym (list-filled _ _ (s .days) l (sym total-refusal ∙ e))))

@@ -1,0 +1,143 @@
+-- What holds of a cut: what its checks let pass, what a refusal leaves, and that a session's numbers stay in bounds.
+use mathlib.Core.Path.{_≡_, refl, _∙_}
+use mathlib.Core.Bool.{Bool, true, false, cond}
+use mathlib.Core.List.{List}
+use Prim.Native.Nat.{ℕ, suc, _≤_, _<_, min, max}
+use native.Mathlib.Omega.{arith}
+use lib.IntN.{ℤ}
+use lib.Dec.{eqb, ltb}
+use lib.ListN.{length, length-set}
+use borrow.Author.Tests.{eqb-true, eqb-false, eq-eqb, ne-eqb, ltb-true, ltb-false}
+use Rattle.theory_lists.specs.Sum.{at}
+use Rattle.theory_lists.specs.Written.{by-cell}
+use Rattle.base_codes.specs.Code.{lowestPoint, highestPoint, lowestTotal, highestTotal, within, code}
+use Rattle.base_codes.proofs.Laws.{point-most, total-most}
+use Rattle.theory_method.specs.Levels.{refit}
+use Rattle.theory_method.proofs.Exact.{exact, exact-in-bounds}
+use Rattle.session.specs.Showing.{Fits, Sane}
+use Rattle.session.specs.declared.Ranges.{Ranges}
+use Rattle.session.specs.declared.Session.{Session}
+use Rattle.session_cuts.specs.declared.Cut.{Cut}
+use Rattle.session_cuts.specs.declared.Cut.the-variants.{DayFloor, DayCeiling, TotalFloor, TotalCeiling}
+use Rattle.session_cuts.specs.declared.Told.{Told}
+use Rattle.session_cuts.specs.declared.Told.the-variants.{Known, Unknown}
+use Rattle.session_cuts.specs.Sheet.{dayOf}
+use Rattle.theory_lists.specs.Front.{inFront}
+use Rattle.session_changed.proofs.Days.{days-few}
+use Rattle.session_cutting.specs.Cutting.{dayRefusal, totalRefusal, malformed, earlier, clipped, retightened, tightenedTo, refusing, changedDays, afterCut, afterTold, listAfter}
+use Rattle.session_cutting.specs.declared.AfterCut.{AfterCut}
+
+-- ---- what the checks let pass
+
+placed-within : (placed in-bounds : Bool) (m k : ℕ) → cond placed (cond in-bounds 0 (suc m)) (suc k) ≡ 0 → (placed ≡ true) × (in-bounds ≡ true)
+placed-within true true m k e = (refl, refl)
+placed-within true false m k e = absurd (omega arith)
+placed-within false in-bounds m k e = absurd (omega arith)
+
+pub day-formed : (n day : ℕ) (value : ℤ) → dayRefusal n day value ≡ 0 → (day < n) × (within lowestPoint highestPoint value ≡ true)
+day-formed n day value e = let f = placed-within (ltb day n) (within lowestPoint highestPoint value) 2 6 e in (ltb-true day n (f .0), f .1)
+
+pub total-formed : (day : ℕ) (value : ℤ) → totalRefusal day value ≡ 0 → (day ≡ 0) × (within lowestTotal highestTotal value ≡ true)
+total-formed day value e = let f = placed-within (eqb day 0) (within lowestTotal highestTotal value) 4 11 e in (eqb-true day 0 (f .0), f .1)
+
+-- its day is one of the profile's, or 0
+pub formed-day : (n : ℕ) (c : Cut) → malformed n c ≡ 0 → 0 < n → dayOf c < n
+formed-day n (DayFloor day value) e some = day-formed n day value e .0
+formed-day n (DayCeiling day value) e some = day-formed n day value e .0
+formed-day n (TotalFloor day value) e some = omega (arith, total-formed day value e .0)
+formed-day n (TotalCeiling day value) e some = omega (arith, total-formed day value e .0)
+
+-- no check before 8 refuses where the cut is well-formed, the list long enough and the session not spent
+pub earlier-none : (s : Session) (c : Cut) (room : ℕ) → malformed (s .days) c ≡ 0 → ltb room (s .days) ≡ false → s .spent ≡ false → eqb (earlier s c room) 0 ≡ true
+unfolding earlier
+earlier-none s c room e l a = rw (e, l, a) refl
+
+-- and what is known where none refuses
+pub record Passed (s : Session) (c : Cut) (room : ℕ) : Type 0 where
+  pub formed : malformed (s .days) c ≡ 0
+  pub roomy : ltb room (s .days) ≡ false
+  pub unspent : s .spent ≡ false
+
+pub passed : (s : Session) (c : Cut) (room : ℕ) → eqb (earlier s c room) 0 ≡ true → Passed s c room
+unfolding earlier
+passed s c room = go (eqb (malformed (s .days) c) 0) (ltb room (s .days)) (s .spent) refl refl refl
+  where
+    go : (a b d : Bool) → eqb (malformed (s .days) c) 0 ≡ a → ltb room (s .days) ≡ b → s .spent ≡ d
+        → eqb (cond a (cond b 2 (cond d 9 0)) (malformed (s .days) c)) 0 ≡ true → Passed s c room
+    go true false false p q r e = record { formed = eqb-true (malformed (s .days) c) 0 p; roomy = q; unspent = r }
+    go true true d p q r e = let z : _≡_ {A = ℕ} 2 0 = eqb-true 2 0 e in absurd (omega arith)
+    go true false true p q r e = let z : _≡_ {A = ℕ} 9 0 = eqb-true 9 0 e in absurd (omega arith)
+    go false b d p q r e = absurd (eqb-false (malformed (s .days) c) 0 p (eqb-true (malformed (s .days) c) 0 e))
+
+-- a refusal before 8 leaves the session
+pub refused-same : (s : Session) (c : Cut) (room : ℕ) → eqb (earlier s c room) 0 ≡ false → afterCut s c room ≡ refusing (earlier s c room) s
+unfolding afterCut
+refused-same s c room e = rw e refl
+
+pub accepted : (s : Session) (c : Cut) (room : ℕ) → eqb (earlier s c room) 0 ≡ true → afterCut s c room ≡ tightenedTo s (retightened s (clipped (s .present) c))
+unfolding afterCut
+accepted s c room e = rw e refl
+
+-- the lent list beside a refusal, and of an accepted cut
+pub refused-list : (s : Session) (r : AfterCut) (l : List ℕ) → (r .answer .refusal ≡ 0 → ⊥) → listAfter s r l ≡ l
+unfolding listAfter
+refused-list s r l h = rw (ne-eqb (r .answer .refusal) 0 h) refl
+
+pub accepted-list : (s : Session) (r : AfterCut) (l : List ℕ) → r .answer .refusal ≡ 0 → listAfter s r l ≡ inFront (changedDays (s .days) (s .present) (r .session .present)) l
+unfolding listAfter
+accepted-list s r l z = rw (eq-eqb (r .answer .refusal) 0 z) refl
+
+-- an accepted cut had a list that is long enough, and its count is that of the changed days
+pub record Accepted (s : Session) (room : ℕ) (r : AfterCut) : Type 0 where
+  pub roomy : s .days ≤ room
+  pub counted : r .answer .changed ≡ length (changedDays (s .days) (s .present) (r .session .present))
+  pub few : r .answer .changed ≤ s .days
+
+cut-accepted : (s : Session) (c : Cut) (room : ℕ) → afterCut s c room .answer .refusal ≡ 0 → Accepted s room (afterCut s c room)
+cut-accepted s c room = go (eqb (earlier s c room) 0) (retightened s (clipped (s .present) c) .found) refl refl
+  where
+    go : (early found : Bool) → eqb (earlier s c room) 0 ≡ early → retightened s (clipped (s .present) c) .found ≡ found
+        → afterCut s c room .answer .refusal ≡ 0 → Accepted s room (afterCut s c room)
+    go true true e f z = rw (accepted s c room e, f) (record { roomy = ltb-false room (s .days) (passed s c room e .roomy); counted = refl; few = days-few _ (s .days) })
+    go true false e f z = absurd (omega (arith, rw (accepted s c room e, f) at z))
+    go false found e f z = absurd (eqb-false (earlier s c room) 0 e (rw (refused-same s c room e) at z))
+
+pub told-accepted : (s : Session) (t : Told) (room : ℕ) → afterTold s t room .answer .refusal ≡ 0 → Accepted s room (afterTold s t room)
+unfolding afterTold
+told-accepted s (Known c) room = cut-accepted s c room
+told-accepted s Unknown room = λ z. absurd (omega arith)
+
+-- ---- in bounds
+
+pub clipped-in-bounds : (rs : List ℕ) (n : ℕ) (r : Ranges) (c : Cut) → Fits rs n r → malformed n c ≡ 0 → Fits rs n (clipped r c)
+unfolding clipped
+clipped-in-bounds rs n r (DayFloor day value) b e =
+    let f = day-formed n day value e in
+    let w : ℕ = max (at (r .floors) day) (code lowestPoint value) in
+    refit b (length-set (r .floors) day w ∙ b .floors) (b .ceilings)
+    (λ k h. by-cell (λ _ a. a ≤ 5000) 0 (r .floors) day w (omega (arith, b .floors, b .most)) (omega (arith, b .floor day (f .0), point-most value (f .1))) k (b .floor k h))
+    (b .ceiling) (b .lowest) (b .highest)
+clipped-in-bounds rs n r (DayCeiling day value) b e =
+    let f = day-formed n day value e in
+    let w : ℕ = min (at (r .ceilings) day) (code lowestPoint value) in
+    refit b (b .floors) (length-set (r .ceilings) day w ∙ b .ceilings) (b .floor)
+    (λ k h. by-cell (λ _ a. a ≤ 5000) 0 (r .ceilings) day w (omega (arith, b .ceilings, b .most)) (omega (arith, b .ceiling day (f .0))) k (b .ceiling k h))
+    (b .lowest) (b .highest)
+clipped-in-bounds rs n r (TotalFloor day value) b e =
+    refit b (b .floors) (b .ceilings) (b .floor) (b .ceiling) (omega (arith, b .lowest, total-most value (total-formed day value e .1))) (b .highest)
+clipped-in-bounds rs n r (TotalCeiling day value) b e = refit b (b .floors) (b .ceilings) (b .floor) (b .ceiling) (b .lowest) (omega (arith, b .highest))
+
+pub cut-sane : (s : Session) (c : Cut) (room : ℕ) → Sane s → Sane (afterCut s c room .session)
+cut-sane s c room b = go (eqb (earlier s c room) 0) (retightened s (clipped (s .present) c) .found) refl refl
+  where
+    go : (early found : Bool) → eqb (earlier s c room) 0 ≡ early → retightened s (clipped (s .present) c) .found ≡ found → Sane (afterCut s c room .session)
+    go true true e f =
+        let fits = clipped-in-bounds (s .rises) (s .days) (s .present) c (b .present) (passed s c room e .formed) in
+        rw (accepted s c room e, f) (record { opened = b .opened; present = exact-in-bounds (exact fits f) fits })
+    go true false e f = rw (accepted s c room e, f) (record { opened = b .opened; present = b .opened })
+    go false found e f = rw (refused-same s c room e) b
+
+pub told-sane : (s : Session) (t : Told) (room : ℕ) → Sane s → Sane (afterTold s t room .session)
+unfolding afterTold
+told-sane s (Known c) room b = cut-sane s c room b
+told-sane s Unknown room b = b

@@ -1,0 +1,11 @@
+use Rattle.base_codes.specs.Code.{lowestPoint, highestPoint}
+use Rattle.session_cutting.proofs.Stages.{value-checked}
+use borrow.Author.Needs.{needs}
+use Rattle.session_cutting.proofs.check_day.Statement.{statement}
+use Rattle.session_cutting.proofs.check_day.Tie as tie
+
+returns : tie.Need-returns
+returns c = let s = c .before .before in value-checked lowestPoint highestPoint (s .args .placed) 7 3 (s .fits .value) (c .before .code .ensures) (c .check-value .ensures)
+
+pub check-day-spec : {M : Type 1} → statement M
+check-day-spec = tie.close (tie.spec (λ c. search needs) (λ c. search needs) returns)

@@ -1,0 +1,11 @@
+use Rattle.base_codes.specs.Code.{lowestTotal, highestTotal}
+use Rattle.session_cutting.proofs.Stages.{value-checked}
+use borrow.Author.Needs.{needs}
+use Rattle.session_cutting.proofs.check_total.Statement.{statement}
+use Rattle.session_cutting.proofs.check_total.Tie as tie
+
+returns : tie.Need-returns
+returns c = let s = c .before .before in value-checked lowestTotal highestTotal (s .args .placed) 12 5 (s .fits .value) (c .before .code .ensures) (c .check-value .ensures)
+
+pub check-total-spec : {M : Type 1} → statement M
+check-total-spec = tie.close (tie.spec (λ c. search needs) (λ c. search needs) returns)

@@ -1,0 +1,119 @@
+-- Filtering over levels and rise codes, as document 01 has it: carrying, the total's range, ceilings, and floors as their mirror.
+use Prim.Native.Nat.{ℕ, zero, suc, _+_, _-_, _*_, _≤_, _<_, min, max}
+use mathlib.Core.Path.{_≡_}
+use mathlib.Core.Bool.{Bool, true, false, cond}
+use mathlib.Core.List.{List}
+use lib.Dec.{ltb}
+use lib.ListN.{length, replicate}
+use Rattle.theory_lists.specs.Sum.{sumFor, at, above}
+use Rattle.theory_lists.specs.Written.{written}
+use Rattle.theory_lists.specs.First.{firstWhere}
+use Rattle.theory_chains.specs.Sum.{sum, all}
+use Rattle.theory_chains.specs.Fit.{fit}
+use Rattle.theory_method.specs.Shift.{shift}
+
+-- n days of levels up to 5,000 and rise codes up to 4,000, and totals up to 2,560,000, held plus 512,000
+pub record InBounds (fs cs rs : List ℕ) (n L U : ℕ) : Type 0 where
+  pub some : 0 < n
+  pub most : n ≤ 512
+  pub floors : length fs ≡ 512
+  pub ceilings : length cs ≡ 512
+  pub rises : length rs ≡ 512
+  pub floor : (k : ℕ) → k < n → at fs k ≤ 5000
+  pub ceiling : (k : ℕ) → k < n → at cs k ≤ 5000
+  pub rise : (k : ℕ) → k < n → at rs k ≤ 4000
+  pub lowest : L ≤ 2560000
+  pub highest : U ≤ 2560000
+
+-- ---- carrying
+
+-- the floor of day k, carried forward: at least the one before plus the rise between them
+unfoldable pub carried : List ℕ → List ℕ → ℕ → ℕ
+carried fs rs zero = at fs 0
+carried fs rs (suc k) = max (at fs (suc k)) (carried fs rs k + at rs k - 2000)
+
+-- the first of n days at which a is above b, or n
+abbrev pub firstCrossed : (ℕ → ℕ) → (ℕ → ℕ) → ℕ → ℕ
+firstCrossed a b = firstWhere (λ k. ltb (b k) (a k))
+
+-- ---- ceilings
+
+-- the level of day k in a list, shifted
+abbrev pub shifted : List ℕ → List ℕ → ℕ → ℕ → ℕ
+shifted l rs n k = at l k + shift (at rs) n k
+
+-- the overload of day i at a shifted level v: by how much v is above the floors from day i on
+abbrev pub overload : List ℕ → List ℕ → ℕ → ℕ → ℕ → ℕ
+overload fs rs n i v = sumFor (above (shifted fs rs n) v) i (n - i)
+
+-- the ceiling of the m-th day from the end, shifted: the greatest level up to its own and the next day's lowered ceiling whose overload
+-- is within the margin
+unfoldable pub loweredFrom : List ℕ → List ℕ → List ℕ → ℕ → ℕ → ℕ → ℕ
+loweredFrom fs cs rs n margin zero = shifted cs rs n (n - 1)
+loweredFrom fs cs rs n margin (suc m) =
+    fit (overload fs rs n (n - suc m)) margin (shifted fs rs n (n - suc m)) (min (loweredFrom fs cs rs n margin m) (shifted cs rs n (n - suc m)))
+
+-- the lowered ceiling of day k, as shown
+abbrev pub lowered : List ℕ → List ℕ → List ℕ → ℕ → ℕ → ℕ → ℕ
+lowered fs cs rs n margin k = loweredFrom fs cs rs n margin (n - k) - shift (at rs) n k
+
+-- ---- floors, as the mirror: days from the other end, levels from the other end of the scale
+
+abbrev pub mirrored : List ℕ → ℕ → ℕ → ℕ
+mirrored l n k = 5000 - at l (n - (k + 1))
+
+-- the rise from day k to the next, of the days from the other end
+abbrev pub reversed : List ℕ → ℕ → ℕ → ℕ
+reversed rs n k = at rs (n - (k + 2))
+
+abbrev pub zeros : List ℕ
+zeros = replicate 512 0
+
+unfoldable pub raised : List ℕ → List ℕ → List ℕ → ℕ → ℕ → List ℕ
+raised fs cs rs n margin =
+    let low : List ℕ = written (mirrored cs n) n zeros in
+    let high : List ℕ = written (mirrored fs n) n zeros in
+    let back : List ℕ = written (reversed rs n) (n - 1) zeros in
+    written (mirrored (written (lowered low high back n margin) n high) n) n fs
+
+-- ---- all of it
+
+-- a held total is the sum of the levels plus 1,000 for each day that the profile has less than 512
+abbrev pub held : ℕ → (ℕ → ℕ) → ℕ
+held n x = sum all n x + 1000 * (512 - n)
+
+-- what tightening gives: whether there is a schedule, the ranges of the days, and the total's
+pub record Tight : Type 0 where
+  pub found : Bool
+  pub floors : List ℕ
+  pub ceilings : List ℕ
+  pub least : ℕ
+  pub most : ℕ
+
+abbrev pub none : List ℕ → List ℕ → Tight
+none fs cs = record { found = false; floors = fs; ceilings = cs; least = 0; most = 0 }
+
+-- the floors carried up to day r, where carrying stops
+abbrev pub forwarded : List ℕ → List ℕ → ℕ → List ℕ
+forwarded fs rs r = written (carried fs rs) r fs
+
+abbrev pub loweredAll : List ℕ → List ℕ → List ℕ → ℕ → ℕ → List ℕ
+loweredAll fs cs rs n margin = written (lowered fs cs rs n margin) n cs
+
+-- with the ceilings lowered: the total's range, and the floors
+unfoldable pub tightFloors : List ℕ → List ℕ → List ℕ → ℕ → ℕ → ℕ → Tight
+tightFloors fs cs rs n L U =
+    let lowest : ℕ = max L (held n (at fs)) in
+    let highest : ℕ = min U (held n (at cs)) in
+    cond (ltb highest lowest) (none fs cs)
+    (record { found = true; floors = raised fs cs rs n (held n (at cs) - lowest); ceilings = cs; least = lowest; most = highest })
+
+-- with the floors carried: the ceilings, and onward
+unfoldable pub tightCeilings : List ℕ → List ℕ → List ℕ → ℕ → ℕ → ℕ → Tight
+tightCeilings fs cs rs n L U =
+    cond (ltb U (held n (at fs))) (none fs cs) (tightFloors fs (loweredAll fs cs rs n (U - held n (at fs))) rs n L U)
+
+unfoldable pub tightened : List ℕ → List ℕ → List ℕ → ℕ → ℕ → ℕ → Tight
+tightened fs cs rs n L U =
+    let r : ℕ = firstCrossed (carried fs rs) (at cs) n in
+    cond (ltb r n) (none (forwarded fs rs r) cs) (tightCeilings (forwarded fs rs n) cs rs n L U)

@@ -1,0 +1,128 @@
+-- Days' levels that keep to floors, ceilings, rises and a total; shifted, they are a schedule of `chains` in which every least rise is 0.
+use Prim.Native.Nat.{ℕ, zero, suc, _+_, _-_, _*_, _≤_, _<_}
+use mathlib.Core.Path.{_≡_, _∙_}
+use mathlib.Core.List.{List}
+use native.Mathlib.Numerals.{add-one}
+use native.Mathlib.Omega.{arith}
+use lib.ListN.{length, set, length-set}
+use Rattle.theory_lists.specs.Sum.{at}
+use Rattle.theory_lists.specs.Written.{by-cell}
+use Rattle.theory_chains.specs.Sum.{sum, all, sum-eq}
+use Rattle.theory_chains.specs.Chain.{Below}
+use Rattle.theory_chains.specs.Mirror.{sum-add}
+use Rattle.theory_chains.specs.Exact.{Sched}
+use Rattle.theory_chains.specs.Rounds.{free}
+use Rattle.theory_chains.specs.Spans.{Spans, spans-moved}
+use Rattle.theory_method.specs.Shift.{shift, shift-low}
+use Rattle.theory_method.specs.Filter.{InBounds, shifted, held}
+use Rattle.theory_method.specs.Stages.{Ready, shifted-rise, shift-most}
+
+-- n days' levels x within the bounds: what `tightened` is about
+pub record Levels (fs cs rs : List ℕ) (n L U : ℕ) (x : ℕ → ℕ) : Type 0 where
+  pub floor : (k : ℕ) → k < n → at fs k ≤ x k
+  pub ceiling : (k : ℕ) → k < n → x k ≤ at cs k
+  pub rise : (k : ℕ) → k + 1 < n → x k + at rs k ≤ x (k + 1) + 2000
+  pub least : L ≤ held n x
+  pub most : held n x ≤ U
+
+-- other ranges in bounds, the same rises
+pub refit : {fs gs cs ds rs : List ℕ} {n L L′ U U′ : ℕ} → InBounds fs cs rs n L U → length gs ≡ 512 → length ds ≡ 512 → ((k : ℕ) → k < n → at gs k ≤ 5000)
+    → ((k : ℕ) → k < n → at ds k ≤ 5000) → L′ ≤ 2560000 → U′ ≤ 2560000 → InBounds gs ds rs n L′ U′
+refit b floors ceilings floor ceiling lowest highest = record {
+  some = b .some;
+  most = b .most;
+  floors = floors;
+  ceilings = ceilings;
+  rises = b .rises;
+  floor = floor;
+  ceiling = ceiling;
+  rise = b .rise;
+  lowest = lowest;
+  highest = highest;
+}
+
+-- the range of one day set to one level
+pub refit-day : {fs cs rs : List ℕ} {n L U : ℕ} → InBounds fs cs rs n L U → (d v : ℕ) → d < n → v ≤ 5000 → InBounds (set fs d v) (set cs d v) rs n L U
+refit-day {fs} {cs} b d v h small =
+    refit b (length-set fs d v ∙ b .floors) (length-set cs d v ∙ b .ceilings)
+    (λ k l. by-cell (λ _ a. a ≤ 5000) 0 fs d v (omega (arith, b .floors, b .most)) small k (b .floor k l))
+    (λ k l. by-cell (λ _ a. a ≤ 5000) 0 cs d v (omega (arith, b .ceilings, b .most)) small k (b .ceiling k l)) (b .lowest) (b .highest)
+
+-- levels within other bounds, the same rises
+pub rebound : {fs gs cs ds rs : List ℕ} {n L L′ U U′ : ℕ} {x : ℕ → ℕ} → Levels fs cs rs n L U x → ((k : ℕ) → k < n → at gs k ≤ x k) → ((k : ℕ) → k < n → x k ≤ at ds k)
+    → L′ ≤ held n x → held n x ≤ U′ → Levels gs ds rs n L′ U′ x
+rebound l floor ceiling least most = record { floor = floor; ceiling = ceiling; rise = l .rise; least = least; most = most }
+
+-- a held total as the total of the shifted levels
+abbrev pub shiftedTotal : List ℕ → ℕ → ℕ → ℕ
+shiftedTotal rs n t = t + sum all n (shift (at rs) n) - 1000 * (512 - n)
+
+sum-last : (n : ℕ) (y : ℕ → ℕ) → 0 < n → y (n - 1) ≤ sum all n y
+sum-last zero y h = absurd (omega arith)
+sum-last (suc m) y h = let e : suc m - 1 ≡ m = omega arith in rw e (omega arith)
+
+module _ {fs cs rs : List ℕ} {n : ℕ} (r : Ready fs cs rs n) where
+  abbrev sh : ℕ → ℕ
+  sh = shift (at rs) n
+
+  -- the shifts are more than what is held for the days that the profile has less
+  pub shifts-low : 1000 * (512 - n) ≤ sum all n (shift (at rs) n)
+  shifts-low = omega (arith, r .some, sum-last n sh (r .some), shift-low (at rs) n (r .most) (r .rise) (n - (n - 1)) (omega arith))
+
+  pub shifted-sum : (x : ℕ → ℕ) → sum all n (λ k. x k + shift (at rs) n k) ≡ sum all n x + sum all n (shift (at rs) n)
+  shifted-sum x = sum-add all n x sh
+
+  unshifted-sum : (y : ℕ → ℕ) → Below n (shift (at rs) n) y → sum all n (λ k. y k - shift (at rs) n k) + sum all n (shift (at rs) n) ≡ sum all n y
+  unshifted-sum y h =
+      let e : sum all n (λ k. (y k - sh k) + sh k) ≡ sum all n y = sum-eq all n (λ k. (y k - sh k) + sh k) y (λ k l. omega (arith, h k l)) in
+      omega (arith, sum-add all n (λ k. y k - sh k) sh)
+
+  module _ (L U : ℕ) where
+    abbrev S : (ℕ → ℕ) → Type 0
+    S = Sched all n free (shifted fs rs n) (shifted cs rs n) (shiftedTotal rs n L) (shiftedTotal rs n U)
+
+    pub shifted-sched : (x : ℕ → ℕ) → Levels fs cs rs n L U x
+        → Sched all n free (shifted fs rs n) (shifted cs rs n) (shiftedTotal rs n L) (shiftedTotal rs n U) (λ k. x k + shift (at rs) n k)
+    shifted-sched x l =
+        record {
+          chain = record {
+            up = λ k h. rw (← add-one k) (shifted-rise r (x k) (x (k + 1)) k (omega arith) .0 (l .rise k (omega arith)));
+            near = λ k h. omega (arith, l .ceiling (suc k) h, r .ceiling (suc k) h, shift-most r (suc k));
+          };
+          above = λ k h. omega (arith, l .floor k h);
+          below = λ k h. omega (arith, l .ceiling k h);
+          least = omega (arith, shifted-sum x, shifts-low, l .least);
+          most = omega (arith, shifted-sum x, shifts-low, l .most);
+        }
+
+    over : (y : ℕ → ℕ) → S y → Below n sh y
+    over y s k h = omega (arith, s .above k h)
+
+    unshifted : (y : ℕ → ℕ) → S y → Levels fs cs rs n L U (λ k. y k - shift (at rs) n k)
+    unshifted y s =
+        record {
+          floor = λ k h. omega (arith, s .above k h);
+          ceiling = λ k h. omega (arith, s .below k h);
+          rise = λ k h. shifted-rise r (y k - sh k) (y (k + 1) - sh (k + 1)) k h .1 (rise k h);
+          least = omega (arith, unshifted-sum y (over y s), shifts-low, s .least);
+          most = omega (arith, unshifted-sum y (over y s), shifts-low, s .most);
+        }
+      where
+        rise : (k : ℕ) → k + 1 < n → (y k - sh k) + sh k ≤ (y (k + 1) - sh (k + 1)) + sh (k + 1)
+        rise k h = omega (arith, over y s k (omega arith), over y s (k + 1) h, rw (← add-one k) at (s .chain .up k (omega arith)))
+
+    -- the ranges of the shifted schedules, moved back
+    pub day-spans : (k : ℕ) → k < n → {lo hi : ℕ} (floor ceiling : ℕ)
+        → Spans (Sched all n free (shifted fs rs n) (shifted cs rs n) (shiftedTotal rs n L) (shiftedTotal rs n U)) (λ y. y k) lo hi
+        → floor + shift (at rs) n k ≡ lo → ceiling + shift (at rs) n k ≡ hi → Spans (Levels fs cs rs n L U) (λ x. x k) floor ceiling
+    day-spans k h floor ceiling s low high =
+        spans-moved (sh k) 0 s (λ x l. ((λ j. x j + sh j), shifted-sched x l, omega arith)) (λ y l. ((λ j. y j - sh j), unshifted y l, omega (arith, over y l k h)))
+        (omega arith) (omega arith)
+
+    pub total-spans : {lo hi : ℕ} (least most : ℕ)
+        → Spans (Sched all n free (shifted fs rs n) (shifted cs rs n) (shiftedTotal rs n L) (shiftedTotal rs n U)) (sum all n) lo hi
+        → least + sum all n (shift (at rs) n) ≡ lo + 1000 * (512 - n) → most + sum all n (shift (at rs) n) ≡ hi + 1000 * (512 - n)
+        → Spans (Levels fs cs rs n L U) (held n) least most
+    total-spans least most s =
+        spans-moved (sum all n sh) (1000 * (512 - n)) s (λ x l. ((λ j. x j + sh j), shifted-sched x l, omega (arith, shifted-sum x)))
+        (λ y l. ((λ j. y j - sh j), unshifted y l, omega (arith, unshifted-sum y (over y l))))

@@ -1,0 +1,73 @@
+-- What the ceilings' pass takes, and what its functions hand on. a are the shifted floors of n days, z their shifts.
+use Prim.Native.Nat.{ℕ, _+_, _-_, _≤_, _<_, min}
+use mathlib.Core.Path.{_≡_}
+use mathlib.Core.List.{List}
+use Rattle.theory_lists.specs.Sum.{sumFor, at}
+use Rattle.theory_chains.specs.Fit.{Fitted}
+use Rattle.theory_method.specs.Shift.{shift}
+use Rattle.theory_method.specs.Filter.{shifted}
+use Rattle.tighten_ceilings.specs.Round.{over, window, rounded}
+
+-- n days of floors, carried forward
+pub record Carried (fs rs : List ℕ) (n : ℕ) : Type 0 where
+  pub most : n ≤ 512
+  pub floor : (k : ℕ) → k < n → at fs k ≤ 5000
+  pub rise : (k : ℕ) → k < n → at rs k ≤ 4000
+  pub climb : (k : ℕ) → k + 1 < n → at fs k + at rs k ≤ at fs (k + 1) + 2000
+
+-- c days from day i on, their sum s, and the shift e of the last
+pub record Run (a z : ℕ → ℕ) (n i c s e : ℕ) : Type 0 where
+  pub some : 0 < c
+  pub inside : i + c ≤ n
+  pub total : s ≡ sumFor a i c
+  pub last : e ≡ z (i + c - 1)
+
+-- c days from day i on such that each past them is at v or above
+pub record Days (a z : ℕ → ℕ) (n i v c s e : ℕ) : Type 0 where
+  pub run : Run a z n i c s e
+  pub past : (k : ℕ) → i + c ≤ k → k < n → v ≤ a k
+
+-- the days from day i to the last that is below v
+pub record Found (a z : ℕ → ℕ) (n i v c s e : ℕ) : Type 0 where
+  pub run : Run a z n i c s e
+  pub count : c ≡ window a n i v
+
+-- what a round leaves of v: the level u and its days
+pub record Rounded (a z : ℕ → ℕ) (n i margin v u c s e : ℕ) : Type 0 where
+  pub level : u ≡ rounded a n i margin v
+  pub found : Found a z n i u c s e
+
+-- what the rounds leave: the greatest level up to cap within the margin, and its days
+pub record Lowest (a z : ℕ → ℕ) (n i margin cap u c s e : ℕ) : Type 0 where
+  pub level : Fitted (over a n i) margin (a i) cap u
+  pub found : Found a z n i u c s e
+
+-- the same of n days of floors as shown and rise codes
+abbrev pub DaysIn : List ℕ → List ℕ → ℕ → ℕ → ℕ → ℕ → ℕ → ℕ → Type 0
+DaysIn fs rs n = Days (shifted fs rs n) (shift (at rs) n) n
+
+abbrev pub FoundIn : List ℕ → List ℕ → ℕ → ℕ → ℕ → ℕ → ℕ → ℕ → Type 0
+FoundIn fs rs n = Found (shifted fs rs n) (shift (at rs) n) n
+
+abbrev pub RoundedIn : List ℕ → List ℕ → ℕ → ℕ → ℕ → ℕ → ℕ → ℕ → ℕ → ℕ → Type 0
+RoundedIn fs rs n = Rounded (shifted fs rs n) (shift (at rs) n) n
+
+abbrev pub LowestIn : List ℕ → List ℕ → ℕ → ℕ → ℕ → ℕ → ℕ → ℕ → ℕ → ℕ → Type 0
+LowestIn fs rs n = Lowest (shifted fs rs n) (shift (at rs) n) n
+
+-- a level v of day i that is over the margin, and its days
+pub record Overloaded (fs rs : List ℕ) (n i margin v c s e : ℕ) : Type 0 where
+  pub carried : Carried fs rs n
+  pub found : FoundIn fs rs n i v c s e
+  pub low : v ≤ 16777216
+  pub more : margin < over (shifted fs rs n) n i v
+
+-- what is handed on to day i, whose shift is `here`, with the next day at v: the window of the next day and day i itself
+pub record Entering (fs rs : List ℕ) (n i ceiling here v c s e : ℕ) : Type 0 where
+  pub inside : i < n
+  pub days : DaysIn fs rs n i (min v (ceiling + here)) (c + 1) (s + (at fs i + here)) e
+  pub low : min v (ceiling + here) ≤ 16777216
+  pub base : shifted fs rs n i ≤ min v (ceiling + here)
+  pub shift-most : here ≤ 2048000
+  pub level : ceiling < 65536
+  pub small : s ≤ 8589934592

@@ -1,0 +1,195 @@
+// Document 01's pass over the ceilings, on levels as shown. A shifted level is a level plus its day's shift.
+ghost use mathlib.Core.Path.{_≡_};
+ghost use Prim.Native.Nat.{_+_, _-_, _*_, _≤_, _<_, min};
+ghost use Rattle.theory_lists.specs.Written.{written};
+ghost use Rattle.theory_method.specs.Filter.{shifted, lowered};
+ghost use Rattle.tighten_ceilings.specs.Round.{step};
+ghost use Rattle.theory_method.specs.Stages.{Ready};
+ghost use Rattle.tighten_ceilings.specs.Pass.{Carried, DaysIn, FoundIn, RoundedIn, LowestIn, Overloaded, Entering};
+use base_numbers::least;
+use base_numbers::narrow;
+use base_numbers::wide;
+
+// A shifted level v of a day, and its window: the days from that day on to the last whose shifted floor is below v. They are
+// count days, sum is that of their shifted floors, and end is the shift of the last.
+struct Level {
+    v: usize,
+    count: usize,
+    sum: usize,
+    end: usize,
+}
+
+// The shift of a day, from that of the next day and the rise code between them.
+fn shift_before(next: usize, rise: usize) -> usize
+    requires { ⌜ (next ≤ 2048000) × (rise < 65536) × (2000 ≤ next + rise) ⌝ }
+    ensures { λ r. ⌜ r ≡ next + rise - 2000 ⌝ }
+{
+    next + rise - 2000
+}
+
+// By how much v is above the floors of its window: v counts once for each day.
+fn overload_of(day: Level) -> usize
+    requires { ⌜ (day .count ≤ 512) × (day .v ≤ 16777216) × (day .sum ≤ day .count * day .v) ⌝ }
+    ensures { λ r. ⌜ r + day .sum ≡ day .count * day .v ⌝ }
+{
+    day.count * day.v - day.sum
+}
+
+// How far a round lowers a level.
+fn step_of(excess: usize, count: usize, room: usize) -> usize
+    requires { ⌜ (0 < count) × (count ≤ 512) × (excess ≤ 8589934592) ⌝ }
+    ensures { λ r. ⌜ r ≡ step excess count room ⌝ }
+{
+    least((excess + count - 1) / count, room)
+}
+
+// The level v with its window, from a window that may be too long: days whose shifted floor is not below v are dropped from the
+// end, but for day i.
+fn settle(
+    floors: &[u16; 512],
+    rises: &[u16; 512],
+    n: usize,
+    i: usize,
+    v: usize,
+    count: usize,
+    sum: usize,
+    end: usize,
+) -> Level
+    requires { ⌜ Carried (now floors) (now rises) n ⌝ }
+    requires { ⌜ DaysIn (now floors) (now rises) n i v count sum end ⌝ }
+    ensures { λ r. ⌜ (r .v ≡ v) × FoundIn (now (floors .entry)) (now (rises .entry)) n i v (r .count) (r .sum) (r .end) ⌝ }
+{
+    let mut c = count;
+    let mut s = sum;
+    let mut e = end;
+    while 1 < c {
+        let top = wide(floors[i + c - 1]) + e;
+        if top < v {
+            return Level {
+                v,
+                count: c,
+                sum: s,
+                end: e,
+            };
+        }
+        s -= top;
+        c -= 1;
+        e = shift_before(e, wide(rises[i + c - 1]));
+    }
+    Level {
+        v,
+        count: c,
+        sum: s,
+        end: e,
+    }
+}
+
+// One round for day i: the level falls by the step, and its window is found again.
+fn round(
+    floors: &[u16; 512],
+    rises: &[u16; 512],
+    n: usize,
+    i: usize,
+    margin: usize,
+    day: Level,
+) -> Level
+    requires { ⌜ Overloaded (now floors) (now rises) n i margin (day .v) (day .count) (day .sum) (day .end) ⌝ }
+    ensures { λ r. ⌜ RoundedIn (now (floors .entry)) (now (rises .entry)) n i margin (day .v) (r .v) (r .count) (r .sum) (r .end) ⌝ }
+{
+    let excess = overload_of(day) - margin;
+    let count = day.count;
+    let room = day.v - (wide(floors[i + count - 1]) + day.end);
+    let low = day.v - step_of(excess, count, room);
+    settle(floors, rises, n, i, low, count, day.sum, day.end)
+}
+
+// Lowers day i's shifted ceiling by rounds, from cap, until its overload is within the margin.
+fn lower(
+    floors: &[u16; 512],
+    rises: &[u16; 512],
+    n: usize,
+    i: usize,
+    margin: usize,
+    cap: usize,
+    count: usize,
+    sum: usize,
+    end: usize,
+) -> Level
+    requires { ⌜ Carried (now floors) (now rises) n ⌝ }
+    requires { ⌜ DaysIn (now floors) (now rises) n i cap count sum end ⌝ }
+    requires { ⌜ (cap ≤ 16777216) × (shifted (now floors) (now rises) n i ≤ cap) ⌝ }
+    ensures { λ r. ⌜ LowestIn (now (floors .entry)) (now (rises .entry)) n i margin cap (r .v) (r .count) (r .sum) (r .end) ⌝ }
+{
+    let mut day = settle(floors, rises, n, i, cap, count, sum, end);
+    while margin < overload_of(day) {
+        day = round(floors, rises, n, i, margin, day);
+    }
+    day
+}
+
+// Lowers the ceiling of day i, whose shift is here, after that of the next day.
+fn lower_day(
+    floors: &[u16; 512],
+    rises: &[u16; 512],
+    n: usize,
+    i: usize,
+    margin: usize,
+    ceiling: usize,
+    here: usize,
+    next: Level,
+) -> Level
+    requires { ⌜ Carried (now floors) (now rises) n ⌝ }
+    requires { ⌜ Entering (now floors) (now rises) n i ceiling here (next .v) (next .count) (next .sum) (next .end) ⌝ }
+    ensures { λ r. ⌜ LowestIn (now (floors .entry)) (now (rises .entry)) n i margin (min (next .v) (ceiling + here)) (r .v) (r .count) (r .sum) (r .end) ⌝ }
+{
+    let cap = least(next.v, ceiling + here);
+    let floor = wide(floors[i]) + here;
+    lower(
+        floors,
+        rises,
+        n,
+        i,
+        margin,
+        cap,
+        next.count + 1,
+        next.sum + floor,
+        next.end,
+    )
+}
+
+// The level as shown.
+fn shown(day: Level, here: usize) -> u16
+    requires { ⌜ (here ≤ day .v) × (day .v - here ≤ 5000) ⌝ }
+    ensures { λ r. ⌜ r ≡ day .v - here ⌝ }
+{
+    narrow(day.v - here)
+}
+
+// Lowers the ceilings of n days, from the last to the first. `here` is the shift of day i.
+pub fn lower_ceilings(
+    floors: &[u16; 512],
+    ceilings: &mut [u16; 512],
+    rises: &[u16; 512],
+    n: usize,
+    margin: usize,
+)
+    requires { ⌜ Ready (now floors) (now ceilings) (now rises) n ⌝ }
+    ensures { λ _. ⌜ now (ceilings .exit) ≡ written (lowered (now (floors .entry)) (now (ceilings .entry)) (now (rises .entry)) n margin) n (now (ceilings .entry)) ⌝ }
+{
+    let mut here = 1024000;
+    let end = shift_before(here, wide(rises[n - 1]));
+    let v = wide(ceilings[n - 1]) + end;
+    let mut day = Level {
+        v,
+        count: 0,
+        sum: 0,
+        end,
+    };
+    let mut i = n;
+    while 0 < i {
+        i -= 1;
+        here = shift_before(here, wide(rises[i]));
+        day = lower_day(floors, rises, n, i, margin, wide(ceilings[i]), here, day);
+        ceilings[i] = shown(day, here);
+    }
+}

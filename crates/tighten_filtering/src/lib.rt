@@ -1,0 +1,86 @@
+// Document 01's filtering, on levels as shown.
+ghost use mathlib.Core.Path.{_≡_};
+ghost use mathlib.Core.Bool.{false};
+ghost use Rattle.theory_method.specs.Filter.{InBounds, raised, tightened};
+ghost use Rattle.tighten_filtering.specs.Raisable.{Raisable};
+use base_arrays::held_total;
+use base_arrays::mirror;
+use base_arrays::reverse;
+use base_numbers::greatest;
+use base_numbers::least;
+use tighten_carry::carry;
+use tighten_ceilings::lower_ceilings;
+
+// Whether there is a schedule, and the total's range.
+pub struct Totals {
+    pub found: bool,
+    pub least: usize,
+    pub most: usize,
+}
+
+// Raises the floors as the mirror of lowering the ceilings.
+fn raise_floors(
+    floors: &mut [u16; 512],
+    ceilings: &[u16; 512],
+    rises: &[u16; 512],
+    n: usize,
+    margin: usize,
+)
+    requires { ⌜ Raisable (now floors) (now ceilings) (now rises) n ⌝ }
+    ensures { λ _. ⌜ now (floors .exit) ≡ raised (now (floors .entry)) (now (ceilings .entry)) (now (rises .entry)) n margin ⌝ }
+{
+    let mut low = [0u16; 512];
+    let mut high = [0u16; 512];
+    let mut back = [0u16; 512];
+    mirror(ceilings, n, &mut low);
+    mirror(floors, n, &mut high);
+    reverse(rises, n, &mut back);
+    lower_ceilings(&low, &mut high, &back, n, margin);
+    mirror(&high, n, floors);
+}
+
+// There is no schedule.
+fn none() -> Totals
+    ensures { λ r. ⌜ r ≡ record { found = false; least = 0; most = 0 } ⌝ }
+{
+    Totals {
+        found: false,
+        least: 0,
+        most: 0,
+    }
+}
+
+// Tightens the ranges of n days and of the total, whose bounds are lowest and highest as held. Where there is no schedule the
+// arrays are left carried or lowered, as far as `tightened` says.
+pub fn tighten(
+    floors: &mut [u16; 512],
+    ceilings: &mut [u16; 512],
+    rises: &[u16; 512],
+    n: usize,
+    lowest: usize,
+    highest: usize,
+) -> Totals
+    requires { ⌜ InBounds (now floors) (now ceilings) (now rises) n lowest highest ⌝ }
+    ensures { λ r. ⌜ record { found = r .found; floors = now (floors .exit); ceilings = now (ceilings .exit); least = r .least; most = r .most } ≡ tightened (now (floors .entry)) (now (ceilings .entry)) (now (rises .entry)) n lowest highest ⌝ }
+{
+    if carry(floors, ceilings, rises, n) < n {
+        return none();
+    }
+    let bottom = held_total(floors, n);
+    if highest < bottom {
+        return none();
+    }
+    lower_ceilings(floors, ceilings, rises, n, highest - bottom);
+    let top = held_total(ceilings, n);
+    let low = greatest(lowest, bottom);
+    let high = least(highest, top);
+    if high < low {
+        return none();
+    }
+    raise_floors(floors, ceilings, rises, n, top - low);
+    Totals {
+        found: true,
+        least: low,
+        most: high,
+    }
+}
