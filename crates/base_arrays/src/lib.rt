@@ -1,16 +1,20 @@
 // Loops over arrays of levels and rise codes, of which the first n elements are the days.
 ghost use mathlib.Core.Path.{_≡_};
 ghost use Prim.Native.Nat.{ℕ, _-_, _*_, _≤_, _<_};
+ghost use Rattle.limits.specs.Limits.{mostDays, highestLevel};
 ghost use Rattle.theory_lists.specs.Sum.{at};
 ghost use Rattle.theory_lists.specs.Written.{written};
 ghost use Rattle.theory_chains.specs.Sum.{sum, all};
 ghost use Rattle.theory_method.specs.Filter.{mirrored, reversed, held};
 use base_numbers::narrow;
 use base_numbers::wide;
+use limits::HIGHEST_LEVEL;
+use limits::LEVEL_OFFSET;
+use limits::MOST_DAYS;
 
 // The sum of the first n levels.
-pub fn sum(levels: &[u16; 512], n: usize) -> usize
-    requires { ⌜ n ≤ 512 ⌝ }
+pub fn sum(levels: &[u16; MOST_DAYS], n: usize) -> usize
+    requires { ⌜ n ≤ mostDays ⌝ }
     ensures { λ r. ⌜ (r ≡ sum all n (at (now (levels .entry)))) × (r ≤ n * 65535) ⌝ }
 {
     let mut total = 0;
@@ -23,28 +27,28 @@ pub fn sum(levels: &[u16; 512], n: usize) -> usize
 }
 
 // The sum of n days' levels as a total is held.
-pub fn held_total(levels: &[u16; 512], n: usize) -> usize
-    requires { ⌜ n ≤ 512 ⌝ }
+pub fn held_total(levels: &[u16; MOST_DAYS], n: usize) -> usize
+    requires { ⌜ n ≤ mostDays ⌝ }
     ensures { λ r. ⌜ (r ≡ held n (at (now (levels .entry)))) × (r ≤ 34066432) ⌝ }
 {
-    sum(levels, n) + 1000 * (512 - n)
+    sum(levels, n) + LEVEL_OFFSET * (MOST_DAYS - n)
 }
 
 // The levels of n days, from the other end of the days and of the scale.
-pub fn mirror(from: &[u16; 512], n: usize, into: &mut [u16; 512])
-    requires { ⌜ (n ≤ 512) × ((k : ℕ) → k < n → at (now from) k ≤ 5000) ⌝ }
+pub fn mirror(from: &[u16; MOST_DAYS], n: usize, into: &mut [u16; MOST_DAYS])
+    requires { ⌜ (n ≤ mostDays) × ((k : ℕ) → k < n → at (now from) k ≤ highestLevel) ⌝ }
     ensures { λ r. ⌜ now (into .exit) ≡ written (mirrored (now (from .entry)) n) n (now (into .entry)) ⌝ }
 {
     let mut k = 0;
     while k < n {
-        into[k] = narrow(5000 - wide(from[n - (k + 1)]));
+        into[k] = narrow(HIGHEST_LEVEL - wide(from[n - (k + 1)]));
         k += 1;
     }
 }
 
 // The rises between n days, from the other end.
-pub fn reverse(rises: &[u16; 512], n: usize, into: &mut [u16; 512])
-    requires { ⌜ n ≤ 512 ⌝ }
+pub fn reverse(rises: &[u16; MOST_DAYS], n: usize, into: &mut [u16; MOST_DAYS])
+    requires { ⌜ n ≤ mostDays ⌝ }
     ensures { λ r. ⌜ now (into .exit) ≡ written (reversed (now (rises .entry)) n) (n - 1) (now (into .entry)) ⌝ }
 {
     let mut k = 0;

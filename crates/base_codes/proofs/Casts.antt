@@ -12,10 +12,11 @@ use borrow.Author.Tests.{le-leb}
 use mir.Syntax.{Width, w16, w32, w64}
 use mir.Val.{Fits, SFits, toZ, ofZ, hbits}
 use mir.Facts.{toZ-ofZ, toZ-pos, sfits-widen, not-T}
+use Rattle.limits.specs.Limits.{lowestSetpoint, highestSetpoint}
 use Rattle.base_codes.specs.declared.Coded.{Coded}
 use Rattle.base_codes.specs.declared.Coded.the-variants.{Code, Outside}
 use Rattle.base_codes.proofs.Offset.{Less}
-use Rattle.base_codes.specs.Code.{lowestSetpoint, highestSetpoint, within, code, decoded, coded}
+use Rattle.base_codes.specs.Code.{within, code, decoded, coded}
 use Rattle.base_codes.proofs.Laws.{code-difference, code-most, decoded-less, within-yes}
 
 -- a number of 32 bits, read back from its bits

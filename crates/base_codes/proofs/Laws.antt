@@ -11,11 +11,12 @@ use lib.ListN.{length}
 use lib.Signed.{_≤ℤ_, leZ, leZ-yes}
 use denote.Floats.{passes, is-true}
 use borrow.Author.Tests.{not-true, not-false}
+use Rattle.limits.specs.Limits.{lowestPoint, highestPoint, lowestRise, highestRise, lowestTotal, highestTotal, lowestSetpoint}
 use Rattle.theory_lists.specs.First.{first}
 use Rattle.base_codes.specs.declared.Coded.{Coded}
 use Rattle.base_codes.specs.declared.Coded.the-variants.{Code, Outside}
 use Rattle.base_codes.proofs.Offset.{Less, le-less, less-same, less-add}
-use Rattle.base_codes.specs.Code.{lowestPoint, highestPoint, lowestRise, highestRise, lowestTotal, highestTotal, lowestSetpoint, within, code, decoded, on, firstOutside, coded}
+use Rattle.base_codes.specs.Code.{within, code, decoded, on, firstOutside, coded}
 
 -- the lowest bounds, as offsets
 pub point-less : Less lowestPoint 0 1000

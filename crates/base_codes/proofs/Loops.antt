@@ -9,11 +9,12 @@ use lib.ListN.{length, set, getD}
 use mir.Syntax.{w16, w32}
 use mir.Val.{Fits, SFits, toZ, ofZ}
 use mir.Facts.{toZ-ofZ, sfits-widen}
+use Rattle.limits.specs.Limits.{lowestSetpoint, highestSetpoint}
 use Rattle.theory_lists.specs.Written.{written, written-none, written-more}
 use Rattle.theory_lists.specs.First.{first-only, Nowhere, nowhere-none, nowhere-more}
 use Rattle.base_codes.specs.declared.Coded.{Coded}
 use Rattle.base_codes.specs.declared.Coded.the-variants.{Code, Outside}
-use Rattle.base_codes.specs.Code.{lowestSetpoint, highestSetpoint, within, code, decoded, on, firstOutside, coded}
+use Rattle.base_codes.specs.Code.{within, code, decoded, on, firstOutside, coded}
 use Rattle.base_codes.proofs.Laws.{code-most, coded-code, coded-outside}
 use Rattle.base_codes.proofs.Casts.{seen, recast, setpoint-within, short-same, short-fits}
 

@@ -9,32 +9,6 @@ use Rattle.theory_lists.specs.First.{firstWhere}
 use Rattle.base_codes.specs.declared.Coded.{Coded}
 use Rattle.base_codes.specs.declared.Coded.the-variants.{Code, Outside}
 
--- Document 01's bounds of an entry
-abbrev pub lowestPoint : ℤ
-lowestPoint = negsuc 999
-
-abbrev pub highestPoint : ℤ
-highestPoint = pos 4000
-
-abbrev pub lowestRise : ℤ
-lowestRise = negsuc 1999
-
-abbrev pub highestRise : ℤ
-highestRise = pos 2000
-
-abbrev pub lowestTotal : ℤ
-lowestTotal = negsuc 511999
-
-abbrev pub highestTotal : ℤ
-highestTotal = pos 2048000
-
--- the lowest and highest setpoint that a list can hold: 16 bits
-abbrev pub lowestSetpoint : ℤ
-lowestSetpoint = negsuc 32767
-
-abbrev pub highestSetpoint : ℤ
-highestSetpoint = pos 32767
-
 abbrev pub within : ℤ → ℤ → ℤ → Bool
 within low high z = leZ low z && leZ z high
 

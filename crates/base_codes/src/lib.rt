@@ -6,8 +6,10 @@ ghost use Prim.Native.Nat.{ℕ, _≤_, _<_};
 ghost use lib.IntN.{pos};
 ghost use lib.ListN.{length, getD};
 ghost use lib.Signed.{_≤ℤ_};
+ghost use Rattle.limits.specs.Limits.{mostDays, lowestSetpoint, highestSetpoint};
 ghost use Rattle.theory_lists.specs.Written.{written};
-ghost use Rattle.base_codes.specs.Code.{lowestSetpoint, highestSetpoint, within, code, decoded, on, firstOutside, coded};
+ghost use Rattle.base_codes.specs.Code.{within, code, decoded, on, firstOutside, coded};
+use limits::MOST_DAYS;
 
 // A number's code, or that it is outside its bounds.
 pub enum Coded {
@@ -29,8 +31,8 @@ pub fn code(z: i32, low: i32, high: i32) -> Coded
 }
 
 // Stores the code of each number in turn, up to the first one outside its bounds, whose index it gives, or the length. That one too has 16 bits.
-pub fn code_all(xs: &[i16], low: i32, high: i32, out: &mut [u16; 512]) -> usize
-    requires { ⌜ (code low high ≤ 65535) × (length (now xs) ≤ 512) ⌝ }
+pub fn code_all(xs: &[i16], low: i32, high: i32, out: &mut [u16; MOST_DAYS]) -> usize
+    requires { ⌜ (code low high ≤ 65535) × (length (now xs) ≤ mostDays) ⌝ }
     ensures { λ r. ⌜ r ≡ firstOutside low high (now (xs .entry)) ⌝ }
     ensures { λ r. ⌜ now (out .exit) ≡ written (λ k. code low (on (now (xs .entry)) k)) r (now (out .entry)) ⌝ }
     ensures { λ r. ⌜ (r < length (now (xs .entry)) → within lowestSetpoint highestSetpoint (on (now (xs .entry)) r) ≡ true) ⌝ }
@@ -64,8 +66,8 @@ fn decode_short(n: u16, low: i32) -> i16
 }
 
 // Stores the numbers of the first n codes.
-pub fn decode_all(codes: &[u16; 512], n: usize, low: i32, out: &mut [i16])
-    requires { ⌜ (within lowestSetpoint (pos 0) low ≡ true) × (n ≤ 512) × (n ≤ length (now out)) × ((k : ℕ) → k < n → getD (now codes) k 0 ≤ 32767) ⌝ }
+pub fn decode_all(codes: &[u16; MOST_DAYS], n: usize, low: i32, out: &mut [i16])
+    requires { ⌜ (within lowestSetpoint (pos 0) low ≡ true) × (n ≤ mostDays) × (n ≤ length (now out)) × ((k : ℕ) → k < n → getD (now codes) k 0 ≤ 32767) ⌝ }
     ensures { λ r. ⌜ now (out .exit) ≡ written (λ k. decoded low (getD (now (codes .entry)) k 0)) n (now (out .entry)) ⌝ }
 {
     let mut k = 0;

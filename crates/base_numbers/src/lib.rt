@@ -1,6 +1,7 @@
 // Casts between a level's 16 bits and a local, the smaller and the larger of two numbers.
 ghost use mathlib.Core.Path.{_≡_};
 ghost use Prim.Native.Nat.{_≤_, _<_, min, max};
+ghost use Rattle.limits.specs.Limits.{highestLevel};
 
 pub fn wide(x: u16) -> usize
     ensures { λ r. ⌜ (r ≡ x) × (r < 65536) ⌝ }
@@ -9,19 +10,19 @@ pub fn wide(x: u16) -> usize
 }
 
 pub fn narrow(x: usize) -> u16
-    requires { ⌜ x ≤ 5000 ⌝ }
+    requires { ⌜ x ≤ highestLevel ⌝ }
     ensures { λ r. ⌜ r ≡ x ⌝ }
 {
     x as u16
 }
 
-pub fn least(x: usize, y: usize) -> usize
+pub fn min(x: usize, y: usize) -> usize
     ensures { λ r. ⌜ r ≡ min x y ⌝ }
 {
     if x < y { x } else { y }
 }
 
-pub fn greatest(x: usize, y: usize) -> usize
+pub fn max(x: usize, y: usize) -> usize
     ensures { λ r. ⌜ r ≡ max x y ⌝ }
 {
     if x < y { y } else { x }

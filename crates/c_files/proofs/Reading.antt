@@ -16,13 +16,13 @@ use Rattle.base_codes.specs.Code.{on}
 use Rattle.c_lists.specs.Lists.{pointBytes, lentPoints}
 use Rattle.c_lists.proofs.Laws.{points-stored}
 use Rattle.file_format.specs.Format.{dayOffset, dayCount, cutCount, floorAt, ceilingAt, riseAt}
-use Rattle.file_format.specs.Reading.{earlier}
+use Rattle.file_format.specs.Reading.{earlyReading}
 use Rattle.file_format.proofs.Taken.{Taken, not-refused}
 use Rattle.file_reading.specs.declared.ReadAnswer.{ReadAnswer}
 use Rattle.file_reading.specs.Reading.{contents, readFrom}
 use Rattle.file_reading.proofs.Laws.{read-number, read-taken}
 use Rattle.c_files.specs.declared.Contents.{Contents}
-use Rattle.c_files.specs.Reading.{noRoom, readRefusal, refusedContents, readInto, cutsLent}
+use Rattle.c_files.specs.Reading.{noRoomOver, readingRefusalOver, refusedContents, readInto, cutsLent}
 
 -- what the reader of files found, where it refused nothing
 pub record Found (b : List ℕ) (r : ReadAnswer) : Type 0 where
@@ -43,7 +43,7 @@ pub record Room (n m floors ceilings rises cuts : ℕ) : Type 0 where
   pub rises-long : (n - 1) * 2 ≤ rises
   pub cuts-long : m * 8 ≤ cuts
 
-pub roomy : (n m floors ceilings rises cuts : ℕ) → noRoom n m floors ceilings rises cuts ≡ false → Room n m floors ceilings rises cuts
+pub roomy : (n m floors ceilings rises cuts : ℕ) → noRoomOver n m floors ceilings rises cuts ≡ false → Room n m floors ceilings rises cuts
 roomy n m floors ceilings rises cuts e =
     let low : Bool = ltb (floors / 2) n in
     let high : Bool = ltb (ceilings / 2) n in
@@ -68,7 +68,7 @@ module _ (b fs cs rs ks : List ℕ) where
       × ((rises ≡ lentPoints (r .refusal) (riseAt b) (dayCount b - 1) rs)
       × (cuts ≡ cutsLent (r .refusal) b ks))))
 
-  refused : (number : ℕ) {r : Contents} → readRefusal b (length fs) (length cs) (length rs) (length ks) ≡ number → (number ≡ 0 → ⊥) → r ≡ refusedContents number → Answers r fs cs rs ks
+  refused : (number : ℕ) {r : Contents} → readingRefusalOver b (length fs) (length cs) (length rs) (length ks) ≡ number → (number ≡ 0 → ⊥) → r ≡ refusedContents number → Answers r fs cs rs ks
   unfolding readInto lentPoints cutsLent
   refused number e x a =
       let test = ne-eqb number 0 x in
@@ -76,23 +76,23 @@ module _ (b fs cs rs ks : List ℕ) where
       (rw (e, test) a, (rw (z, test), (rw (z, test), (rw (z, test), rw (z, test)))))
 
   pub bad-file : {a : ReadAnswer} {r : Contents} → a ≡ readFrom b 512 512 512 → (a .refusal ≡ 0 → ⊥) → r ≡ refusedContents (a .refusal) → Answers r fs cs rs ks
-  unfolding readRefusal
+  unfolding readingRefusalOver
   bad-file {a} e x d =
-      let number : a .refusal ≡ earlier b = ap (λ s. s .refusal) e ∙ read-number b 512 512 512 (omega arith) (omega arith) (omega arith) in
+      let number : a .refusal ≡ earlyReading b = ap (λ s. s .refusal) e ∙ read-number b 512 512 512 (omega arith) (omega arith) (omega arith) in
       refused (a .refusal) (rw (← number, ne-eqb (a .refusal) 0 x) refl) x d
 
   module _ {a : ReadAnswer} (here : Found b a) {m : ℕ} (em : m ≡ cutCount b) where
-    pub too-short : {r : Contents} → noRoom (a .days) m (length fs) (length cs) (length rs) (length ks) ≡ true → r ≡ refusedContents 2 → Answers r fs cs rs ks
-    unfolding readRefusal
+    pub too-short : {r : Contents} → noRoomOver (a .days) m (length fs) (length cs) (length rs) (length ks) ≡ true → r ≡ refusedContents 2 → Answers r fs cs rs ks
+    unfolding readingRefusalOver
     too-short e d = refused 2 (rw (not-refused b (here .taken), rw (here .days, em) at e) refl) (λ z. omega arith) d
 
-    pub read-all : {lowest highest : ℤ} {low high steps : List ℤ} {floors ceilings rises cuts : List ℕ} → noRoom (a .days) m (length fs) (length cs) (length rs) (length ks) ≡ false
+    pub read-all : {lowest highest : ℤ} {low high steps : List ℤ} {floors ceilings rises cuts : List ℕ} → noRoomOver (a .days) m (length fs) (length cs) (length rs) (length ks) ≡ false
         → lowest ≡ a .lowest → highest ≡ a .highest
         → low ≡ lentList (a .refusal) (floorAt b) (dayCount b) (replicate 512 (pos 0)) → floors ≡ sets fs 0 (pointBytes (on low) (a .days))
         → high ≡ lentList (a .refusal) (ceilingAt b) (dayCount b) (replicate 512 (pos 0)) → ceilings ≡ sets cs 0 (pointBytes (on high) (a .days))
         → steps ≡ lentList (a .refusal) (riseAt b) (dayCount b - 1) (replicate 512 (pos 0)) → rises ≡ sets rs 0 (pointBytes (on steps) (a .days - 1))
         → cuts ≡ sets ks 0 (drop (dayOffset (a .days)) b) → Answers (record { refusal = 0; days = a .days; cuts = m; lowest = lowest; highest = highest }) floors ceilings rises cuts
-    unfolding readRefusal readInto contents lentPoints cutsLent
+    unfolding readingRefusalOver readInto contents lentPoints cutsLent
     read-all e el eh low f high c steps s k =
         let n = here .days in
         let z : a .refusal ≡ 0 = ap (λ q. q .refusal) (here .all) in

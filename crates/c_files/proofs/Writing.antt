@@ -16,17 +16,17 @@ use Rattle.theory_lists.specs.Rows.{rows, length-rows, front-sets}
 use Rattle.base_codes.specs.Code.{on}
 use Rattle.base_little_endian.specs.Fields.{Bytes}
 use Rattle.session.specs.Profile.{Profile}
-use Rattle.session.specs.Opening.{earlier}
+use Rattle.session.specs.Opening.{earlyOpening}
 use Rattle.session_cuts.specs.declared.Cut.the-variants.{DayFloor}
 use Rattle.session_cuts.specs.Sheet.{cutOn}
-use Rattle.file_format.specs.Format.{dayOffset, fileLength, toldAt, known, header, dayBytes, cutBytes, file}
+use Rattle.file_format.specs.Format.{dayOffset, fileLength, numberedAt, known, header, dayBytes, cutBytes, file}
 use Rattle.file_format.proofs.Parts.{cut-length, length-file, parts-stored}
 use Rattle.file_format.proofs.WrittenBack.{cut-back}
 use Rattle.file_writing.specs.declared.WriteAnswer.{WriteAnswer}
 use Rattle.c_lists.specs.Lists.{pointsIn}
-use Rattle.c_lists.specs.Profiles.{lengthRefusal, profileOf}
+use Rattle.c_lists.specs.Profiles.{byteLengthRefusal, profileOf}
 use Rattle.c_lists.proofs.Laws.{Long, long}
-use Rattle.c_files.specs.Writing.{toldRefusal, cutsOf, lengthsRefusal, earlierOver, refusalOver, writeOver, outputOver}
+use Rattle.c_files.specs.Writing.{numberedRefusal, cutsInBytes, lengthsRefusal, earlyWritingOver, writingRefusalOver, writeOver, outputOver}
 
 -- what 1 and 2 let pass
 pub record Sized (n floors ceilings rises cuts : ℕ) : Type 0 where
@@ -38,38 +38,38 @@ pub sized : (n floors ceilings rises cuts : ℕ) → lengthsRefusal n floors cei
 unfolding lengthsRefusal
 sized n floors ceilings rises cuts e =
     let counts = cond-zero (ltb 512 (cuts / 8)) 0 _ e in
-    let lists = then-zero (lengthRefusal n floors ceilings rises) _ (counts .1) in
+    let lists = then-zero (byteLengthRefusal n floors ceilings rises) _ (counts .1) in
     let rest : cuts % 8 ≡ 0 = eqb-true _ _ (cond-first (eqb (cuts % 8) 0) 1 (lists .1)) in
     record { lists = long n floors ceilings rises (lists .0); few = ltb-false 512 (cuts / 8) (counts .0); whole = omega arith }
 
 -- the first refusal of the cuts, or 0
 abbrev cutsRefusal : ℕ → List ℕ → ℕ
-cutsRefusal n b = firstNonzero (λ j. toldRefusal n (toldAt b (j * 8))) (length b / 8)
+cutsRefusal n b = firstNonzero (λ j. numberedRefusal n (numberedAt b (j * 8))) (length b / 8)
 
 -- ---- the cuts' bytes
 
 module _ (b : List ℕ) where
-  pub length-cuts : length (cutsOf b) ≡ length b / 8
-  unfolding cutsOf
-  length-cuts = length-listOf (λ j. known (toldAt b (j * 8))) (length b / 8)
+  pub length-cuts : length (cutsInBytes b) ≡ length b / 8
+  unfolding cutsInBytes
+  length-cuts = length-listOf (λ j. known (numberedAt b (j * 8))) (length b / 8)
 
   abbrev cutRow : ℕ → List ℕ
-  cutRow j = cutBytes (cutOn (cutsOf b) j)
+  cutRow j = cutBytes (cutOn (cutsInBytes b) j)
 
   module _ (n : ℕ) (bytes : Bytes b) (none : cutsRefusal n b ≡ 0) where
     row-back : (j : ℕ) → j < length b / 8 → Part b (0 + j * 8) (cutRow j)
-    unfolding cutsOf
+    unfolding cutsInBytes
     row-back j h =
         let z : 0 + j * 8 ≡ j * 8 = omega arith in
-        rw (z, get-listOf (λ k. known (toldAt b (k * 8))) (DayFloor 0 (pos 0)) (length b / 8) j h)
-        (cut-back bytes (j * 8) (λ u. let x : _≡_ {A = ℕ} 12 0 = rw u at (nonzero-none (λ k. toldRefusal n (toldAt b (k * 8))) (length b / 8) none j h) in omega arith))
+        rw (z, get-listOf (λ k. known (numberedAt b (k * 8))) (DayFloor 0 (pos 0)) (length b / 8) j h)
+        (cut-back bytes (j * 8) (λ u. let x : _≡_ {A = ℕ} 12 0 = rw u at (nonzero-none (λ k. numberedRefusal n (numberedAt b (k * 8))) (length b / 8) none j h) in omega arith))
 
     -- cuts of known kinds have the bytes that they are read from
-    pub cuts-back : length b ≡ length b / 8 * 8 → rows cutRow (length (cutsOf b)) ≡ b
+    pub cuts-back : length b ≡ length b / 8 * 8 → rows cutRow (length (cutsInBytes b)) ≡ b
     cuts-back whole =
         rw length-cuts
-        (part-same (rows cutRow (length b / 8)) (length-rows cutRow 8 (length b / 8) (λ j h. cut-length (cutOn (cutsOf b) j)) ∙ sym whole)
-        (part-rows cutRow 8 (length b / 8) (λ j h. cut-length (cutOn (cutsOf b) j)) row-back))
+        (part-same (rows cutRow (length b / 8)) (length-rows cutRow 8 (length b / 8) (λ j h. cut-length (cutOn (cutsInBytes b) j)) ∙ sym whole)
+        (part-rows cutRow 8 (length b / 8) (λ j h. cut-length (cutOn (cutsInBytes b) j)) row-back))
 
 -- ---- what is answered
 
@@ -80,11 +80,11 @@ module _ (n : ℕ) (fs cs rs : List ℕ) (lo hi : ℤ) (b : List ℕ) where
   -- no check before the output's length refuses
   pub record Checked : Type 0 where
     pub lengths : lengthsRefusal n (length fs) (length cs) (length rs) (length b) ≡ 0
-    pub profile : earlier p ≡ 0
+    pub profile : earlyOpening p ≡ 0
     pub formed : cutsRefusal n b ≡ 0
 
-  none-early : Checked → earlierOver n fs cs rs lo hi b ≡ 0
-  unfolding earlierOver
+  none-early : Checked → earlyWritingOver n fs cs rs lo hi b ≡ 0
+  unfolding earlyWritingOver
   none-early c = rw (c .lengths, c .profile) (c .formed)
 
   module _ (l : List ℕ) where
@@ -92,36 +92,36 @@ module _ (n : ℕ) (fs cs rs : List ℕ) (lo hi : ℤ) (b : List ℕ) where
     abbrev Answers : WriteAnswer → List ℕ → Type 0
     Answers r out = (r ≡ writeOver n fs cs rs lo hi b (length l)) × (out ≡ outputOver n fs cs rs lo hi b l)
 
-    refused : (number : ℕ) {r : WriteAnswer} → refusalOver n fs cs rs lo hi b (length l) ≡ number → (number ≡ 0 → ⊥) → r ≡ record { refusal = number; length = 0 } → Answers r l
+    refused : (number : ℕ) {r : WriteAnswer} → writingRefusalOver n fs cs rs lo hi b (length l) ≡ number → (number ≡ 0 → ⊥) → r ≡ record { refusal = number; length = 0 } → Answers r l
     unfolding writeOver outputOver
     refused number e x a = (rw (e, ne-eqb number 0 x) a, rw (e, ne-eqb number 0 x) refl)
 
     module _ {number : ℕ} {r : WriteAnswer} (x : number ≡ 0 → ⊥) (a : r ≡ record { refusal = number; length = 0 }) where
-      early : number ≡ earlierOver n fs cs rs lo hi b → Answers r l
-      unfolding refusalOver
+      early : number ≡ earlyWritingOver n fs cs rs lo hi b → Answers r l
+      unfolding writingRefusalOver
       early e = refused number (rw (← e, ne-eqb number 0 x) refl) x a
 
       pub bad-lengths : number ≡ lengthsRefusal n (length fs) (length cs) (length rs) (length b) → Answers r l
-      unfolding earlierOver
+      unfolding earlyWritingOver
       bad-lengths e = early (rw (← e, ne-eqb number 0 x) refl)
 
       module _ (lengths : lengthsRefusal n (length fs) (length cs) (length rs) (length b) ≡ 0) where
-        pub bad-profile : number ≡ earlier p → Answers r l
-        unfolding earlierOver
+        pub bad-profile : number ≡ earlyOpening p → Answers r l
+        unfolding earlyWritingOver
         bad-profile e = early (rw (lengths, ← e, ne-eqb number 0 x) refl)
 
-        pub bad-cut : earlier p ≡ 0 → number ≡ cutsRefusal n b → Answers r l
-        unfolding earlierOver
+        pub bad-cut : earlyOpening p ≡ 0 → number ≡ cutsRefusal n b → Answers r l
+        unfolding earlyWritingOver
         bad-cut o e = early (rw (lengths, o) e)
 
     module _ (c : Checked) where
       pub too-short : {r : WriteAnswer} → length l < fileLength n (length b / 8) → r ≡ record { refusal = 2; length = 0 } → Answers r l
-      unfolding refusalOver
+      unfolding writingRefusalOver
       too-short h a = refused 2 (rw (none-early c, lt-ltb (length l) (fileLength n (length b / 8)) h) refl) (λ z. omega arith) a
 
       module _ (bytes : Bytes b) (h : fileLength n (length b / 8) ≤ length l) where
-        accepted : refusalOver n fs cs rs lo hi b (length l) ≡ 0
-        unfolding refusalOver
+        accepted : writingRefusalOver n fs cs rs lo hi b (length l) ≡ 0
+        unfolding writingRefusalOver
         accepted = rw (none-early c, le-ltb (length l) (fileLength n (length b / 8)) h) refl
 
         pub written : {floors ceilings rises : List ℤ} {one two out : List ℕ} → floors ≡ pointsIn fs n → ceilings ≡ pointsIn cs n → rises ≡ pointsIn rs (n - 1)
@@ -130,5 +130,5 @@ module _ (n : ℕ) (fs cs rs : List ℕ) (lo hi : ℤ) (b : List ℕ) where
         unfolding writeOver outputOver
         written {out = out} ef ec er e f g =
             let s = sized n (length fs) (length cs) (length rs) (length b) (c .lengths) in
-            let whole : out ≡ sets l 0 (file p (cutsOf b)) = parts-stored p (cutsOf b) l (rw (length-cuts b) e) (rw (ef, ec, er) at f) (rw (cuts-back b n bytes (c .formed) (s .whole)) g) in
-            (rw accepted refl, rw accepted (whole ∙ front-sets (file p (cutsOf b)) l (omega (arith, length-file p (cutsOf b), length-cuts b))))
+            let whole : out ≡ sets l 0 (file p (cutsInBytes b)) = parts-stored p (cutsInBytes b) l (rw (length-cuts b) e) (rw (ef, ec, er) at f) (rw (cuts-back b n bytes (c .formed) (s .whole)) g) in
+            (rw accepted refl, rw accepted (whole ∙ front-sets (file p (cutsInBytes b)) l (omega (arith, length-file p (cutsInBytes b), length-cuts b))))

@@ -6,30 +6,30 @@ use lib.IntN.{pos}
 use lib.Dec.{eqb, ltb}
 use lib.ListN.{drop}
 use Rattle.theory_lists.specs.Front.{inFront}
-use Rattle.file_format.specs.Format.{dayOffset, dayCount, cutCount, totalFloor, totalCeiling}
-use Rattle.file_format.specs.Reading.{earlier}
+use Rattle.file_format.specs.Format.{cutLength, dayOffset, dayCount, cutCount, totalFloorAt, totalCeilingAt}
+use Rattle.file_format.specs.Reading.{earlyReading}
 use Rattle.c_files.specs.declared.Contents.{Contents}
 
 -- 2: a lent list is too short for what it would hold, each given by its count of bytes; an odd last byte counts for nothing
-abbrev pub noRoom : ℕ → ℕ → ℕ → ℕ → ℕ → ℕ → Bool
-noRoom n m floors ceilings rises cuts = ltb (floors / 2) n || ltb (ceilings / 2) n || ltb (rises / 2) (n - 1) || ltb cuts (m * 8)
+abbrev pub noRoomOver : ℕ → ℕ → ℕ → ℕ → ℕ → ℕ → Bool
+noRoomOver n m floors ceilings rises cuts = ltb (floors / 2) n || ltb (ceilings / 2) n || ltb (rises / 2) (n - 1) || ltb cuts (m * cutLength)
 
 -- the first refusal of reading that applies, or 0
-unfoldable pub readRefusal : List ℕ → ℕ → ℕ → ℕ → ℕ → ℕ
-readRefusal b floors ceilings rises cuts =
-    cond (eqb (earlier b) 0) (cond (noRoom (dayCount b) (cutCount b) floors ceilings rises cuts) 2 0) (earlier b)
+unfoldable pub readingRefusalOver : List ℕ → ℕ → ℕ → ℕ → ℕ → ℕ
+readingRefusalOver b floors ceilings rises cuts =
+    cond (eqb (earlyReading b) 0) (cond (noRoomOver (dayCount b) (cutCount b) floors ceilings rises cuts) 2 0) (earlyReading b)
 
 -- beside a refusal's number: no day, no cut, and 0 for both of the total's bounds
 abbrev pub refusedContents : ℕ → Contents
 refusedContents number = record { refusal = number; days = 0; cuts = 0; lowest = pos 0; highest = pos 0 }
 
 abbrev pub contentsOf : List ℕ → Contents
-contentsOf b = record { refusal = 0; days = dayCount b; cuts = cutCount b; lowest = totalFloor b; highest = totalCeiling b }
+contentsOf b = record { refusal = 0; days = dayCount b; cuts = cutCount b; lowest = totalFloorAt b; highest = totalCeilingAt b }
 
 -- what reading gives beside the lists
 unfoldable pub readInto : List ℕ → ℕ → ℕ → ℕ → ℕ → Contents
 readInto b floors ceilings rises cuts =
-    cond (eqb (readRefusal b floors ceilings rises cuts) 0) (contentsOf b) (refusedContents (readRefusal b floors ceilings rises cuts))
+    cond (eqb (readingRefusalOver b floors ceilings rises cuts) 0) (contentsOf b) (refusedContents (readingRefusalOver b floors ceilings rises cuts))
 
 -- the lent list of cuts afterwards: as it was beside a refusal, else with the file's cuts at its front, as they stand in the file
 unfoldable pub cutsLent : ℕ → List ℕ → List ℕ → List ℕ

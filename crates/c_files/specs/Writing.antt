@@ -5,55 +5,56 @@ use Prim.Native.Nat.{ℕ, _*_, _/_, _%_}
 use lib.IntN.{ℤ}
 use lib.Dec.{eqb, ltb}
 use lib.ListN.{length}
+use Rattle.limits.specs.Limits.{mostCuts}
 use Rattle.theory_lists.specs.First.{firstNonzero}
 use Rattle.theory_lists.specs.Front.{inFront}
 use Rattle.theory_lists.specs.ListOf.{listOf}
-use Rattle.session.specs.Opening.{earlier}
+use Rattle.session.specs.Opening.{earlyOpening}
 use Rattle.session_cuts.specs.declared.Cut.{Cut}
-use Rattle.session_cuts.specs.declared.Told.{Told}
-use Rattle.session_cuts.specs.declared.Told.the-variants.{Known, Unknown}
+use Rattle.session_cuts.specs.declared.Numbered.{Numbered}
+use Rattle.session_cuts.specs.declared.Numbered.the-variants.{Known, Unknown}
 use Rattle.session_cutting.specs.Cutting.{malformed}
-use Rattle.file_format.specs.Format.{fileLength, toldAt, known, file}
+use Rattle.file_format.specs.Format.{cutLength, fileLength, numberedAt, known, file}
 use Rattle.file_writing.specs.declared.WriteAnswer.{WriteAnswer}
-use Rattle.c_lists.specs.Profiles.{lengthRefusal, profileOf}
+use Rattle.c_lists.specs.Profiles.{byteLengthRefusal, profileOf}
 
--- the refusal of a told cut by itself: an unknown kind is 12
-abbrev pub toldRefusal : ℕ → Told → ℕ
-toldRefusal n (Known c) = malformed n c
-toldRefusal n Unknown = 12
+-- the refusal of a numbered cut by itself: an unknown kind is 12
+abbrev pub numberedRefusal : ℕ → Numbered → ℕ
+numberedRefusal n (Known c) = malformed n c
+numberedRefusal n Unknown = 12
 
 -- the cuts in a list of 8 bytes each whose kinds are known
-unfoldable pub cutsOf : List ℕ → List Cut
-cutsOf b = listOf (λ j. known (toldAt b (j * 8))) (length b / 8)
+unfoldable pub cutsInBytes : List ℕ → List Cut
+cutsInBytes b = listOf (λ j. known (numberedAt b (j * cutLength))) (length b / cutLength)
 
 -- 1: the day count, or more than 512 cuts; 2: a list of the wrong length, each given by its count of bytes; else 0
 unfoldable pub lengthsRefusal : ℕ → ℕ → ℕ → ℕ → ℕ → ℕ
 lengthsRefusal n floors ceilings rises cuts =
-    cond (ltb 512 (cuts / 8)) 1
-    (cond (eqb (lengthRefusal n floors ceilings rises) 0) (cond (eqb (cuts % 8) 0) 0 2) (lengthRefusal n floors ceilings rises))
+    cond (ltb mostCuts (cuts / cutLength)) 1
+    (cond (eqb (byteLengthRefusal n floors ceilings rises) 0) (cond (eqb (cuts % cutLength) 0) 0 2) (byteLengthRefusal n floors ceilings rises))
 
 -- 1, 2, then 3, 4, 5, 6 as opening does, then each cut in order as cutting does: the first refusal before the output's length that applies, or 0
-unfoldable pub earlierOver : ℕ → List ℕ → List ℕ → List ℕ → ℤ → ℤ → List ℕ → ℕ
-earlierOver n fs cs rs lo hi b =
+unfoldable pub earlyWritingOver : ℕ → List ℕ → List ℕ → List ℕ → ℤ → ℤ → List ℕ → ℕ
+earlyWritingOver n fs cs rs lo hi b =
     let lengths : ℕ = lengthsRefusal n (length fs) (length cs) (length rs) (length b) in
-    let values : ℕ = earlier (profileOf n fs cs rs lo hi) in
+    let values : ℕ = earlyOpening (profileOf n fs cs rs lo hi) in
     cond (eqb lengths 0)
-    (cond (eqb values 0) (firstNonzero (λ j. toldRefusal n (toldAt b (j * 8))) (length b / 8)) values)
+    (cond (eqb values 0) (firstNonzero (λ j. numberedRefusal n (numberedAt b (j * cutLength))) (length b / cutLength)) values)
     lengths
 
 -- the first refusal of writing that applies, or 0, with an output of that length: 2 where the output is too short
-unfoldable pub refusalOver : ℕ → List ℕ → List ℕ → List ℕ → ℤ → ℤ → List ℕ → ℕ → ℕ
-refusalOver n fs cs rs lo hi b room =
-    let early : ℕ = earlierOver n fs cs rs lo hi b in
-    cond (eqb early 0) (cond (ltb room (fileLength n (length b / 8))) 2 0) early
+unfoldable pub writingRefusalOver : ℕ → List ℕ → List ℕ → List ℕ → ℤ → ℤ → List ℕ → ℕ → ℕ
+writingRefusalOver n fs cs rs lo hi b room =
+    let early : ℕ = earlyWritingOver n fs cs rs lo hi b in
+    cond (eqb early 0) (cond (ltb room (fileLength n (length b / cutLength))) 2 0) early
 
 -- the file's length, or 0 beside a refusal's number
 unfoldable pub writeOver : ℕ → List ℕ → List ℕ → List ℕ → ℤ → ℤ → List ℕ → ℕ → WriteAnswer
 writeOver n fs cs rs lo hi b room =
-    let refusal : ℕ = refusalOver n fs cs rs lo hi b room in
-    cond (eqb refusal 0) (record { refusal = 0; length = fileLength n (length b / 8) }) (record { refusal = refusal; length = 0 })
+    let refusal : ℕ = writingRefusalOver n fs cs rs lo hi b room in
+    cond (eqb refusal 0) (record { refusal = 0; length = fileLength n (length b / cutLength) }) (record { refusal = refusal; length = 0 })
 
 -- the output afterwards: the file at its front, or as it was beside a refusal
 unfoldable pub outputOver : ℕ → List ℕ → List ℕ → List ℕ → ℤ → ℤ → List ℕ → List ℕ → List ℕ
 outputOver n fs cs rs lo hi b l =
-    cond (eqb (refusalOver n fs cs rs lo hi b (length l)) 0) (inFront (file (profileOf n fs cs rs lo hi) (cutsOf b)) l) l
+    cond (eqb (writingRefusalOver n fs cs rs lo hi b (length l)) 0) (inFront (file (profileOf n fs cs rs lo hi) (cutsInBytes b)) l) l

@@ -3,22 +3,28 @@ ghost use mathlib.Core.Path.{_≡_};
 ghost use Prim.Native.Nat.{_+_, _-_, _*_, _≤_, _<_};
 ghost use lib.ListN.{length, drop};
 ghost use lib.Seq.{sets};
+ghost use Rattle.limits.specs.Limits.{mostCuts};
 ghost use Rattle.theory_lists.specs.First.{firstNonzero};
 ghost use Rattle.c_lists.specs.Lists.{lentPoints};
-ghost use Rattle.file_format.specs.Format.{dayCount, floorAt, ceilingAt, riseAt, toldAt};
-ghost use Rattle.c_files.specs.Reading.{noRoom, refusedContents, readInto, cutsLent};
-ghost use Rattle.c_files.specs.Writing.{toldRefusal, lengthsRefusal, writeOver, outputOver};
+ghost use Rattle.file_format.specs.Format.{cutLength, dayCount, floorAt, ceilingAt, riseAt, numberedAt};
+ghost use Rattle.c_files.specs.Reading.{noRoomOver, refusedContents, readInto, cutsLent};
+ghost use Rattle.c_files.specs.Writing.{numberedRefusal, lengthsRefusal, writeOver, outputOver};
 use base_little_endian::u16_at;
 use base_numbers::wide;
 use c_lists::length_refusal;
 use c_lists::points;
 use c_lists::put_points;
-use file_checks::told_at;
+use file_checks::numbered_at;
+use file_format::CUT_BYTES;
+use file_format::DAY_BYTES;
+use file_format::HEADER_BYTES;
 use file_parts::put_days;
 use file_parts::put_header;
 use file_writing::WriteAnswer;
 use file_writing::profile_refusal;
-use session_cuts::Told;
+use limits::MOST_CUTS;
+use limits::MOST_DAYS;
+use session_cuts::Numbered;
 use session_cutting::malformed;
 
 // What reading gives beside the lists: the refusal's number, 0 for none; how many days and cuts there are, and the total's bounds.
@@ -66,10 +72,10 @@ fn has_no_room(
     rises: usize,
     list: usize,
 ) -> bool
-    requires { ⌜ (0 < days) × (cuts ≤ 512) ⌝ }
-    ensures { λ r. ⌜ r ≡ noRoom days cuts floors ceilings rises list ⌝ }
+    requires { ⌜ (0 < days) × (cuts ≤ mostCuts) ⌝ }
+    ensures { λ r. ⌜ r ≡ noRoomOver days cuts floors ceilings rises list ⌝ }
 {
-    (floors / 2 < days) | (ceilings / 2 < days) | (rises / 2 < days - 1) | (list < cuts * 8)
+    (floors / 2 < days) | (ceilings / 2 < days) | (rises / 2 < days - 1) | (list < cuts * CUT_BYTES)
 }
 
 // Reads a file: document 01's checks 11, 1, 11, 12, then 2. The cuts are stored as they stand in the file.
@@ -86,9 +92,9 @@ pub fn read(
     ensures { λ r. ⌜ now (rises .exit) ≡ lentPoints (r .refusal) (riseAt (now (file .entry))) (dayCount (now (file .entry)) - 1) (now (rises .entry)) ⌝ }
     ensures { λ r. ⌜ now (cuts .exit) ≡ cutsLent (r .refusal) (now (file .entry)) (now (cuts .entry)) ⌝ }
 {
-    let mut low = [0i16; 512];
-    let mut high = [0i16; 512];
-    let mut steps = [0i16; 512];
+    let mut low = [0i16; MOST_DAYS];
+    let mut high = [0i16; MOST_DAYS];
+    let mut steps = [0i16; MOST_DAYS];
     let found = file_reading::read(file, &mut low, &mut high, &mut steps);
     if found.refusal != 0 {
         return refused(found.refusal);
@@ -108,7 +114,7 @@ pub fn read(
     put_points(&low, days, floors);
     put_points(&high, days, ceilings);
     put_points(&steps, days - 1, rises);
-    put_rest(file, 16 + days * 6, cuts, 0);
+    put_rest(file, HEADER_BYTES + days * DAY_BYTES, cuts, 0);
     let lowest = found.lowest;
     let highest = found.highest;
     Contents {
@@ -122,11 +128,11 @@ pub fn read(
 
 // ---- writing
 
-// The refusal that a told cut has by itself: 12, 7, then 3 or 5, else 0.
-fn told_refusal(told: Told, days: usize) -> u8
-    ensures { λ r. ⌜ r ≡ toldRefusal days told ⌝ }
+// The refusal that a numbered cut has by itself: 12, 7, then 3 or 5, else 0.
+fn numbered_refusal(numbered: Numbered, days: usize) -> u8
+    ensures { λ r. ⌜ r ≡ numberedRefusal days numbered ⌝ }
 {
-    let Told::Known(cut) = told else {
+    let Numbered::Known(cut) = numbered else {
         return 12;
     };
     malformed(cut, days)
@@ -134,12 +140,12 @@ fn told_refusal(told: Told, days: usize) -> u8
 
 // The first refusal of the cuts in their order, or 0.
 fn cuts_refusal(cuts: &[u8], count: usize, days: usize) -> u8
-    requires { ⌜ (count ≤ 512) × (count * 8 ≤ length (now cuts)) ⌝ }
-    ensures { λ r. ⌜ r ≡ firstNonzero (λ j. toldRefusal days (toldAt (now (cuts .entry)) (j * 8))) count ⌝ }
+    requires { ⌜ (count ≤ mostCuts) × (count * cutLength ≤ length (now cuts)) ⌝ }
+    ensures { λ r. ⌜ r ≡ firstNonzero (λ j. numberedRefusal days (numberedAt (now (cuts .entry)) (j * cutLength))) count ⌝ }
 {
     let mut j = 0;
     while j < count {
-        let refusal = told_refusal(told_at(cuts, j * 8), days);
+        let refusal = numbered_refusal(numbered_at(cuts, j * CUT_BYTES), days);
         if refusal != 0 {
             return refusal;
         }
@@ -152,14 +158,14 @@ fn cuts_refusal(cuts: &[u8], count: usize, days: usize) -> u8
 fn lengths_refusal(days: usize, floors: usize, ceilings: usize, rises: usize, cuts: usize) -> u8
     ensures { λ r. ⌜ r ≡ lengthsRefusal days floors ceilings rises cuts ⌝ }
 {
-    if 512 < cuts / 8 {
+    if MOST_CUTS < cuts / CUT_BYTES {
         return 1;
     }
     let refusal = length_refusal(days, floors, ceilings, rises);
     if refusal != 0 {
         return refusal;
     }
-    if cuts % 8 != 0 {
+    if cuts % CUT_BYTES != 0 {
         return 2;
     }
     0
@@ -192,9 +198,9 @@ pub fn write(
     if of_lists != 0 {
         return refuse(of_lists);
     }
-    let mut low = [0i16; 512];
-    let mut high = [0i16; 512];
-    let mut steps = [0i16; 512];
+    let mut low = [0i16; MOST_DAYS];
+    let mut high = [0i16; MOST_DAYS];
+    let mut steps = [0i16; MOST_DAYS];
     points(floors, days, &mut low);
     points(ceilings, days, &mut high);
     points(rises, days - 1, &mut steps);
@@ -209,13 +215,13 @@ pub fn write(
     if of_profile != 0 {
         return refuse(of_profile);
     }
-    let count = cuts.len() / 8;
+    let count = cuts.len() / CUT_BYTES;
     let of_cuts = cuts_refusal(cuts, count, days);
     if of_cuts != 0 {
         return refuse(of_cuts);
     }
-    let from = 16 + days * 6;
-    let length = from + count * 8;
+    let from = HEADER_BYTES + days * DAY_BYTES;
+    let length = from + count * CUT_BYTES;
     if out.len() < length {
         return refuse(2);
     }

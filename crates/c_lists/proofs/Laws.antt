@@ -20,19 +20,19 @@ use Rattle.session.proofs.Lengths.{days-taken}
 use Rattle.base_little_endian.specs.Fields.{u16Bytes, i16Bytes}
 use Rattle.base_little_endian.proofs.Laws.{u16-length, i16-length}
 use Rattle.c_lists.specs.Lists.{pointAt, pointsIn, pointBytes, cellBytes, lentPoints}
-use Rattle.c_lists.specs.Profiles.{haveLengths, lengthRefusal}
+use Rattle.c_lists.specs.Profiles.{haveLengths, byteLengthRefusal}
 
 -- ---- the lengths by what the tests found
 
 module _ (n floors ceilings rises : ℕ) {found : Bool} (some : n ≡ 0 → ⊥) (few : n ≤ 512) (e : found ≡ haveLengths n floors ceilings rises) where
-  judged : cond {A = ℕ} found 0 2 ≡ lengthRefusal n floors ceilings rises
-  unfolding lengthRefusal
+  judged : cond {A = ℕ} found 0 2 ≡ byteLengthRefusal n floors ceilings rises
+  unfolding byteLengthRefusal
   judged = ap (λ b. cond b 0 2) e ∙ days-taken n (cond (haveLengths n floors ceilings rises) 0 2) some few
 
-  pub lengths-wrong : found ≡ false → 2 ≡ lengthRefusal n floors ceilings rises
+  pub lengths-wrong : found ≡ false → 2 ≡ byteLengthRefusal n floors ceilings rises
   lengths-wrong h = ap (λ b. cond b 0 2) (sym h) ∙ judged
 
-  pub lengths-right : found ≡ true → 0 ≡ lengthRefusal n floors ceilings rises
+  pub lengths-right : found ≡ true → 0 ≡ byteLengthRefusal n floors ceilings rises
   lengths-right h = ap (λ b. cond b 0 2) (sym h) ∙ judged
 
 -- what 1 and 2 let pass
@@ -43,8 +43,8 @@ pub record Long (n floors ceilings rises : ℕ) : Type 0 where
   pub ceilings-long : ceilings ≡ n * 2
   pub rises-long : rises ≡ (n - 1) * 2
 
-pub long : (n floors ceilings rises : ℕ) → lengthRefusal n floors ceilings rises ≡ 0 → Long n floors ceilings rises
-unfolding lengthRefusal
+pub long : (n floors ceilings rises : ℕ) → byteLengthRefusal n floors ceilings rises ≡ 0 → Long n floors ceilings rises
+unfolding byteLengthRefusal
 long n floors ceilings rises e =
     let checks = cond-zero _ 0 _ e in
     let counts = or-false (eqb n 0) (ltb 512 n) (checks .0) in

@@ -3,19 +3,21 @@ ghost use mathlib.Core.Path.{_≡_};
 ghost use Prim.Native.Nat.{_+_, _*_, _≤_, _<_};
 ghost use lib.ListN.{length};
 ghost use lib.Seq.{sets};
+ghost use Rattle.limits.specs.Limits.{mostDays};
 ghost use Rattle.theory_lists.specs.Sum.{at};
 ghost use Rattle.theory_lists.specs.Written.{written};
 ghost use Rattle.base_codes.specs.Code.{on};
 ghost use Rattle.c_lists.specs.Lists.{pointAt, pointBytes, cellBytes};
-ghost use Rattle.c_lists.specs.Profiles.{haveLengths, lengthRefusal};
+ghost use Rattle.c_lists.specs.Profiles.{haveLengths, byteLengthRefusal};
 use base_little_endian::i16_at;
 use base_little_endian::put_i16;
 use base_little_endian::put_u16;
+use limits::MOST_DAYS;
 use session::Session;
 
 // Stores the first n points of a list.
-pub fn points(bytes: &[u8], n: usize, out: &mut [i16; 512])
-    requires { ⌜ (n ≤ 512) × (n * 2 ≤ length (now bytes)) ⌝ }
+pub fn points(bytes: &[u8], n: usize, out: &mut [i16; MOST_DAYS])
+    requires { ⌜ (n ≤ mostDays) × (n * 2 ≤ length (now bytes)) ⌝ }
     ensures { λ r. ⌜ now (out .exit) ≡ written (pointAt (now (bytes .entry))) n (now (out .entry)) ⌝ }
 {
     let mut k = 0;
@@ -26,8 +28,8 @@ pub fn points(bytes: &[u8], n: usize, out: &mut [i16; 512])
 }
 
 // Stores n points as the front of a list.
-pub fn put_points(points: &[i16; 512], n: usize, out: &mut [u8])
-    requires { ⌜ (n ≤ 512) × (n * 2 ≤ length (now out)) ⌝ }
+pub fn put_points(points: &[i16; MOST_DAYS], n: usize, out: &mut [u8])
+    requires { ⌜ (n ≤ mostDays) × (n * 2 ≤ length (now out)) ⌝ }
     ensures { λ r. ⌜ now (out .exit) ≡ sets (now (out .entry)) 0 (pointBytes (on (now (points .entry))) n) ⌝ }
 {
     let mut k = 0;
@@ -38,8 +40,8 @@ pub fn put_points(points: &[i16; 512], n: usize, out: &mut [u8])
 }
 
 // Stores n unsigned numbers from a place on.
-pub fn put_cells(cells: &[u16; 512], n: usize, place: usize, out: &mut [u8])
-    requires { ⌜ (n ≤ 512) × (place + n * 2 ≤ length (now out)) ⌝ }
+pub fn put_cells(cells: &[u16; MOST_DAYS], n: usize, place: usize, out: &mut [u8])
+    requires { ⌜ (n ≤ mostDays) × (place + n * 2 ≤ length (now out)) ⌝ }
     ensures { λ r. ⌜ now (out .exit) ≡ sets (now (out .entry)) place (cellBytes (at (now (cells .entry))) n) ⌝ }
 {
     let mut k = 0;
@@ -51,7 +53,7 @@ pub fn put_cells(cells: &[u16; 512], n: usize, place: usize, out: &mut [u8])
 
 // Whether a profile's lists are as long as its days ask, by their counts of bytes.
 fn have_lengths(days: usize, floors: usize, ceilings: usize, rises: usize) -> bool
-    requires { ⌜ (0 < days) × (days ≤ 512) ⌝ }
+    requires { ⌜ (0 < days) × (days ≤ mostDays) ⌝ }
     ensures { λ r. ⌜ r ≡ haveLengths days floors ceilings rises ⌝ }
 {
     (floors == days * 2) & (ceilings == days * 2) & (rises == (days - 1) * 2)
@@ -59,7 +61,7 @@ fn have_lengths(days: usize, floors: usize, ceilings: usize, rises: usize) -> bo
 
 // 1 for a bad day count, 2 for a list of the wrong length, else 0.
 pub fn length_refusal(days: usize, floors: usize, ceilings: usize, rises: usize) -> u8
-    ensures { λ r. ⌜ r ≡ lengthRefusal days floors ceilings rises ⌝ }
+    ensures { λ r. ⌜ r ≡ byteLengthRefusal days floors ceilings rises ⌝ }
 {
     if days == 0 {
         return 1;

@@ -13,7 +13,7 @@ use Rattle.theory_lists.specs.Written.{written}
 use Rattle.theory_lists.specs.Lent.{lentList}
 use Rattle.base_codes.specs.Code.{on}
 use Rattle.session.specs.declared.Session.{Session}
-use Rattle.schedule_writing.specs.Writing.{dayRefusal, totalRefusal, dayWritten, totalWritten}
+use Rattle.schedule_writing.specs.Writing.{dayWriteRefusal, totalWriteRefusal, dayWritten, totalWritten}
 use Rattle.schedule_inspection.specs.Inspecting.{Finding, refused, inspected}
 use Rattle.c_lists.specs.Lists.{isLong, pointAt, pointBytes, lentPoints}
 use Rattle.c_lists.proofs.Laws.{held, points-left}
@@ -25,12 +25,12 @@ use Rattle.c_schedules.specs.declared.Subject.the-variants.{Day, Total}
 use Rattle.c_sessions.proofs.Held.{held-few, blanks, part-stored}
 
 module _ (s : Session) (value : ℤ) (l : List ℤ) {subject : Subject} {out : List ℤ} {r : ℕ} (h : length l ≡ s .days) where
-  pub wrote-day : (day : ℕ) → subject ≡ Day day → (r ≡ dayRefusal s day value (length l)) × (out ≡ dayWritten s day value l)
+  pub wrote-day : (day : ℕ) → subject ≡ Day day → (r ≡ dayWriteRefusal s day value (length l)) × (out ≡ dayWritten s day value l)
       → (r ≡ refusalFor s subject value) × (out ≡ lentList r (setpointFor s subject value) (s .days) l)
   unfolding dayWritten
   wrote-day day q e = rw q (rw h at (e .0), rw (← e .0) at (e .1))
 
-  pub wrote-total : subject ≡ Total → (r ≡ totalRefusal s value (length l)) × (out ≡ totalWritten s value l)
+  pub wrote-total : subject ≡ Total → (r ≡ totalWriteRefusal s value (length l)) × (out ≡ totalWritten s value l)
       → (r ≡ refusalFor s subject value) × (out ≡ lentList r (setpointFor s subject value) (s .days) l)
   unfolding totalWritten
   wrote-total q e = rw q (rw h at (e .0), rw (← e .0) at (e .1))

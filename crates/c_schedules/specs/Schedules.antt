@@ -3,9 +3,10 @@ use mathlib.Core.Bool.{cond, _&&_}
 use mathlib.Core.List.{List}
 use Prim.Native.Nat.{ℕ}
 use lib.IntN.{ℤ}
-use Rattle.base_codes.specs.Code.{lowestPoint, decoded}
+use Rattle.limits.specs.Limits.{lowestPoint}
+use Rattle.base_codes.specs.Code.{decoded}
 use Rattle.session.specs.declared.Session.{Session}
-use Rattle.schedule_writing.specs.Writing.{dayRefusal, totalRefusal, dayLevels, totalLevels}
+use Rattle.schedule_writing.specs.Writing.{dayWriteRefusal, totalWriteRefusal, dayLevels, totalLevels}
 use Rattle.schedule_inspection.specs.Inspecting.{Finding, refused, inspected}
 use Rattle.c_lists.specs.Lists.{isLong, pointsIn}
 use Rattle.c_storage.specs.Layout.{decoding}
@@ -15,8 +16,8 @@ use Rattle.c_schedules.specs.declared.Subject.the-variants.{Day, Total}
 
 -- the first refusal of writing a schedule for a day, or for the total, into a list that is n long
 abbrev pub refusalFor : Session → Subject → ℤ → ℕ
-refusalFor s (Day day) value = dayRefusal s day value (s .days)
-refusalFor s Total value = totalRefusal s value (s .days)
+refusalFor s (Day day) value = dayWriteRefusal s day value (s .days)
+refusalFor s Total value = totalWriteRefusal s value (s .days)
 
 -- the schedule's setpoint on each day
 abbrev pub setpointFor : Session → Subject → ℤ → ℕ → ℤ

@@ -2,7 +2,7 @@
 ghost use mathlib.Core.Path.{_≡_};
 ghost use lib.ListN.{length};
 ghost use Rattle.theory_lists.specs.Lent.{lentList};
-ghost use Rattle.session.specs.Showing.{Sane};
+ghost use Rattle.session.specs.Showing.{SessionInBounds};
 ghost use Rattle.schedule_inspection.specs.Inspecting.{finding};
 ghost use Rattle.c_lists.specs.Lists.{lentPoints};
 ghost use Rattle.c_storage.specs.Layout.{decoding};
@@ -11,6 +11,7 @@ use c_lists::points;
 use c_lists::put_points;
 use c_storage::SESSION_BYTES;
 use c_storage::decode;
+use limits::MOST_DAYS;
 use schedule_inspection::Inspection;
 use session::Session;
 
@@ -29,7 +30,7 @@ pub enum Subject {
 }
 
 fn write_for(session: Session, subject: Subject, value: i32, list: &mut [i16]) -> u8
-    requires { ⌜ Sane session × (length (now list) ≡ session .days) ⌝ }
+    requires { ⌜ SessionInBounds session × (length (now list) ≡ session .days) ⌝ }
     ensures { λ r. ⌜ r ≡ refusalFor session subject value ⌝ }
     ensures { λ r. ⌜ now (list .exit) ≡ lentList r (setpointFor session subject value) (session .days) (now (list .entry)) ⌝ }
 {
@@ -51,7 +52,7 @@ pub fn write(session: &[u8], subject: Subject, value: i32, list: &mut [u8]) -> u
     if list.len() != n * 2 {
         return 2;
     }
-    let mut schedule = [0i16; 512];
+    let mut schedule = [0i16; MOST_DAYS];
     let refusal = write_for(held, subject, value, &mut schedule[..n]);
     if refusal != 0 {
         return refusal;
@@ -109,7 +110,7 @@ fn judge(session: &[u8], list: &[u8]) -> Inspection
     if list.len() != n * 2 {
         return Inspection::WrongLength;
     }
-    let mut schedule = [0i16; 512];
+    let mut schedule = [0i16; MOST_DAYS];
     points(list, n, &mut schedule);
     schedule_inspection::inspect(held, &schedule[..n])
 }

@@ -9,18 +9,18 @@ use lib.Seq.{sets, length-take-le}
 use Rattle.theory_lists.specs.Written.{length-written}
 use Rattle.theory_lists.specs.Lent.{lentList, list-filled}
 use Rattle.base_codes.specs.Code.{on}
-use Rattle.session.specs.Showing.{Sane}
+use Rattle.session.specs.Showing.{SessionInBounds}
 use Rattle.session.specs.declared.Session.{Session}
 use Rattle.c_lists.specs.Lists.{pointBytes, lentPoints}
 use Rattle.c_lists.proofs.Laws.{lent-at, points-front, points-filled}
 use Rattle.c_storage.specs.Layout.{decoding}
-use Rattle.c_storage.proofs.Inverse.{decoding-sane}
+use Rattle.c_storage.proofs.Inverse.{decoding-in-bounds}
 
-pub held-sane : (b : List ℕ) {s : Session} → s ≡ decoding b → Sane s
-held-sane b e = rw e (decoding-sane b)
+pub held-in-bounds : (b : List ℕ) {s : Session} → s ≡ decoding b → SessionInBounds s
+held-in-bounds b e = rw e (decoding-in-bounds b)
 
 pub held-few : (b : List ℕ) {s : Session} → s ≡ decoding b → s .days ≤ 512
-held-few b e = held-sane b e .present .most
+held-few b e = held-in-bounds b e .present .most
 
 -- the scratch arrays before they are written
 abbrev pub blank : List ℕ

@@ -13,28 +13,28 @@ use Rattle.theory_lists.specs.Sum.{at}
 use Rattle.theory_lists.specs.Lent.{lentList}
 use Rattle.theory_lists.specs.Front.{inFront}
 use Rattle.base_codes.specs.Code.{on}
-use Rattle.session.specs.Showing.{Sane, shown, listTooShort, floorOn, ceilingOn}
+use Rattle.session.specs.Showing.{SessionInBounds, shown, listTooShort, floorOn, ceilingOn}
 use Rattle.session.specs.declared.Session.{Session}
 use Rattle.session.specs.declared.Shown.{Shown}
 use Rattle.session.proofs.Shows.{first-short, second-short}
-use Rattle.session_cuts.specs.declared.Told.{Told}
-use Rattle.session_cuts.specs.declared.Told.the-variants.{Known, Unknown}
-use Rattle.session_cutting.specs.Cutting.{earlier, afterCut, afterTold, changedDays, listAfter}
-use Rattle.session_cutting.proofs.Laws.{accepted-list, told-accepted, told-sane, Accepted}
+use Rattle.session_cuts.specs.declared.Numbered.{Numbered}
+use Rattle.session_cuts.specs.declared.Numbered.the-variants.{Known, Unknown}
+use Rattle.session_cutting.specs.Cutting.{earlyCutting, afterCut, afterNumbered, changedDays, listAfter}
+use Rattle.session_cutting.proofs.Laws.{accepted-list, numbered-accepted, numbered-in-bounds, Accepted}
 use Rattle.session_cutting.specs.declared.AfterCut.{AfterCut}
 use Rattle.session_cutting.specs.declared.CutAnswer.{CutAnswer}
 use Rattle.c_lists.specs.Lists.{pointBytes, cellBytes, lentPoints}
 use Rattle.c_lists.proofs.Laws.{cells-front, points-left}
 use Rattle.c_storage.specs.Layout.{sessionBytes, encoding, decoding}
-use Rattle.c_storage.proofs.Inverse.{decoding-sane}
-use Rattle.c_sessions.specs.Sessions.{cutAnswer, cutBytes, changedBytes, shownOver}
+use Rattle.c_storage.proofs.Inverse.{decoding-in-bounds}
+use Rattle.c_sessions.specs.Sessions.{cutAnswer, bytesCut, changedBytes, shownOver}
 use Rattle.c_sessions.proofs.Held.{held-few, blank, blanks, part-stored}
 
 -- ---- cutting
 
 -- of a list's length only whether it is long enough matters
-room-same : (s : Session) (t : Told) (a b : ℕ) → ltb a (s .days) ≡ ltb b (s .days) → afterTold s t a ≡ afterTold s t b
-unfolding afterTold afterCut earlier
+room-same : (s : Session) (t : Numbered) (a b : ℕ) → ltb a (s .days) ≡ ltb b (s .days) → afterNumbered s t a ≡ afterNumbered s t b
+unfolding afterNumbered afterCut earlyCutting
 room-same s (Known c) a b e = rw e refl
 room-same s Unknown a b e = refl
 
@@ -46,18 +46,18 @@ least-room n r h = go (decLt r n)
     go (no l) = le-ltb (min 512 r) n (omega arith) ∙ sym (le-ltb r n (omega arith))
 
 -- a cut with a list of at most 512 places
-pub cut-room : (b : List ℕ) (t : Told) {s : Session} {r : AfterCut} {room : ℕ} (list : ℕ) → s ≡ decoding b → room ≡ min 512 list
-    → r ≡ afterTold s t (length (take room blank)) → r ≡ afterTold (decoding b) t list
+pub cut-room : (b : List ℕ) (t : Numbered) {s : Session} {r : AfterCut} {room : ℕ} (list : ℕ) → s ≡ decoding b → room ≡ min 512 list
+    → r ≡ afterNumbered s t (length (take room blank)) → r ≡ afterNumbered (decoding b) t list
 cut-room b t {s} {r} {room} list d least e =
     let long = length-take-le room blank (omega (arith, length-replicate {A = ℕ} 512 0)) in
     rw (long, d, least, room-same (decoding b) t (min 512 list) list (least-room (decoding b .days) list (held-few b refl))) at e
 
-module _ (b : List ℕ) (t : Told) (size : ℕ) {r : AfterCut} (e : r ≡ afterTold (decoding b) t (size / 2)) where
-  pub cut-keeps : Sane (r .session)
-  cut-keeps = rw e (told-sane (decoding b) t (size / 2) (decoding-sane b))
+module _ (b : List ℕ) (t : Numbered) (size : ℕ) {r : AfterCut} (e : r ≡ afterNumbered (decoding b) t (size / 2)) where
+  pub cut-keeps : SessionInBounds (r .session)
+  cut-keeps = rw e (numbered-in-bounds (decoding b) t (size / 2) (decoding-in-bounds b))
 
   accepted : r .answer .refusal ≡ 0 → Accepted (decoding b) (size / 2) r
-  accepted z = rw e (told-accepted (decoding b) t (size / 2) (rw e at z))
+  accepted z = rw e (numbered-accepted (decoding b) t (size / 2) (rw e at z))
 
   -- there is room for the changed days
   pub cut-fits : r .answer .refusal ≡ 0 → (r .answer .changed ≤ 512) × (0 + r .answer .changed * 2 ≤ size)
@@ -70,28 +70,28 @@ front-still xs l rest k h =
     let behind = drop (length xs) l in
     List·getD-append (xs ++ behind) rest 0 k (omega (arith, length-append xs behind)) ∙ List·getD-append xs behind 0 k h
 
-module _ (b : List ℕ) (t : Told) (l : List ℕ) where
+module _ (b : List ℕ) (t : Numbered) (l : List ℕ) where
   -- what is given, and the session's bytes and the list afterwards
   abbrev Cuts : CutAnswer → List ℕ → List ℕ → Type 0
-  Cuts answer bytes list = (answer ≡ cutAnswer b t (length l)) × ((bytes ≡ cutBytes b t (length l)) × (list ≡ changedBytes b t l))
+  Cuts answer bytes list = (answer ≡ cutAnswer b t (length l)) × ((bytes ≡ bytesCut b t (length l)) × (list ≡ changedBytes b t l))
 
   pub cut-unread : (length b ≡ sessionBytes → ⊥) → Cuts (record { refusal = 2; changed = 0 }) b l
-  unfolding cutAnswer cutBytes changedBytes
+  unfolding cutAnswer bytesCut changedBytes
   cut-unread h = rw (ne-eqb (length b) sessionBytes h) (refl, (refl, refl))
 
-module _ (b : List ℕ) (t : Told) (l : List ℕ) (h : length b ≡ sessionBytes) {r : AfterCut} (e : r ≡ afterTold (decoding b) t (length l / 2)) where
+module _ (b : List ℕ) (t : Numbered) (l : List ℕ) (h : length b ≡ sessionBytes) {r : AfterCut} (e : r ≡ afterNumbered (decoding b) t (length l / 2)) where
   pub cut-refused : (r .answer .refusal ≡ 0 → ⊥) → (r .answer .refusal ≡ 8 → ⊥) → Cuts b t l (r .answer) b l
-  unfolding cutAnswer cutBytes changedBytes
+  unfolding cutAnswer bytesCut changedBytes
   cut-refused x y = rw (eq-eqb (length b) sessionBytes h, ← e, ne-eqb (r .answer .refusal) 0 x, ne-eqb (r .answer .refusal) 8 y) (refl, (refl, refl))
 
   pub cut-spent : r .answer .refusal ≡ 8 → {after : List ℕ} → after ≡ encoding (r .session) → Cuts b t l (r .answer) after l
-  unfolding cutAnswer cutBytes changedBytes
+  unfolding cutAnswer bytesCut changedBytes
   cut-spent z f = rw (eq-eqb (length b) sessionBytes h, ← e, z) (refl, (f, refl))
 
   -- the changed days stand at the front of the scratch array
   pub cut-listed : (front rest : List ℕ) {s : Session} {part after list : List ℕ} → r .answer .refusal ≡ 0 → s ≡ decoding b → part ≡ listAfter s r front
       → list ≡ sets l 0 (cellBytes (at (part ++ rest)) (r .answer .changed)) → after ≡ encoding (r .session) → Cuts b t l (r .answer) after list
-  unfolding cutAnswer cutBytes changedBytes
+  unfolding cutAnswer bytesCut changedBytes
   cut-listed front rest {s} {part} {after} {list} z d p f g =
       let days : List ℕ = changedDays (decoding b .days) (decoding b .present) (r .session .present) in
       let a = accepted b t (length l) e z in

@@ -12,11 +12,11 @@ use Rattle.theory_lists.specs.Front.{inFront}
 use Rattle.session.specs.Opening.{opened}
 use Rattle.session.specs.Showing.{shown, listTooShort}
 use Rattle.session.specs.declared.Shown.{Shown}
-use Rattle.session_cuts.specs.declared.Told.{Told}
-use Rattle.session_cutting.specs.Cutting.{afterTold, changedDays}
+use Rattle.session_cuts.specs.declared.Numbered.{Numbered}
+use Rattle.session_cutting.specs.Cutting.{afterNumbered, changedDays}
 use Rattle.session_cutting.specs.declared.CutAnswer.{CutAnswer}
 use Rattle.c_lists.specs.Lists.{cellBytes}
-use Rattle.c_lists.specs.Profiles.{lengthRefusal, profileOf}
+use Rattle.c_lists.specs.Profiles.{byteLengthRefusal, profileOf}
 use Rattle.c_storage.specs.Layout.{sessionBytes, encoding, decoding}
 
 abbrev pub isSession : List ℕ → Bool
@@ -26,28 +26,28 @@ isSession b = eqb (length b) sessionBytes
 
 unfoldable pub openRefusal : List ℕ → ℕ → List ℕ → List ℕ → List ℕ → ℤ → ℤ → ℕ
 openRefusal b n fs cs rs lo hi =
-    let lengths : ℕ = lengthRefusal n (length fs) (length cs) (length rs) in
+    let lengths : ℕ = byteLengthRefusal n (length fs) (length cs) (length rs) in
     cond (isSession b) (cond (eqb lengths 0) (opened (profileOf n fs cs rs lo hi) .refusal) lengths) 2
 
 -- the session's bytes afterwards: as they were beside a refusal
-unfoldable pub openBytes : List ℕ → ℕ → List ℕ → List ℕ → List ℕ → ℤ → ℤ → List ℕ
-openBytes b n fs cs rs lo hi = cond (eqb (openRefusal b n fs cs rs lo hi) 0) (encoding (opened (profileOf n fs cs rs lo hi) .session)) b
+unfoldable pub bytesOpened : List ℕ → ℕ → List ℕ → List ℕ → List ℕ → ℤ → ℤ → List ℕ
+bytesOpened b n fs cs rs lo hi = cond (eqb (openRefusal b n fs cs rs lo hi) 0) (encoding (opened (profileOf n fs cs rs lo hi) .session)) b
 
 -- ---- cutting, where the list for changed days has that many bytes
 
-unfoldable pub cutAnswer : List ℕ → Told → ℕ → CutAnswer
-cutAnswer b t list = cond (isSession b) (afterTold (decoding b) t (list / 2) .answer) (record { refusal = 2; changed = 0 })
+unfoldable pub cutAnswer : List ℕ → Numbered → ℕ → CutAnswer
+cutAnswer b t list = cond (isSession b) (afterNumbered (decoding b) t (list / 2) .answer) (record { refusal = 2; changed = 0 })
 
 -- the session's bytes afterwards: as they were beside a refusal other than 8
-unfoldable pub cutBytes : List ℕ → Told → ℕ → List ℕ
-cutBytes b t list =
+unfoldable pub bytesCut : List ℕ → Numbered → ℕ → List ℕ
+bytesCut b t list =
     let refusal : ℕ = cutAnswer b t list .refusal in
-    cond (eqb refusal 0 || eqb refusal 8) (encoding (afterTold (decoding b) t (list / 2) .session)) b
+    cond (eqb refusal 0 || eqb refusal 8) (encoding (afterNumbered (decoding b) t (list / 2) .session)) b
 
 -- the list afterwards: as it was beside a refusal, else with the changed days at its front
-unfoldable pub changedBytes : List ℕ → Told → List ℕ → List ℕ
+unfoldable pub changedBytes : List ℕ → Numbered → List ℕ → List ℕ
 changedBytes b t l =
-    let days : List ℕ = changedDays (decoding b .days) (decoding b .present) (afterTold (decoding b) t (length l / 2) .session .present) in
+    let days : List ℕ = changedDays (decoding b .days) (decoding b .present) (afterNumbered (decoding b) t (length l / 2) .session .present) in
     cond (eqb (cutAnswer b t (length l) .refusal) 0) (inFront (cellBytes (at days) (length days)) l) l
 
 -- ---- showing, with lists of that many bytes

@@ -1,14 +1,14 @@
 // A session's bytes, opened, cut and shown, as a caller in C hands them over.
 ghost use mathlib.Core.Path.{_≡_};
 ghost use lib.ListN.{length};
-ghost use Rattle.session_cuts.specs.Told.{told};
+ghost use Rattle.session_cuts.specs.Numbered.{numbered};
 ghost use Rattle.session.specs.Showing.{floorOn, ceilingOn};
 ghost use Rattle.session.specs.Opening.{opened};
 ghost use Rattle.c_lists.specs.Lists.{lentPoints};
-ghost use Rattle.c_lists.specs.Profiles.{lengthRefusal, profileOf};
+ghost use Rattle.c_lists.specs.Profiles.{byteLengthRefusal, profileOf};
 ghost use Rattle.c_storage.specs.Layout.{decoding};
-ghost use Rattle.c_sessions.specs.Sessions.{openRefusal, openBytes, cutAnswer, cutBytes, changedBytes, shownOver};
-use base_numbers::least;
+ghost use Rattle.c_sessions.specs.Sessions.{openRefusal, bytesOpened, cutAnswer, bytesCut, changedBytes, shownOver};
+use base_numbers::min;
 use c_lists::length_refusal;
 use c_lists::points;
 use c_lists::put_cells;
@@ -16,6 +16,7 @@ use c_lists::put_points;
 use c_storage::SESSION_BYTES;
 use c_storage::decode;
 use c_storage::encode;
+use limits::MOST_DAYS;
 use session::Opened;
 use session::Session;
 use session::Shown;
@@ -32,12 +33,12 @@ fn open_lists(
     lowest: i32,
     highest: i32,
 ) -> Opened
-    requires { ⌜ lengthRefusal days (length (now floors)) (length (now ceilings)) (length (now rises)) ≡ 0 ⌝ }
+    requires { ⌜ byteLengthRefusal days (length (now floors)) (length (now ceilings)) (length (now rises)) ≡ 0 ⌝ }
     ensures { λ r. ⌜ r ≡ opened (profileOf days (now (floors .entry)) (now (ceilings .entry)) (now (rises .entry)) lowest highest) ⌝ }
 {
-    let mut low = [0i16; 512];
-    let mut high = [0i16; 512];
-    let mut steps = [0i16; 512];
+    let mut low = [0i16; MOST_DAYS];
+    let mut high = [0i16; MOST_DAYS];
+    let mut steps = [0i16; MOST_DAYS];
     points(floors, days, &mut low);
     points(ceilings, days, &mut high);
     points(rises, days - 1, &mut steps);
@@ -62,7 +63,7 @@ pub fn open(
     highest: i32,
 ) -> u8
     ensures { λ r. ⌜ r ≡ openRefusal (now (session .entry)) days (now (floors .entry)) (now (ceilings .entry)) (now (rises .entry)) lowest highest ⌝ }
-    ensures { λ r. ⌜ now (session .exit) ≡ openBytes (now (session .entry)) days (now (floors .entry)) (now (ceilings .entry)) (now (rises .entry)) lowest highest ⌝ }
+    ensures { λ r. ⌜ now (session .exit) ≡ bytesOpened (now (session .entry)) days (now (floors .entry)) (now (ceilings .entry)) (now (rises .entry)) lowest highest ⌝ }
 {
     if session.len() != SESSION_BYTES {
         return 2;
@@ -82,9 +83,9 @@ pub fn open(
 // ---- cutting
 
 pub fn cut(session: &mut [u8], kind: usize, day: usize, value: i32, changed: &mut [u8]) -> CutAnswer
-    ensures { λ r. ⌜ r ≡ cutAnswer (now (session .entry)) (told kind day value) (length (now (changed .entry))) ⌝ }
-    ensures { λ r. ⌜ now (session .exit) ≡ cutBytes (now (session .entry)) (told kind day value) (length (now (changed .entry))) ⌝ }
-    ensures { λ r. ⌜ now (changed .exit) ≡ changedBytes (now (session .entry)) (told kind day value) (now (changed .entry)) ⌝ }
+    ensures { λ r. ⌜ r ≡ cutAnswer (now (session .entry)) (numbered kind day value) (length (now (changed .entry))) ⌝ }
+    ensures { λ r. ⌜ now (session .exit) ≡ bytesCut (now (session .entry)) (numbered kind day value) (length (now (changed .entry))) ⌝ }
+    ensures { λ r. ⌜ now (changed .exit) ≡ changedBytes (now (session .entry)) (numbered kind day value) (now (changed .entry)) ⌝ }
 {
     if session.len() != SESSION_BYTES {
         return CutAnswer {
@@ -92,9 +93,9 @@ pub fn cut(session: &mut [u8], kind: usize, day: usize, value: i32, changed: &mu
             changed: 0,
         };
     }
-    let mut list = [0u16; 512];
-    let room = least(512, changed.len() / 2);
-    let after = session_cutting::cut_told(decode(session), kind, day, value, &mut list[..room]);
+    let mut list = [0u16; MOST_DAYS];
+    let room = min(MOST_DAYS, changed.len() / 2);
+    let after = session_cutting::cut_numbered(decode(session), kind, day, value, &mut list[..room]);
     let answer = after.answer;
     if answer.refusal == 0 {
         put_cells(&list, answer.changed, 0, changed);
@@ -124,10 +125,10 @@ pub fn show(session: &[u8], floors: &mut [u8], ceilings: &mut [u8]) -> Shown
     }
     let held = decode(session);
     let n = held.days;
-    let mut low = [0i16; 512];
-    let mut high = [0i16; 512];
-    let low_room = least(512, floors.len() / 2);
-    let high_room = least(512, ceilings.len() / 2);
+    let mut low = [0i16; MOST_DAYS];
+    let mut high = [0i16; MOST_DAYS];
+    let low_room = min(MOST_DAYS, floors.len() / 2);
+    let high_room = min(MOST_DAYS, ceilings.len() / 2);
     let shown = held.show(&mut low[..low_room], &mut high[..high_room]);
     if shown.refusal != 0 {
         return shown;

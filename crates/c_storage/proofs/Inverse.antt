@@ -8,9 +8,10 @@ use native.Mathlib.Decide.{decLt}
 use lib.Dec.{eqb}
 use lib.ListN.{length, length-append, replicate, length-replicate, getD-replicate}
 use lib.Seq.{ext-getD}
+use Rattle.limits.specs.Limits.{lowestTotal, highestTotal}
 use Rattle.theory_lists.specs.Sum.{at}
 use Rattle.theory_lists.specs.Written.{length-written, written-below, written-past}
-use Rattle.base_codes.specs.Code.{lowestTotal, highestTotal, within, code, decoded}
+use Rattle.base_codes.specs.Code.{within, code, decoded}
 use Rattle.base_codes.proofs.Laws.{total-less, decoded-less, within-yes, code-decoded, total-most}
 use Rattle.theory_method.specs.Filter.{zeros}
 use Rattle.base_little_endian.specs.Fields.{u16At, i32At, u16Bytes, i32Bytes}
@@ -25,7 +26,7 @@ use Rattle.base_codes.proofs.Casts.{less-fits}
 use Rattle.base_little_endian.proofs.Laws.{u16-length, i32-length, u16-read, i32-read}
 use Rattle.c_lists.specs.Lists.{cellBytes}
 use Rattle.c_storage.proofs.Lengths.{totals-length, block-length}
-use Rattle.c_storage.specs.Storing.{DecodingSane, Padded, DecodingEncoding}
+use Rattle.c_storage.specs.Storing.{DecodingInBounds, Padded, DecodingEncoding}
 use Rattle.c_storage.specs.Layout.{encoding, blockBytes, totalBytes, cellsAt, totalAt, rangesAt, daysAt, decoding}
 
 -- ---- in bounds
@@ -62,9 +63,9 @@ fits b totals place =
       highest = total-small b (totals + 4);
     }
 
-pub decoding-sane : DecodingSane
+pub decoding-in-bounds : DecodingInBounds
 unfolding decoding
-decoding-sane b = record { opened = fits b 4 1044; present = fits b 12 3092 }
+decoding-in-bounds b = record { opened = fits b 4 1044; present = fits b 12 3092 }
 
 -- ---- what was encoded
 
@@ -178,14 +179,14 @@ module _ (s : Session) where
 pub decoding-encoding : DecodingEncoding
 unfolding decoding
 decoding-encoding s h =
-    let z = h .sane .opened in
+    let z = h .bounds .opened in
     let l = laid s (z .most) (part-all (encoding s)) in
     let days : daysAt (encoding s) ≡ s .days = omega (arith, u16-read (s .days) (l .at0), z .some, z .most) in
     rw (
       days,
       cells-read 4000 (s .rises) (z .most) (z .rises) (z .rise) (h .rises) (l .at20),
       ranges-read (s .rises) (s .days) (s .opened) z (h .opened) (l .at4) (l .at1044),
-      ranges-read (s .rises) (s .days) (s .present) (h .sane .present) (h .present) (l .at12) (l .at3092),
+      ranges-read (s .rises) (s .days) (s .present) (h .bounds .present) (h .present) (l .at12) (l .at3092),
       mark-read (s .spent) (u16-read (cond (s .spent) 1 0) (l .at2)),
     )
     refl

@@ -6,9 +6,10 @@ use mathlib.Core.List.{List, _++_}
 use Prim.Native.Nat.{ℕ, _+_, _-_, _*_, min, max}
 use lib.Dec.{eqb}
 use lib.ListN.{replicate}
+use Rattle.limits.specs.Limits.{mostDays, lowestTotal, highestTotal, highestLevel, highestRiseCode}
 use Rattle.theory_lists.specs.Sum.{at}
 use Rattle.theory_lists.specs.Written.{written}
-use Rattle.base_codes.specs.Code.{lowestTotal, highestTotal, within, code, decoded}
+use Rattle.base_codes.specs.Code.{within, code, decoded}
 use Rattle.theory_method.specs.Filter.{zeros}
 use Rattle.base_little_endian.specs.Fields.{u16At, i32At, u16Bytes, i32Bytes}
 use Rattle.c_lists.specs.Lists.{cellBytes}
@@ -24,7 +25,7 @@ unfoldable pub totalBytes : ℕ → ℕ → List ℕ
 totalBytes least most = i32Bytes (decoded lowestTotal least) ++ i32Bytes (decoded lowestTotal most)
 
 unfoldable pub blockBytes : List ℕ → ℕ → List ℕ
-blockBytes cells n = cellBytes (at cells) n ++ replicate ((512 - n) * 2) 0
+blockBytes cells n = cellBytes (at cells) n ++ replicate ((mostDays - n) * 2) 0
 
 unfoldable pub encoding : Session → List ℕ
 encoding s =
@@ -46,16 +47,16 @@ totalAt b place = cond (within lowestTotal highestTotal (i32At b place)) (code l
 
 unfoldable pub rangesAt : List ℕ → ℕ → ℕ → ℕ → Ranges
 rangesAt b n totals place =
-    record { floors = cellsAt b n 5000 place; ceilings = cellsAt b n 5000 (place + 1024); least = totalAt b totals; most = totalAt b (totals + 4) }
+    record { floors = cellsAt b n highestLevel place; ceilings = cellsAt b n highestLevel (place + 1024); least = totalAt b totals; most = totalAt b (totals + 4) }
 
 abbrev pub daysAt : List ℕ → ℕ
-daysAt b = max 1 (min 512 (u16At b 0))
+daysAt b = max 1 (min mostDays (u16At b 0))
 
 unfoldable pub decoding : List ℕ → Session
 decoding b =
     record {
       days = daysAt b;
-      rises = cellsAt b (daysAt b) 4000 20;
+      rises = cellsAt b (daysAt b) highestRiseCode 20;
       opened = rangesAt b (daysAt b) 4 1044;
       present = rangesAt b (daysAt b) 12 3092;
       spent = not (eqb (u16At b 2) 0);

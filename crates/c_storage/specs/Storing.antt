@@ -2,22 +2,23 @@
 use mathlib.Core.Path.{_≡_}
 use mathlib.Core.List.{List}
 use Prim.Native.Nat.{ℕ, _≤_, _<_}
+use Rattle.limits.specs.Limits.{mostDays}
 use Rattle.theory_lists.specs.Sum.{at}
-use Rattle.session.specs.Showing.{Sane}
+use Rattle.session.specs.Showing.{SessionInBounds}
 use Rattle.session.specs.declared.Session.{Session}
 use Rattle.c_storage.specs.Layout.{encoding, decoding}
 
 -- whatever the bytes, the session's numbers are in bounds
-abbrev pub DecodingSane : Type 0
-DecodingSane = (b : List ℕ) → Sane (decoding b)
+abbrev pub DecodingInBounds : Type 0
+DecodingInBounds = (b : List ℕ) → SessionInBounds (decoding b)
 
 -- cells past the last day are 0
 abbrev pub Padded : ℕ → List ℕ → Type 0
-Padded n cells = (k : ℕ) → n ≤ k → k < 512 → at cells k ≡ 0
+Padded n cells = (k : ℕ) → n ≤ k → k < mostDays → at cells k ≡ 0
 
 -- a session that encoding keeps: its numbers are in bounds, and past the last day stands 0
 pub record Storable (s : Session) : Type 0 where
-  pub sane : Sane s
+  pub bounds : SessionInBounds s
   pub rises : Padded (s .days) (s .rises)
   pub opened : Padded (s .days) (s .opened .floors) × Padded (s .days) (s .opened .ceilings)
   pub present : Padded (s .days) (s .present .floors) × Padded (s .days) (s .present .ceilings)

@@ -5,22 +5,29 @@ ghost use mathlib.Core.List.{_++_};
 ghost use Prim.Native.Nat.{_+_, _-_, _*_, _≤_, min};
 ghost use lib.ListN.{length, replicate};
 ghost use lib.Seq.{sets};
+ghost use Rattle.limits.specs.Limits.{mostDays, highestTotalCode};
 ghost use Rattle.theory_lists.specs.Written.{written};
 ghost use Rattle.base_little_endian.specs.Fields.{u16At};
-ghost use Rattle.session.specs.Showing.{Sane};
+ghost use Rattle.session.specs.Showing.{SessionInBounds};
 ghost use Rattle.c_storage.specs.Layout.{sessionBytes, totalBytes, blockBytes, encoding, totalAt, rangesAt, decoding};
 use base_codes::Coded;
 use base_little_endian::i32_at;
 use base_little_endian::put_i32;
 use base_little_endian::put_u16;
 use base_little_endian::u16_at;
-use base_numbers::greatest;
-use base_numbers::least;
+use base_numbers::max;
+use base_numbers::min;
 use base_numbers::narrow;
 use base_numbers::wide;
 use c_lists::put_cells;
+use limits::MOST_DAYS;
 use session::Ranges;
 use session::Session;
+
+// As cells of 2 bytes.
+const MOST_LEVEL: u16 = limits::HIGHEST_LEVEL as u16;
+
+const MOST_RISE_CODE: u16 = limits::HIGHEST_RISE_CODE as u16;
 
 pub const SESSION_BYTES: usize = 5140;
 
@@ -33,8 +40,8 @@ fn at_most(x: u16, most: u16) -> u16
 }
 
 // The first n cells from a place on.
-fn cells(bytes: &[u8], place: usize, n: usize, most: u16, out: &mut [u16; 512])
-    requires { ⌜ (n ≤ 512) × (place + n * 2 ≤ length (now bytes)) ⌝ }
+fn cells(bytes: &[u8], place: usize, n: usize, most: u16, out: &mut [u16; MOST_DAYS])
+    requires { ⌜ (n ≤ mostDays) × (place + n * 2 ≤ length (now bytes)) ⌝ }
     ensures { λ r. ⌜ now (out .exit) ≡ written (λ k. min (u16At (now (bytes .entry)) (place + k * 2)) most) n (now (out .entry)) ⌝ }
 {
     let mut k = 0;
@@ -60,13 +67,13 @@ fn total(bytes: &[u8], place: usize) -> usize
 }
 
 fn ranges(bytes: &[u8], n: usize, totals: usize, place: usize) -> Ranges
-    requires { ⌜ (n ≤ 512) × (totals + 8 ≤ length (now bytes)) × (place + 2048 ≤ length (now bytes)) ⌝ }
+    requires { ⌜ (n ≤ mostDays) × (totals + 8 ≤ length (now bytes)) × (place + 2048 ≤ length (now bytes)) ⌝ }
     ensures { λ r. ⌜ r ≡ rangesAt (now (bytes .entry)) n totals place ⌝ }
 {
-    let mut floors = [0u16; 512];
-    let mut ceilings = [0u16; 512];
-    cells(bytes, place, n, 5000, &mut floors);
-    cells(bytes, place + 1024, n, 5000, &mut ceilings);
+    let mut floors = [0u16; MOST_DAYS];
+    let mut ceilings = [0u16; MOST_DAYS];
+    cells(bytes, place, n, MOST_LEVEL, &mut floors);
+    cells(bytes, place + 1024, n, MOST_LEVEL, &mut ceilings);
     Ranges {
         floors,
         ceilings,
@@ -79,9 +86,9 @@ pub fn decode(bytes: &[u8]) -> Session
     requires { ⌜ length (now bytes) ≡ sessionBytes ⌝ }
     ensures { λ r. ⌜ r ≡ decoding (now (bytes .entry)) ⌝ }
 {
-    let days = greatest(1, least(Session::MOST_DAYS, wide(u16_at(bytes, 0))));
-    let mut rises = [0u16; 512];
-    cells(bytes, 20, days, 4000, &mut rises);
+    let days = max(1, min(Session::MOST_DAYS, wide(u16_at(bytes, 0))));
+    let mut rises = [0u16; MOST_DAYS];
+    cells(bytes, 20, days, MOST_RISE_CODE, &mut rises);
     let opened = ranges(bytes, days, 4, 1044);
     let present = ranges(bytes, days, 12, 3092);
     Session {
@@ -102,7 +109,7 @@ fn mark(spent: bool) -> u16
 }
 
 fn put_totals(least: usize, most: usize, place: usize, out: &mut [u8])
-    requires { ⌜ (least ≤ 2560000) × (most ≤ 2560000) × (place + 8 ≤ length (now out)) ⌝ }
+    requires { ⌜ (least ≤ highestTotalCode) × (most ≤ highestTotalCode) × (place + 8 ≤ length (now out)) ⌝ }
     ensures { λ r. ⌜ now (out .exit) ≡ sets (now (out .entry)) place (totalBytes least most) ⌝ }
 {
     put_i32(out, place, base_codes::decode(least, Session::LOWEST_TOTAL));
@@ -125,8 +132,8 @@ fn put_zeros(out: &mut [u8], from: usize, to: usize)
 }
 
 // The cells of n days, and 0 past the last.
-fn put_block(cells: &[u16; 512], n: usize, place: usize, out: &mut [u8])
-    requires { ⌜ (n ≤ 512) × (place + 1024 ≤ length (now out)) ⌝ }
+fn put_block(cells: &[u16; MOST_DAYS], n: usize, place: usize, out: &mut [u8])
+    requires { ⌜ (n ≤ mostDays) × (place + 1024 ≤ length (now out)) ⌝ }
     ensures { λ r. ⌜ now (out .exit) ≡ sets (now (out .entry)) place (blockBytes (now (cells .entry)) n) ⌝ }
 {
     put_cells(cells, n, place, out);
@@ -134,7 +141,7 @@ fn put_block(cells: &[u16; 512], n: usize, place: usize, out: &mut [u8])
 }
 
 fn put_ranges(ranges: Ranges, n: usize, place: usize, out: &mut [u8])
-    requires { ⌜ (n ≤ 512) × (place + 2048 ≤ length (now out)) ⌝ }
+    requires { ⌜ (n ≤ mostDays) × (place + 2048 ≤ length (now out)) ⌝ }
     ensures { λ r. ⌜ now (out .exit) ≡ sets (now (out .entry)) place (blockBytes (ranges .floors) n ++ blockBytes (ranges .ceilings) n) ⌝ }
 {
     let floors = ranges.floors;
@@ -144,7 +151,7 @@ fn put_ranges(ranges: Ranges, n: usize, place: usize, out: &mut [u8])
 }
 
 pub fn encode(session: Session, out: &mut [u8])
-    requires { ⌜ Sane session × (length (now out) ≡ sessionBytes) ⌝ }
+    requires { ⌜ SessionInBounds session × (length (now out) ≡ sessionBytes) ⌝ }
     ensures { λ r. ⌜ now (out .exit) ≡ encoding session ⌝ }
 {
     let n = session.days;

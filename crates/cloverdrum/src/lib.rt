@@ -4,14 +4,14 @@ ghost use mathlib.Core.Path.{_≡_};
 ghost use mathlib.Core.Bool.{cond};
 ghost use Prim.Native.Nat.{_-_};
 ghost use lib.ListN.{length};
-ghost use Rattle.session_cuts.specs.Told.{told};
+ghost use Rattle.session_cuts.specs.Numbered.{numbered};
 ghost use Rattle.session.specs.Showing.{floorOn, ceilingOn};
 ghost use Rattle.file_format.specs.Format.{dayCount, floorAt, ceilingAt, riseAt};
 ghost use Rattle.c_lists.specs.Lists.{lentPoints};
 ghost use Rattle.c_storage.specs.Layout.{sessionBytes, decoding};
 ghost use Rattle.c_files.specs.Reading.{readInto, cutsLent};
 ghost use Rattle.c_files.specs.Writing.{writeOver, outputOver};
-ghost use Rattle.c_sessions.specs.Sessions.{openRefusal, openBytes, cutAnswer, cutBytes, changedBytes, shownOver};
+ghost use Rattle.c_sessions.specs.Sessions.{openRefusal, bytesOpened, cutAnswer, bytesCut, changedBytes, shownOver};
 ghost use Rattle.c_schedules.specs.Schedules.{setpointFor, writeRefusal, inspectedOver};
 ghost use Rattle.c_schedules.specs.declared.Subject.the-variants.{Day, Total};
 use c_schedules::Subject;
@@ -38,7 +38,7 @@ pub extern "C" fn cloverdrum_open(
     total_ceiling: i32,
 ) -> u8
     ensures { λ r. ⌜ r ≡ openRefusal (now (session .entry)) days (now (floors .entry)) (now (ceilings .entry)) (now (rises .entry)) «total_floor» «total_ceiling» ⌝ }
-    ensures { λ r. ⌜ now (session .exit) ≡ openBytes (now (session .entry)) days (now (floors .entry)) (now (ceilings .entry)) (now (rises .entry)) «total_floor» «total_ceiling» ⌝ }
+    ensures { λ r. ⌜ now (session .exit) ≡ bytesOpened (now (session .entry)) days (now (floors .entry)) (now (ceilings .entry)) (now (rises .entry)) «total_floor» «total_ceiling» ⌝ }
 {
     c_sessions::open(
         session,
@@ -62,10 +62,10 @@ pub extern "C" fn cloverdrum_cut(
     changed: &mut [u8],
     changed_days: &mut usize,
 ) -> u8
-    ensures { λ r. ⌜ r ≡ cutAnswer (now (session .entry)) (told kind day value) (length (now (changed .entry))) .refusal ⌝ }
-    ensures { λ r. ⌜ now (session .exit) ≡ cutBytes (now (session .entry)) (told kind day value) (length (now (changed .entry))) ⌝ }
-    ensures { λ r. ⌜ now (changed .exit) ≡ changedBytes (now (session .entry)) (told kind day value) (now (changed .entry)) ⌝ }
-    ensures { λ r. ⌜ now («changed_days» .exit) ≡ cutAnswer (now (session .entry)) (told kind day value) (length (now (changed .entry))) .changed ⌝ }
+    ensures { λ r. ⌜ r ≡ cutAnswer (now (session .entry)) (numbered kind day value) (length (now (changed .entry))) .refusal ⌝ }
+    ensures { λ r. ⌜ now (session .exit) ≡ bytesCut (now (session .entry)) (numbered kind day value) (length (now (changed .entry))) ⌝ }
+    ensures { λ r. ⌜ now (changed .exit) ≡ changedBytes (now (session .entry)) (numbered kind day value) (now (changed .entry)) ⌝ }
+    ensures { λ r. ⌜ now («changed_days» .exit) ≡ cutAnswer (now (session .entry)) (numbered kind day value) (length (now (changed .entry))) .changed ⌝ }
 {
     let answer = c_sessions::cut(session, kind, day, value, changed);
     *changed_days = answer.changed;

@@ -11,8 +11,8 @@ use Rattle.theory_lists.specs.First.{firstWhere}
 use Rattle.theory_lists.specs.Checks.{cond-zero}
 use Rattle.base_little_endian.specs.Fields.{u16At}
 use Rattle.base_little_endian.proofs.Laws.{zero-field}
-use Rattle.file_format.specs.Format.{dayOffset, fileLength, dayCount, cutCount, daysOffset, cutsOffset, toldAt}
-use Rattle.file_format.specs.Reading.{badCounts, badLayout, badFields, badCut, earlier}
+use Rattle.file_format.specs.Format.{dayOffset, fileLength, dayCount, cutCount, daysOffset, cutsOffset, numberedAt}
+use Rattle.file_format.specs.Reading.{badCounts, badLayout, badFields, badCut, earlyReading}
 use Rattle.file_format.proofs.Taken.{counted, laid}
 
 -- ---- counts_refusal
@@ -59,7 +59,7 @@ abbrev fields : List ℕ → ℕ
 fields b = cond (badFields b) 12 0
 
 module _ (b : List ℕ) {n : ℕ} (en : n ≡ dayCount b) where
-  pub cut-bad : {m f : ℕ} → m ≡ cutCount b → f ≡ firstWhere (λ j. badCut (toldAt b (dayOffset n + j * 8))) m → f < m → 12 ≡ fields b
+  pub cut-bad : {m f : ℕ} → m ≡ cutCount b → f ≡ firstWhere (λ j. badCut (numberedAt b (dayOffset n + j * 8))) m → f < m → 12 ≡ fields b
   cut-bad {m} {f} em ef h = rw (← en, ← em, ← ef, lt-ltb f m h, or-true)
 
   module _ (some : 0 < n) {r : ℕ} (er : r ≡ u16At b (dayOffset n - 2)) where
@@ -69,7 +69,7 @@ module _ (b : List ℕ) {n : ℕ} (en : n ≡ dayCount b) where
     pub rise-left : (r ≡ 0 → ⊥) → 12 ≡ fields b
     rise-left h = rw (← en, zero-field b (dayOffset (n - 1) + 4), ← last-rise, ne-eqb r 0 h)
 
-    pub fields-taken : r ≡ 0 → {m f : ℕ} → m ≡ cutCount b → f ≡ firstWhere (λ j. badCut (toldAt b (dayOffset n + j * 8))) m → m ≤ f → 0 ≡ fields b
+    pub fields-taken : r ≡ 0 → {m f : ℕ} → m ≡ cutCount b → f ≡ firstWhere (λ j. badCut (numberedAt b (dayOffset n + j * 8))) m → m ≤ f → 0 ≡ fields b
     fields-taken hr {m} {f} em ef h = rw (← en, ← em, ← ef, zero-field b (dayOffset (n - 1) + 4), ← last-rise, eq-eqb r 0 hr, le-ltb f m h)
 
 -- ---- file_refusal
@@ -79,16 +79,16 @@ refuses true m e h = refl
 refuses false m e h = absurd (h e)
 
 module _ (b : List ℕ) where
-  pub no-header : length b < 16 → 11 ≡ earlier b
-  unfolding earlier
+  pub no-header : length b < 16 → 11 ≡ earlyReading b
+  unfolding earlyReading
   no-header h = rw (lt-ltb (length b) 16 h)
 
   module _ (long : 16 ≤ length b) {n m : ℕ} (en : n ≡ dayCount b) (em : m ≡ cutCount b) {r : ℕ} (er : r ≡ counts n m) where
     by-counts : r ≡ cond (badCounts b) 1 0
     by-counts = rw (← en, ← em) er
 
-    pub counts-refused : (r ≡ 0 → ⊥) → 1 ≡ earlier b
-    unfolding earlier
+    pub counts-refused : (r ≡ 0 → ⊥) → 1 ≡ earlyReading b
+    unfolding earlyReading
     counts-refused h = rw (le-ltb (length b) 16 long, refuses (badCounts b) 1 by-counts h)
 
     module _ (none : r ≡ 0) where
@@ -99,8 +99,8 @@ module _ (b : List ℕ) where
       counted-here = counted b counts-good
 
       module _ {s : ℕ} (es : s ≡ layout b) where
-        pub layout-refused : (s ≡ 0 → ⊥) → 11 ≡ earlier b
-        unfolding earlier
+        pub layout-refused : (s ≡ 0 → ⊥) → 11 ≡ earlyReading b
+        unfolding earlyReading
         layout-refused h = rw (le-ltb (length b) 16 long, counts-good, refuses (badLayout b) 11 es h)
 
         module _ (clear : s ≡ 0) where
@@ -110,6 +110,6 @@ module _ (b : List ℕ) where
           pub whole-here : fileLength n m ≡ length b
           whole-here = rw (en, em) (sym (laid b layout-good .2))
 
-          pub fields-last : {t : ℕ} → t ≡ fields b → t ≡ earlier b
-          unfolding earlier
+          pub fields-last : {t : ℕ} → t ≡ fields b → t ≡ earlyReading b
+          unfolding earlyReading
           fields-last e = rw (le-ltb (length b) 16 long, counts-good, layout-good) e

@@ -3,12 +3,14 @@ ghost use mathlib.Core.Path.{_≡_};
 ghost use Prim.Native.Nat.{_+_, _-_, _≤_, _<_};
 ghost use lib.ListN.{length, set};
 ghost use Rattle.theory_lists.specs.Written.{written};
-ghost use Rattle.file_format.specs.Format.{dayOffset, floorAt, ceilingAt, riseAt};
+ghost use Rattle.file_format.specs.Format.{dayLength, dayOffset, floorAt, ceilingAt, riseAt};
 ghost use Rattle.file_days.specs.Days.{dayAt, stepOf, takenAt};
 use base_little_endian::i16_at;
+use file_format::DAY_BYTES;
+use file_format::HEADER_BYTES;
 
 // Where the first day begins.
-const DAYS_OFFSET: usize = 16;
+const DAYS_OFFSET: usize = HEADER_BYTES;
 
 // A day's floor and ceiling, and the rise to the next day.
 struct Day {
@@ -35,7 +37,7 @@ struct DayStep<'a> {
 }
 
 fn day_at(bytes: &[u8], at: usize) -> Day
-    requires { ⌜ at + 6 ≤ length (now bytes) ⌝ }
+    requires { ⌜ at + dayLength ≤ length (now bytes) ⌝ }
     ensures { λ r. ⌜ r ≡ dayAt (now (bytes .entry)) at ⌝ }
 {
     let floor = i16_at(bytes, at);
@@ -50,7 +52,7 @@ fn day_at(bytes: &[u8], at: usize) -> Day
 
 // The next day, and the reader moved on past it.
 fn next<'a>(r: DayReader<'a>) -> DayStep<'a>
-    requires { ⌜ r .at + 6 ≤ length (now (r .bytes)) ⌝ }
+    requires { ⌜ r .at + dayLength ≤ length (now (r .bytes)) ⌝ }
     ensures { λ s. ⌜ s ≡ stepOf (r .entry) ⌝ }
 {
     let bytes = r.bytes;
@@ -58,13 +60,16 @@ fn next<'a>(r: DayReader<'a>) -> DayStep<'a>
     let day = day_at(bytes, at);
     DayStep {
         day,
-        next: DayReader { bytes, at: at + 6 },
+        next: DayReader {
+            bytes,
+            at: at + DAY_BYTES,
+        },
     }
 }
 
 // The day that begins at a place, and where its reader says that the next begins. Callers see no reader.
 fn day_from(bytes: &[u8], at: usize) -> Taken
-    requires { ⌜ at + 6 ≤ length (now bytes) ⌝ }
+    requires { ⌜ at + dayLength ≤ length (now bytes) ⌝ }
     ensures { λ r. ⌜ r ≡ takenAt (now (bytes .entry)) at ⌝ }
 {
     let step = next(DayReader { bytes, at });
@@ -94,8 +99,8 @@ fn store_day(
     ceilings: &mut [i16],
     rises: &mut [i16],
 ) -> usize
-    requires { ⌜ (at + 6 ≤ length (now bytes)) × (k < length (now floors)) × (k < length (now ceilings)) × (k < length (now rises)) ⌝ }
-    ensures { λ r. ⌜ r ≡ at + 6 ⌝ }
+    requires { ⌜ (at + dayLength ≤ length (now bytes)) × (k < length (now floors)) × (k < length (now ceilings)) × (k < length (now rises)) ⌝ }
+    ensures { λ r. ⌜ r ≡ at + dayLength ⌝ }
     ensures { λ r. ⌜ now (floors .exit) ≡ set (now (floors .entry)) k (dayAt (now (bytes .entry)) at .floor) ⌝ }
     ensures { λ r. ⌜ now (ceilings .exit) ≡ set (now (ceilings .entry)) k (dayAt (now (bytes .entry)) at .ceiling) ⌝ }
     ensures { λ r. ⌜ now (rises .exit) ≡ set (now (rises .entry)) k (dayAt (now (bytes .entry)) at .rise) ⌝ }

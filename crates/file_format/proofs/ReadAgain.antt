@@ -11,11 +11,12 @@ use borrow.Author.Tests.{ltb-false}
 use mir.Syntax.{Width, w16, w32}
 use mir.Val.{SFits, hbits}
 use mir.Facts.{sfits-widen}
+use Rattle.limits.specs.Limits.{lowestPoint, highestPoint, lowestRise, highestRise, lowestTotal, highestTotal}
 use Rattle.theory_lists.specs.Checks.{cond-zero, then-zero}
 use Rattle.theory_lists.specs.First.{nonzero-none}
 use Rattle.theory_lists.specs.ListOf.{listOf, listOf-all}
 use Rattle.theory_lists.specs.Part.{part-all}
-use Rattle.base_codes.specs.Code.{lowestPoint, highestPoint, lowestRise, highestRise, lowestTotal, highestTotal, within, code, on}
+use Rattle.base_codes.specs.Code.{within, code, on}
 use Rattle.base_codes.proofs.Offset.{Less}
 use Rattle.base_codes.proofs.Laws.{point-less, rise-less, total-less, within-less, code-most}
 use Rattle.base_codes.proofs.Casts.{less-fits}
@@ -26,12 +27,12 @@ use Rattle.session.specs.Opening as Opening
 use Rattle.session.proofs.Entered.{Entered, entered}
 use Rattle.session_cuts.specs.declared.Cut.{Cut}
 use Rattle.session_cuts.specs.declared.Cut.the-variants.{DayFloor, DayCeiling, TotalFloor, TotalCeiling}
-use Rattle.session_cuts.specs.declared.Told.the-variants.{Known}
-use Rattle.session_cuts.specs.Told.{told}
+use Rattle.session_cuts.specs.declared.Numbered.the-variants.{Known}
+use Rattle.session_cuts.specs.Numbered.{numbered}
 use Rattle.session_cuts.specs.Sheet.{cutOn, kindOf, dayOf, valueOf}
 use Rattle.session_cutting.specs.Cutting.{malformed}
 use Rattle.session_cutting.proofs.Laws.{day-formed, total-formed}
-use Rattle.file_format.specs.Format.{dayOffset, dayCount, cutCount, totalFloor, totalCeiling, floorAt, ceilingAt, riseAt, cutAt, known, profileIn, cutsIn, file}
+use Rattle.file_format.specs.Format.{dayOffset, dayCount, cutCount, totalFloorAt, totalCeilingAt, floorAt, ceilingAt, riseAt, cutAt, known, profileIn, cutsIn, file}
 use Rattle.file_format.specs.Reading.{misplaced}
 use Rattle.file_format.specs.Writing as Writing
 use Rattle.file_format.proofs.Parts.{Laid, laid, length-file, Header, header-fields, Day, day-fields, cut-fields}
@@ -62,24 +63,24 @@ placed n (DayCeiling day value) e = refl
 placed n (TotalFloor day value) e = rw (total-formed day value e .0) refl
 placed n (TotalCeiling day value) e = rw (total-formed day value e .0) refl
 
-told-back : (c : Cut) → told (kindOf c) (dayOf c) (valueOf c) ≡ Known c
-unfolding told
-told-back (DayFloor day value) = refl
-told-back (DayCeiling day value) = refl
-told-back (TotalFloor day value) = refl
-told-back (TotalCeiling day value) = refl
+numbered-back : (c : Cut) → numbered (kindOf c) (dayOf c) (valueOf c) ≡ Known c
+unfolding numbered
+numbered-back (DayFloor day value) = refl
+numbered-back (DayCeiling day value) = refl
+numbered-back (TotalFloor day value) = refl
+numbered-back (TotalCeiling day value) = refl
 
 -- what the writer's checks let pass
 pub record Passed (p : Profile) (cs : List Cut) : Type 0 where
   pub fewCuts : length cs ≤ 512
-  pub early : Opening.earlier p ≡ 0
+  pub early : Opening.earlyOpening p ≡ 0
   pub formed : (j : ℕ) → j < length cs → malformed (p .days) (cutOn cs j) ≡ 0
 
-pub passed : (p : Profile) (cs : List Cut) → Writing.earlier p cs ≡ 0 → Passed p cs
-unfolding Writing.earlier
+pub passed : (p : Profile) (cs : List Cut) → Writing.earlyWriting p cs ≡ 0 → Passed p cs
+unfolding Writing.earlyWriting
 passed p cs e =
     let c1 = cond-zero (ltb 512 (length cs)) 0 _ e in
-    let c2 = then-zero (Opening.earlier p) _ (c1 .1) in
+    let c2 = then-zero (Opening.earlyOpening p) _ (c1 .1) in
     record {
       fewCuts = ltb-false 512 (length cs) (c1 .0);
       early = c2 .0;
@@ -122,7 +123,7 @@ module _ (p : Profile) (cs : List Cut) (w : Passed p cs) where
   cut j h =
       let f = cut-fields (cutOn cs j) (parts .cut j h) in
       rw (days, u16-read (kindOf (cutOn cs j)) (f .kind), u16-read (dayOf (cutOn cs j)) (f .day), i32-read (valueOf (cutOn cs j)) (value-fits (p .days) (cutOn cs j) (w .formed j h)) (f .value))
-      (told-back (cutOn cs j))
+      (numbered-back (cutOn cs j))
 
   last : u16At b (dayOffset (p .days - 1) + 4) ≡ 0
   last =
@@ -149,8 +150,8 @@ module _ (p : Profile) (cs : List Cut) (w : Passed p cs) where
       let floors : listOf (floorAt b) (p .days) ≡ p .floors = listOf-all (floorAt b) (pos 0) (p .days) (p .floors) (entry .sized .floors) floor in
       let ceilings : listOf (ceilingAt b) (p .days) ≡ p .ceilings = listOf-all (ceilingAt b) (pos 0) (p .days) (p .ceilings) (entry .sized .ceilings) ceiling in
       let rises : listOf (riseAt b) (p .days - 1) ≡ p .rises = listOf-all (riseAt b) (pos 0) (p .days - 1) (p .rises) (entry .sized .rises) rise in
-      let lowest : totalFloor b ≡ p .lowest = i32-read (p .lowest) (total-fits (p .lowest) (entry .lowest)) (head .lowest) in
-      let highest : totalCeiling b ≡ p .highest = i32-read (p .highest) (total-fits (p .highest) (entry .highest)) (head .highest) in
+      let lowest : totalFloorAt b ≡ p .lowest = i32-read (p .lowest) (total-fits (p .lowest) (entry .lowest)) (head .lowest) in
+      let highest : totalCeilingAt b ≡ p .highest = i32-read (p .highest) (total-fits (p .highest) (entry .highest)) (head .highest) in
       rw (days, floors, ceilings, rises, lowest, highest) refl
 
   pub cuts-again : cutsIn (file p cs) ≡ cs

@@ -15,15 +15,15 @@ use Rattle.file_format.proofs.WrittenBack as WrittenBack
 
 -- the reader refuses nothing of b before 2, and finds this profile and these cuts in it
 pub record Reads (b : List ℕ) (p : Profile) (cs : List Cut) : Type 0 where
-  pub taken : Reading.earlier b ≡ 0
+  pub taken : Reading.earlyReading b ≡ 0
   pub profile : profileIn b ≡ p
   pub cuts : cutsIn b ≡ cs
 
-pub reads-again : (p : Profile) (cs : List Cut) → Writing.earlier p cs ≡ 0 → Reads (file p cs) p cs
+pub reads-again : (p : Profile) (cs : List Cut) → Writing.earlyWriting p cs ≡ 0 → Reads (file p cs) p cs
 reads-again p cs e =
     let w = passed p cs e in
     record { taken = not-refused (file p cs) (read-again p cs w); profile = profile-again p cs w; cuts = cuts-again p cs w }
 
 -- whatever the values are
-pub written-back : (b : List ℕ) → Bytes b → Reading.earlier b ≡ 0 → file (profileIn b) (cutsIn b) ≡ b
+pub written-back : (b : List ℕ) → Bytes b → Reading.earlyReading b ≡ 0 → file (profileIn b) (cutsIn b) ≡ b
 written-back b bytes e = WrittenBack.written-back b bytes (taken b e)

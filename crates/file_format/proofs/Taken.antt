@@ -14,7 +14,7 @@ use Rattle.theory_lists.specs.First.{firstWhere, first, first-only}
 use Rattle.base_little_endian.specs.Fields.{u16At}
 use Rattle.base_little_endian.proofs.Laws.{zero-field}
 use Rattle.file_format.specs.Format.{dayOffset, fileLength, dayCount, cutCount, daysOffset, cutsOffset, riseAt, cutAt}
-use Rattle.file_format.specs.Reading.{noHeader, badCounts, badLayout, badCut, badFields, earlier}
+use Rattle.file_format.specs.Reading.{noHeader, badCounts, badLayout, badCut, badFields, earlyReading}
 
 pub record Taken (b : List ℕ) : Type 0 where
   pub some : 0 < dayCount b
@@ -44,8 +44,8 @@ laid b e =
     let offsets = and-eq-true-iff starts ends .0 (layout .0) in
     (eqb-true _ _ (offsets .0), eqb-true _ _ (offsets .1), eqb-true _ _ (layout .1))
 
-pub taken : (b : List ℕ) → earlier b ≡ 0 → Taken b
-unfolding earlier
+pub taken : (b : List ℕ) → earlyReading b ≡ 0 → Taken b
+unfolding earlyReading
 taken b e =
     let c1 = cond-zero (noHeader b) 10 _ e in
     let c2 = cond-zero (badCounts b) 0 _ (c1 .1) in
@@ -68,8 +68,8 @@ taken b e =
       good = λ j h. bads .before j (omega (arith, none));
     }
 
-pub not-refused : (b : List ℕ) → Taken b → earlier b ≡ 0
-unfolding earlier
+pub not-refused : (b : List ℕ) → Taken b → earlyReading b ≡ 0
+unfolding earlyReading
 not-refused b t =
     let bad : ℕ = firstWhere (λ j. badCut (cutAt b j)) (cutCount b) in
     let none : cutCount b ≡ bad = first-only (record { most = le-refl (cutCount b); before = t .good; here = λ h. absurd (omega arith) }) in

@@ -14,36 +14,36 @@ use Rattle.base_codes.specs.Code.{on}
 use Rattle.base_little_endian.specs.Fields.{Bytes, u16At, i32At, i16Bytes}
 use Rattle.base_little_endian.proofs.Laws.{u16-part, i16-part, i32-part, zero-part}
 use Rattle.session_cuts.specs.declared.Cut.the-variants.{DayFloor}
-use Rattle.session_cuts.specs.declared.Told.the-variants.{Unknown}
-use Rattle.session_cuts.specs.Told.{told}
+use Rattle.session_cuts.specs.declared.Numbered.the-variants.{Unknown}
+use Rattle.session_cuts.specs.Numbered.{numbered}
 use Rattle.session_cuts.specs.Sheet.{cutOn, kindOf, dayOf, valueOf}
-use Rattle.file_format.specs.Format.{dayOffset, cutOffset, dayCount, cutCount, totalFloor, totalCeiling, floorAt, ceilingAt, riseAt, toldAt, cutAt, known, profileIn, cutsIn, cutBytes, file}
+use Rattle.file_format.specs.Format.{dayOffset, cutOffset, dayCount, cutCount, totalFloorAt, totalCeilingAt, floorAt, ceilingAt, riseAt, numberedAt, cutAt, known, profileIn, cutsIn, cutBytes, file}
 use Rattle.file_format.proofs.Parts.{Laid, laid-part, length-file, Header, header-part, Day, day-part, cut-part}
 use Rattle.file_format.proofs.Taken.{Taken}
 
-told-far : (kind day : ℕ) (value : ℤ) → 3 < kind → told kind day value ≡ Unknown
-unfolding told
-told-far kind day value h =
+numbered-far : (kind day : ℕ) (value : ℤ) → 3 < kind → numbered kind day value ≡ Unknown
+unfolding numbered
+numbered-far kind day value h =
     rw (ne-eqb kind 0 (λ e. omega arith), ne-eqb kind 1 (λ e. omega arith), ne-eqb kind 2 (λ e. omega arith), ne-eqb kind 3 (λ e. omega arith)) refl
 
-told-kind : (kind day : ℕ) (value : ℤ) → (told kind day value ≡ Unknown → ⊥)
-    → (kindOf (known (told kind day value)) ≡ kind) × (dayOf (known (told kind day value)) ≡ day) × (valueOf (known (told kind day value)) ≡ value)
-unfolding told
-told-kind zero day value h = (refl, refl, refl)
-told-kind (suc zero) day value h = (refl, refl, refl)
-told-kind (suc (suc zero)) day value h = (refl, refl, refl)
-told-kind (suc (suc (suc zero))) day value h = (refl, refl, refl)
-told-kind (suc (suc (suc (suc k)))) day value h = absurd (h (told-far (suc (suc (suc (suc k)))) day value (omega arith)))
+numbered-kind : (kind day : ℕ) (value : ℤ) → (numbered kind day value ≡ Unknown → ⊥)
+    → (kindOf (known (numbered kind day value)) ≡ kind) × (dayOf (known (numbered kind day value)) ≡ day) × (valueOf (known (numbered kind day value)) ≡ value)
+unfolding numbered
+numbered-kind zero day value h = (refl, refl, refl)
+numbered-kind (suc zero) day value h = (refl, refl, refl)
+numbered-kind (suc (suc zero)) day value h = (refl, refl, refl)
+numbered-kind (suc (suc (suc zero))) day value h = (refl, refl, refl)
+numbered-kind (suc (suc (suc (suc k)))) day value h = absurd (h (numbered-far (suc (suc (suc (suc k)))) day value (omega arith)))
 
 -- a cut of a known kind has the bytes that it is read from
-pub cut-back : {b : List ℕ} → Bytes b → (i : ℕ) → (toldAt b i ≡ Unknown → ⊥) → Part b i (cutBytes (known (toldAt b i)))
+pub cut-back : {b : List ℕ} → Bytes b → (i : ℕ) → (numberedAt b i ≡ Unknown → ⊥) → Part b i (cutBytes (known (numberedAt b i)))
 cut-back {b} bytes i h =
-    let told-so = told-kind (u16At b i) (u16At b (i + 2)) (i32At b (i + 4)) h in
-    cut-part (known (toldAt b i))
+    let numbered-so = numbered-kind (u16At b i) (u16At b (i + 2)) (i32At b (i + 4)) h in
+    cut-part (known (numberedAt b i))
     (record {
-      kind = rw (told-so .0) (u16-part bytes i);
-      day = rw (told-so .1) (u16-part bytes (i + 2));
-      value = rw (told-so .2) (i32-part bytes (i + 4));
+      kind = rw (numbered-so .0) (u16-part bytes i);
+      day = rw (numbered-so .1) (u16-part bytes (i + 2));
+      value = rw (numbered-so .2) (i32-part bytes (i + 4));
     })
 
 module _ (b : List ℕ) (bytes : Bytes b) (t : Taken b) where
@@ -54,7 +54,7 @@ module _ (b : List ℕ) (bytes : Bytes b) (t : Taken b) where
   unfolding cutsIn
   count = length-listOf (λ j. known (cutAt b j)) (cutCount b)
 
-  top : Header b (dayCount b) (length (cutsIn b)) (totalFloor b) (totalCeiling b)
+  top : Header b (dayCount b) (length (cutsIn b)) (totalFloorAt b) (totalCeilingAt b)
   top =
       record {
         days = u16-part bytes 0;
@@ -95,7 +95,7 @@ module _ (b : List ℕ) (bytes : Bytes b) (t : Taken b) where
   unfolding profileIn
   all =
       record {
-        top = header-part (dayCount b) (length (cutsIn b)) (totalFloor b) (totalCeiling b) top;
+        top = header-part (dayCount b) (length (cutsIn b)) (totalFloorAt b) (totalCeilingAt b) top;
         day = λ k h. day-part (on (profileIn b .floors) k) (on (profileIn b .ceilings) k) (on (profileIn b .rises) k) (day k h);
         cut = λ j h. cut j (omega (arith, count));
       }

@@ -11,17 +11,27 @@ use Rattle.session.specs.Profile.{Profile}
 use Rattle.session.specs.Opening.{profile}
 use Rattle.session_cuts.specs.declared.Cut.{Cut}
 use Rattle.session_cuts.specs.declared.Cut.the-variants.{DayFloor}
-use Rattle.session_cuts.specs.declared.Told.{Told}
-use Rattle.session_cuts.specs.declared.Told.the-variants.{Known, Unknown}
-use Rattle.session_cuts.specs.Told.{told}
+use Rattle.session_cuts.specs.declared.Numbered.{Numbered}
+use Rattle.session_cuts.specs.declared.Numbered.the-variants.{Known, Unknown}
+use Rattle.session_cuts.specs.Numbered.{numbered}
 use Rattle.session_cuts.specs.Sheet.{cutOn, kindOf, dayOf, valueOf}
+
+-- how many bytes the header, a day and a cut take
+abbrev pub headerLength : ℕ
+headerLength = 16
+
+abbrev pub dayLength : ℕ
+dayLength = 6
+
+abbrev pub cutLength : ℕ
+cutLength = 8
 
 -- where day k begins, where the cuts of n days begin, where cut j of them begins
 abbrev pub dayOffset : ℕ → ℕ
-dayOffset k = 16 + k * 6
+dayOffset k = headerLength + k * dayLength
 
 abbrev pub cutOffset : ℕ → ℕ → ℕ
-cutOffset n j = dayOffset n + j * 8
+cutOffset n j = dayOffset n + j * cutLength
 
 -- how long a file of n days and m cuts is
 abbrev pub fileLength : ℕ → ℕ → ℕ
@@ -41,11 +51,11 @@ daysOffset b = u16At b 4
 abbrev pub cutsOffset : List ℕ → ℕ
 cutsOffset b = u16At b 6
 
-abbrev pub totalFloor : List ℕ → ℤ
-totalFloor b = i32At b 8
+abbrev pub totalFloorAt : List ℕ → ℤ
+totalFloorAt b = i32At b 8
 
-abbrev pub totalCeiling : List ℕ → ℤ
-totalCeiling b = i32At b 12
+abbrev pub totalCeilingAt : List ℕ → ℤ
+totalCeilingAt b = i32At b 12
 
 -- day k: its floor, its ceiling, and the rise to the next day
 abbrev pub floorAt : List ℕ → ℕ → ℤ
@@ -58,22 +68,22 @@ abbrev pub riseAt : List ℕ → ℕ → ℤ
 riseAt b k = i16At b (dayOffset k + 4)
 
 -- the cut that begins at a place: kind, day, value
-abbrev pub toldAt : List ℕ → ℕ → Told
-toldAt b i = told (u16At b i) (u16At b (i + 2)) (i32At b (i + 4))
+abbrev pub numberedAt : List ℕ → ℕ → Numbered
+numberedAt b i = numbered (u16At b i) (u16At b (i + 2)) (i32At b (i + 4))
 
 -- cut j
-abbrev pub cutAt : List ℕ → ℕ → Told
-cutAt b j = toldAt b (cutOffset (dayCount b) j)
+abbrev pub cutAt : List ℕ → ℕ → Numbered
+cutAt b j = numberedAt b (cutOffset (dayCount b) j)
 
--- a told cut whose kind is known; the reader refuses files with others
-abbrev pub known : Told → Cut
+-- a numbered cut whose kind is known; the reader refuses files with others
+abbrev pub known : Numbered → Cut
 known (Known c) = c
 known Unknown = DayFloor 0 (pos 0)
 
 -- the profile and the cuts of a file that the reader takes; the last rise is not handed on
 unfoldable pub profileIn : List ℕ → Profile
 profileIn b =
-    profile (dayCount b) (listOf (floorAt b) (dayCount b)) (listOf (ceilingAt b) (dayCount b)) (listOf (riseAt b) (dayCount b - 1)) (totalFloor b) (totalCeiling b)
+    profile (dayCount b) (listOf (floorAt b) (dayCount b)) (listOf (ceilingAt b) (dayCount b)) (listOf (riseAt b) (dayCount b - 1)) (totalFloorAt b) (totalCeilingAt b)
 
 unfoldable pub cutsIn : List ℕ → List Cut
 cutsIn b = listOf (λ j. known (cutAt b j)) (cutCount b)
@@ -82,7 +92,7 @@ cutsIn b = listOf (λ j. known (cutAt b j)) (cutCount b)
 
 -- of n days and m cuts, with the total's floor and ceiling
 unfoldable pub header : ℕ → ℕ → ℤ → ℤ → List ℕ
-header n m low high = u16Bytes n ++ u16Bytes m ++ u16Bytes 16 ++ u16Bytes (dayOffset n) ++ i32Bytes low ++ i32Bytes high
+header n m low high = u16Bytes n ++ u16Bytes m ++ u16Bytes headerLength ++ u16Bytes (dayOffset n) ++ i32Bytes low ++ i32Bytes high
 
 -- floor, ceiling, rise to the next day
 unfoldable pub dayBytes : ℤ → ℤ → ℤ → List ℕ

@@ -5,25 +5,26 @@ use Prim.Native.Nat.{ℕ, _-_}
 use lib.IntN.{natAbs}
 use lib.Dec.{eqb, ltb}
 use lib.ListN.{length}
+use Rattle.limits.specs.Limits.{mostDays, mostCuts}
 use Rattle.theory_lists.specs.First.{firstWhere}
 use Rattle.session_cuts.specs.declared.Cut.{Cut}
 use Rattle.session_cuts.specs.declared.Cut.the-variants.{DayFloor, DayCeiling, TotalFloor, TotalCeiling}
-use Rattle.session_cuts.specs.declared.Told.{Told}
-use Rattle.session_cuts.specs.declared.Told.the-variants.{Known, Unknown}
-use Rattle.file_format.specs.Format.{dayOffset, fileLength, dayCount, cutCount, daysOffset, cutsOffset, riseAt, cutAt}
+use Rattle.session_cuts.specs.declared.Numbered.{Numbered}
+use Rattle.session_cuts.specs.declared.Numbered.the-variants.{Known, Unknown}
+use Rattle.file_format.specs.Format.{headerLength, dayOffset, fileLength, dayCount, cutCount, daysOffset, cutsOffset, riseAt, cutAt}
 
 -- 11: under 16 bytes
 abbrev pub noHeader : List ℕ → Bool
-noHeader b = ltb (length b) 16
+noHeader b = ltb (length b) headerLength
 
 -- 1: the day count is 0 or over 512; more than 512 cuts
 abbrev pub badCounts : List ℕ → Bool
-badCounts b = eqb (dayCount b) 0 || ltb 512 (dayCount b) || ltb 512 (cutCount b)
+badCounts b = eqb (dayCount b) 0 || ltb mostDays (dayCount b) || ltb mostCuts (cutCount b)
 
 -- 11: an offset or the length is wrong
 abbrev pub badLayout : List ℕ → Bool
 badLayout b =
-    not (eqb (daysOffset b) 16 && eqb (cutsOffset b) (dayOffset (dayCount b)) && eqb (length b) (fileLength (dayCount b) (cutCount b)))
+    not (eqb (daysOffset b) headerLength && eqb (cutsOffset b) (dayOffset (dayCount b)) && eqb (length b) (fileLength (dayCount b) (cutCount b)))
 
 -- a total cut whose day is not 0
 abbrev pub misplaced : Cut → Bool
@@ -33,7 +34,7 @@ misplaced (TotalFloor day value) = not (eqb day 0)
 misplaced (TotalCeiling day value) = not (eqb day 0)
 
 -- an unknown kind, or a total cut whose day is not 0
-abbrev pub badCut : Told → Bool
+abbrev pub badCut : Numbered → Bool
 badCut (Known c) = misplaced c
 badCut Unknown = true
 
@@ -43,8 +44,8 @@ badFields b =
     not (eqb (natAbs (riseAt b (dayCount b - 1))) 0) || ltb (firstWhere (λ j. badCut (cutAt b j)) (cutCount b)) (cutCount b)
 
 -- the first refusal of reading before 2 that applies, or 0
-unfoldable pub earlier : List ℕ → ℕ
-earlier b =
+unfoldable pub earlyReading : List ℕ → ℕ
+earlyReading b =
     cond (noHeader b) 11
     (cond (badCounts b) 1
     (cond (badLayout b) 11
@@ -55,5 +56,5 @@ abbrev pub noRoom : List ℕ → ℕ → ℕ → ℕ → Bool
 noRoom b floors ceilings rises = ltb floors (dayCount b) || ltb ceilings (dayCount b) || ltb rises (dayCount b - 1)
 
 -- the first refusal of reading that applies, or 0, with lists of these lengths lent for floors, ceilings and rises
-unfoldable pub refusal : List ℕ → ℕ → ℕ → ℕ → ℕ
-refusal b floors ceilings rises = cond (eqb (earlier b) 0) (cond (noRoom b floors ceilings rises) 2 0) (earlier b)
+unfoldable pub readingRefusal : List ℕ → ℕ → ℕ → ℕ → ℕ
+readingRefusal b floors ceilings rises = cond (eqb (earlyReading b) 0) (cond (noRoom b floors ceilings rises) 2 0) (earlyReading b)

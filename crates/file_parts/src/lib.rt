@@ -4,31 +4,39 @@ ghost use mathlib.Core.List.{_++_};
 ghost use Prim.Native.Nat.{ℕ, _+_, _*_, _≤_, _<_};
 ghost use lib.ListN.{length, getD};
 ghost use lib.Seq.{sets};
+ghost use Rattle.limits.specs.Limits.{mostDays, mostCuts};
 ghost use Rattle.theory_lists.specs.Rows.{rows};
 ghost use Rattle.base_codes.specs.Code.{on};
 ghost use Rattle.base_little_endian.specs.Fields.{u16Bytes, i32Bytes};
 ghost use Rattle.session_cuts.specs.Sheet.{blank, dayOf};
-ghost use Rattle.file_format.specs.Format.{dayOffset, header, dayBytes, cutBytes};
+ghost use Rattle.file_format.specs.Format.{headerLength, dayLength, cutLength, dayOffset, header, dayBytes, cutBytes};
 use base_little_endian::put_i16;
 use base_little_endian::put_i32;
 use base_little_endian::put_u16;
+use file_format::CUT_BYTES;
+use file_format::DAY_BYTES;
+use file_format::HEADER_BYTES;
+use limits::MOST_CUTS;
 use session_cuts::Cut;
 use session_cuts::Entry;
 
+// Where the days begin, as the header has it.
+const DAYS_OFFSET: u16 = HEADER_BYTES as u16;
+
 pub fn put_header(days: usize, cuts: usize, lowest: i32, highest: i32, out: &mut [u8])
-    requires { ⌜ (days ≤ 512) × (cuts ≤ 512) × (16 ≤ length (now out)) ⌝ }
+    requires { ⌜ (days ≤ mostDays) × (cuts ≤ mostCuts) × (headerLength ≤ length (now out)) ⌝ }
     ensures { λ r. ⌜ now (out .exit) ≡ sets (now (out .entry)) 0 (header days cuts lowest highest) ⌝ }
 {
     put_u16(out, 0, days as u16);
     put_u16(out, 2, cuts as u16);
-    put_u16(out, 4, 16);
-    put_u16(out, 6, (16 + days * 6) as u16);
+    put_u16(out, 4, DAYS_OFFSET);
+    put_u16(out, 6, (HEADER_BYTES + days * DAY_BYTES) as u16);
     put_i32(out, 8, lowest);
     put_i32(out, 12, highest);
 }
 
 fn put_day(out: &mut [u8], at: usize, floor: i16, ceiling: i16, rise: i16)
-    requires { ⌜ at + 6 ≤ length (now out) ⌝ }
+    requires { ⌜ at + dayLength ≤ length (now out) ⌝ }
     ensures { λ r. ⌜ now (out .exit) ≡ sets (now (out .entry)) at (dayBytes floor ceiling rise) ⌝ }
 {
     put_i16(out, at, floor);
@@ -47,18 +55,24 @@ fn rise_on(rises: &[i16], k: usize) -> i16
 }
 
 pub fn put_days(floors: &[i16], ceilings: &[i16], rises: &[i16], days: usize, out: &mut [u8])
-    requires { ⌜ (days ≡ length (now floors)) × (days ≡ length (now ceilings)) × (days ≤ 512) × (dayOffset days ≤ length (now out)) ⌝ }
-    ensures { λ r. ⌜ now (out .exit) ≡ sets (now (out .entry)) 16 (rows (λ k. dayBytes (on (now (floors .entry)) k) (on (now (ceilings .entry)) k) (on (now (rises .entry)) k)) days) ⌝ }
+    requires { ⌜ (days ≡ length (now floors)) × (days ≡ length (now ceilings)) × (days ≤ mostDays) × (dayOffset days ≤ length (now out)) ⌝ }
+    ensures { λ r. ⌜ now (out .exit) ≡ sets (now (out .entry)) headerLength (rows (λ k. dayBytes (on (now (floors .entry)) k) (on (now (ceilings .entry)) k) (on (now (rises .entry)) k)) days) ⌝ }
 {
     let mut k = 0;
     while k < days {
-        put_day(out, 16 + k * 6, floors[k], ceilings[k], rise_on(rises, k));
+        put_day(
+            out,
+            HEADER_BYTES + k * DAY_BYTES,
+            floors[k],
+            ceilings[k],
+            rise_on(rises, k),
+        );
         k += 1;
     }
 }
 
 fn put_fields(kind: u16, day: usize, value: i32, at: usize, out: &mut [u8])
-    requires { ⌜ (day < 65536) × (at + 8 ≤ length (now out)) ⌝ }
+    requires { ⌜ (day < 65536) × (at + cutLength ≤ length (now out)) ⌝ }
     ensures { λ r. ⌜ now (out .exit) ≡ sets (now (out .entry)) at (u16Bytes kind ++ u16Bytes day ++ i32Bytes value) ⌝ }
 {
     put_u16(out, at, kind);
@@ -67,7 +81,7 @@ fn put_fields(kind: u16, day: usize, value: i32, at: usize, out: &mut [u8])
 }
 
 fn put_entry(entry: Entry, at: usize, out: &mut [u8])
-    requires { ⌜ (dayOf (entry .cut) < 65536) × (at + 8 ≤ length (now out)) ⌝ }
+    requires { ⌜ (dayOf (entry .cut) < 65536) × (at + cutLength ≤ length (now out)) ⌝ }
     ensures { λ r. ⌜ now (out .exit) ≡ sets (now (out .entry)) at (cutBytes (entry .cut)) ⌝ }
 {
     let cut = entry.cut;
@@ -79,13 +93,13 @@ fn put_entry(entry: Entry, at: usize, out: &mut [u8])
     }
 }
 
-pub fn put_entries(entries: [Entry; 512], count: usize, from: usize, out: &mut [u8])
-    requires { ⌜ (count ≤ 512) × (from + count * 8 ≤ length (now out)) × ((j : ℕ) → j < count → dayOf (getD entries j blank .cut) < 65536) ⌝ }
+pub fn put_entries(entries: [Entry; MOST_CUTS], count: usize, from: usize, out: &mut [u8])
+    requires { ⌜ (count ≤ mostCuts) × (from + count * cutLength ≤ length (now out)) × ((j : ℕ) → j < count → dayOf (getD entries j blank .cut) < 65536) ⌝ }
     ensures { λ r. ⌜ now (out .exit) ≡ sets (now (out .entry)) from (rows (λ j. cutBytes (getD entries j blank .cut)) count) ⌝ }
 {
     let mut j = 0;
     while j < count {
-        put_entry(entries[j], from + j * 8, out);
+        put_entry(entries[j], from + j * CUT_BYTES, out);
         j += 1;
     }
 }

@@ -13,7 +13,7 @@ use Rattle.theory_lists.specs.Rows.{sets-append}
 use Rattle.theory_lists.specs.Written.{written, written-below}
 use Rattle.theory_lists.specs.Lent.{lentList, list-filled}
 use Rattle.base_codes.specs.Code.{on}
-use Rattle.session.specs.Showing.{Sane, floorOn, ceilingOn, totalFloor, totalCeiling, shown}
+use Rattle.session.specs.Showing.{SessionInBounds, floorOn, ceilingOn, totalFloor, totalCeiling, shown}
 use Rattle.session.specs.declared.Session.{Session}
 use Rattle.session.specs.declared.Shown.{Shown}
 use Rattle.session.specs.declared.Opened.{Opened}
@@ -31,18 +31,18 @@ use Rattle.file_printing.proofs.Lines.{all-none, all-more}
 pub record Applied (o : Opened) (f : ℕ → Cut) (n j : ℕ) (after : Opened) : Type 0 where
   pub most : j ≤ n
   pub made : after ≡ cutAll o f j
-  pub sane : Sane (after .session)
+  pub bounds : SessionInBounds (after .session)
 
 module _ {o : Opened} {f : ℕ → Cut} {n : ℕ} where
-  pub applied-none : Sane (o .session) → Applied o f n 0 o
-  applied-none b = record { most = omega arith; made = sym (all-none o f); sane = b }
+  pub applied-none : SessionInBounds (o .session) → Applied o f n 0 o
+  applied-none b = record { most = omega arith; made = sym (all-none o f); bounds = b }
 
-  pub applied-more : {j : ℕ} {after next : Opened} → Applied o f n j after → j < n → (next ≡ cutOnce after (f j)) × Sane (next .session) → Applied o f n (j + 1) next
+  pub applied-more : {j : ℕ} {after next : Opened} → Applied o f n j after → j < n → (next ≡ cutOnce after (f j)) × SessionInBounds (next .session) → Applied o f n (j + 1) next
   applied-more {j} h u e =
-      record { most = omega arith; made = e .0 ∙ ap (λ a. cutOnce a (f j)) (h .made) ∙ sym (all-more o f j); sane = e .1 }
+      record { most = omega arith; made = e .0 ∙ ap (λ a. cutOnce a (f j)) (h .made) ∙ sym (all-more o f j); bounds = e .1 }
 
-  pub applied-all : {j : ℕ} {after : Opened} → Applied o f n j after → n ≤ j → (after ≡ cutAll o f n) × Sane (after .session)
-  applied-all {j} h u = let e : j ≡ n = omega (arith, h .most) in (rw e at (h .made), h .sane)
+  pub applied-all : {j : ℕ} {after : Opened} → Applied o f n j after → n ≤ j → (after ≡ cutAll o f n) × SessionInBounds (after .session)
+  applied-all {j} h u = let e : j ≡ n = omega (arith, h .most) in (rw e at (h .made), h .bounds)
 
 -- ---- the text
 
@@ -90,7 +90,7 @@ pub record Showed (s : Session) (r : Shown) (fs cs : List ℤ) : Type 0 where
   pub most : r .most ≡ totalCeiling s
   pub lines : (k : ℕ) → k < s .days → dayLine k (on fs k) (on cs k) ≡ dayLine k (floorOn s k) (ceilingOn s k)
 
-pub showed : {s : Session} {r : Shown} {fs cs : List ℤ} (ls us : List ℤ) → Sane s → length ls ≡ 512 → length us ≡ 512 → r ≡ shown s (length ls) (length us)
+pub showed : {s : Session} {r : Shown} {fs cs : List ℤ} (ls us : List ℤ) → SessionInBounds s → length ls ≡ 512 → length us ≡ 512 → r ≡ shown s (length ls) (length us)
     → fs ≡ lentList (r .refusal) (floorOn s) (s .days) ls → cs ≡ lentList (r .refusal) (ceilingOn s) (s .days) us → Showed s r fs cs
 unfolding shown
 showed {s} {r} {fs} {cs} ls us b l u e f c =

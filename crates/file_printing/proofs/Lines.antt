@@ -7,15 +7,16 @@ use native.Mathlib.Omega.{arith}
 use lib.IntN.{ℤ, pos, negsuc}
 use lib.ListN.{length, getD, drop, length-append}
 use borrow.Author.Tests.{eq-eqb, ne-eqb}
+use Rattle.limits.specs.Limits.{lowestPoint, lowestTotal}
 use Rattle.theory_lists.specs.Sum.{at}
 use Rattle.theory_lists.specs.Front.{inFront}
 use Rattle.theory_lists.specs.Rows.{rows, rows-most}
-use Rattle.base_codes.specs.Code.{lowestPoint, lowestTotal, decoded}
+use Rattle.base_codes.specs.Code.{decoded}
 use Rattle.base_codes.proofs.Offset.{Less, less-le}
 use Rattle.base_codes.proofs.Laws.{point-less, total-less, decoded-less}
 use Rattle.base_text.specs.Numbers.{decimal, number}
 use Rattle.base_text.proofs.Digits.{decimal-length, number-length}
-use Rattle.session.specs.Showing.{Sane, floorOn, ceilingOn, totalFloor, totalCeiling}
+use Rattle.session.specs.Showing.{SessionInBounds, floorOn, ceilingOn, totalFloor, totalCeiling}
 use Rattle.session.specs.Opening.{opened, refusedWith}
 use Rattle.session.specs.declared.Session.{Session}
 use Rattle.session.specs.declared.Opened.{Opened}
@@ -25,7 +26,7 @@ use Rattle.session_cuts.specs.Sheet.{blank, cutOn, cutsOf}
 use Rattle.session_cuts.proofs.Laws.{length-cutsOf, cutOn-cutsOf}
 use Rattle.session_cutting.specs.Cutting.{afterCut}
 use Rattle.file_format.specs.Format.{profileIn, cutsIn}
-use Rattle.file_format.specs.Reading.{earlier}
+use Rattle.file_format.specs.Reading.{earlyReading}
 use Rattle.file_printing.specs.Printing.{afterEntry, cutOnce, cutAll, range, totalLine, dayLine, refusedLine, rangesText, answerText, fileOpened, printed}
 
 -- ---- cuts
@@ -76,14 +77,14 @@ all-sheet o s = rw (length-cutsOf s) (all-same o (cutOn (cutsOf s)) (λ j. getD 
 
 module _ (b : List ℕ) where
   -- reading refuses
-  pub read-refused : (earlier b ≡ 0 → ⊥) → printed b ≡ refusedLine (earlier b)
+  pub read-refused : (earlyReading b ≡ 0 → ⊥) → printed b ≡ refusedLine (earlyReading b)
   unfolding printed fileOpened
-  read-refused h = rw (ne-eqb (earlier b) 0 h) (answer-refused (refusedWith (earlier b)) h)
+  read-refused h = rw (ne-eqb (earlyReading b) 0 h) (answer-refused (refusedWith (earlyReading b)) h)
 
-  module _ (z : earlier b ≡ 0) where
+  module _ (z : earlyReading b ≡ 0) where
     file-taken : printed b ≡ answerText (cutAll (opened (profileIn b)) (cutOn (cutsIn b)) (length (cutsIn b)))
     unfolding printed fileOpened
-    file-taken = rw (eq-eqb (earlier b) 0 z) refl
+    file-taken = rw (eq-eqb (earlyReading b) 0 z) refl
 
     -- opening refuses
     pub open-refused : (opened (profileIn b) .refusal ≡ 0 → ⊥) → printed b ≡ refusedLine (opened (profileIn b) .refusal)
@@ -136,7 +137,7 @@ total-length m h = length-over 5 2048000 511999 lowestTotal m total-less h (omeg
 range-length : (w : ℕ) (low high : ℤ) → length (number low) ≤ w → length (number high) ≤ w → length (range low high) ≤ w + w + 3
 range-length w low high l h = simp length-append (omega arith)
 
-module _ {s : Session} (b : Sane s) where
+module _ {s : Session} (b : SessionInBounds s) where
   pub total-line : length (totalLine (totalFloor s) (totalCeiling s)) ≤ 22
   unfolding totalLine
   total-line = omega (arith, range-length 7 (totalFloor s) (totalCeiling s) (total-length (s .present .least) (b .present .lowest)) (total-length (s .present .most) (b .present .highest)))

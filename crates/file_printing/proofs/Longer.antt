@@ -10,13 +10,13 @@ use borrow.Author.Tests.{le-ltb, ne-eqb}
 use Rattle.base_little_endian.specs.Fields.{u16At}
 use Rattle.file_format.specs.Format.{fileLength, dayCount, cutCount}
 use Rattle.file_format.proofs.Taken.{counted}
-use Rattle.file_format.specs.Reading.{badCounts, badLayout, badFields, earlier}
+use Rattle.file_format.specs.Reading.{badCounts, badLayout, badFields, earlyReading}
 use Rattle.file_printing.specs.Printing.{printed, refusedLine, PrintedLong}
 use Rattle.file_printing.proofs.Lines.{read-refused}
 
 -- 1 for the counts, else 11 for the length
-long-refused : (b : List ℕ) → 7184 < length b → earlier b ≡ cond (badCounts b) 1 11
-unfolding earlier
+long-refused : (b : List ℕ) → 7184 < length b → earlyReading b ≡ cond (badCounts b) 1 11
+unfolding earlyReading
 long-refused b h = rw (le-ltb (length b) 16 (omega arith)) (go (badCounts b) refl)
   where
     go : (bad : Bool) → badCounts b ≡ bad → _≡_ {A = ℕ} (cond bad 1 (cond (badLayout b) 11 (cond (badFields b) 12 0))) (cond bad 1 11)

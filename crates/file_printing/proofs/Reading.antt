@@ -10,7 +10,7 @@ use Rattle.theory_lists.specs.ListOf.{listOf, take-written}
 use Rattle.session.specs.Opening.{profile}
 use Rattle.session_cuts.specs.Sheet.{cutsOf}
 use Rattle.file_format.specs.Format.{dayCount, cutCount, floorAt, ceilingAt, riseAt, profileIn, cutsIn}
-use Rattle.file_format.specs.Reading.{earlier}
+use Rattle.file_format.specs.Reading.{earlyReading}
 use Rattle.file_format.proofs.Taken.{not-refused}
 use Rattle.file_reading.specs.Reading.{sheetFrom, contents, readFrom}
 use Rattle.file_reading.proofs.Laws.{read-taken, sheet-cuts}
@@ -18,7 +18,7 @@ use Rattle.file_reading.specs.declared.ReadAnswer.{ReadAnswer}
 
 -- what is handed on of a file that is not refused: its profile and its cuts
 pub record Got (b : List ℕ) (r : ReadAnswer) (fs cs rs : List ℤ) : Type 0 where
-  pub none : earlier b ≡ 0
+  pub none : earlyReading b ≡ 0
   pub some : 0 < r .days
   pub few : r .days ≤ 512
   pub entered : profile (r .days) (take (r .days) fs) (take (r .days) cs) (take (r .days - 1) rs) (r .lowest) (r .highest) ≡ profileIn b

@@ -6,6 +6,7 @@ use Prim.Native.Nat.{ℕ, zero, suc, _<_}
 use lib.IntN.{ℤ}
 use lib.Dec.{eqb}
 use lib.ListN.{length, take}
+use Rattle.limits.specs.Limits.{mostDays}
 use Rattle.theory_lists.specs.Rows.{rows}
 use Rattle.base_text.specs.Numbers.{decimal, number}
 use Rattle.session.specs.Opening.{opened, refusedWith}
@@ -26,7 +27,7 @@ abbrev pub afterEntry : AfterCut → Opened
 afterEntry a = record { refusal = a .answer .refusal; session = a .session }
 
 unfoldable pub cutOnce : Opened → Cut → Opened
-cutOnce o c = cond (eqb (o .refusal) 0) (afterEntry (afterCut (o .session) c 512)) o
+cutOnce o c = cond (eqb (o .refusal) 0) (afterEntry (afterCut (o .session) c mostDays)) o
 
 -- the first m cuts in order, up to the first refusal
 unfoldable pub cutAll : Opened → (ℕ → Cut) → ℕ → Opened
@@ -36,7 +37,7 @@ cutAll o f (suc m) = cutOnce (cutAll o f m) (f m)
 -- a file read, opened, and its cuts applied: the first refusal, or 0 and the session
 unfoldable pub fileOpened : List ℕ → Opened
 fileOpened b =
-    cond (eqb (Reading.earlier b) 0) (cutAll (opened (profileIn b)) (cutOn (cutsIn b)) (length (cutsIn b))) (refusedWith (Reading.earlier b))
+    cond (eqb (Reading.earlyReading b) 0) (cutAll (opened (profileIn b)) (cutOn (cutsIn b)) (length (cutsIn b))) (refusedWith (Reading.earlyReading b))
 
 -- ---- the text: "total", "day", "refused", a space between fields, a line feed after each line
 

@@ -3,14 +3,17 @@ ghost use mathlib.Core.Path.{_≡_};
 ghost use Prim.Native.Nat.{ℕ, _+_, _-_, _*_, _≤_, _<_};
 ghost use lib.ListN.{length, getD, take};
 ghost use lib.Seq.{sets};
+ghost use Rattle.limits.specs.Limits.{mostDays, mostCuts};
 ghost use Rattle.theory_lists.specs.Front.{inFront};
 ghost use Rattle.theory_lists.specs.Rows.{rows};
 ghost use Rattle.base_codes.specs.Code.{on};
 ghost use Rattle.session.specs.Opening.{opened, profile};
-ghost use Rattle.session.specs.Showing.{Sane};
+ghost use Rattle.session.specs.Showing.{SessionInBounds};
 ghost use Rattle.session_cuts.specs.Sheet.{blank};
 ghost use Rattle.file_printing.specs.Printing.{cutOnce, cutAll, range, totalLine, dayLine, refusedLine, rangesText, printed};
 ghost use Rattle.file_printing.specs.Stages.{stageOf, numberOf};
+use limits::MOST_CUTS;
+use limits::MOST_DAYS;
 use session::Opened;
 use session::Session;
 use session_cuts::Entry;
@@ -43,15 +46,15 @@ fn number_of(stage: Stage) -> u8
 // ---- the cuts
 
 fn cut_once(opened: Opened, entry: Entry) -> Opened
-    requires { ⌜ Sane (opened .session) ⌝ }
-    ensures { λ r. ⌜ (r ≡ cutOnce opened (entry .cut)) × Sane (r .session) ⌝ }
+    requires { ⌜ SessionInBounds (opened .session) ⌝ }
+    ensures { λ r. ⌜ (r ≡ cutOnce opened (entry .cut)) × SessionInBounds (r .session) ⌝ }
 {
     let Stage::Passed = stage_of(opened.refusal) else {
         return opened;
     };
     let session = opened.session;
     let cut = entry.cut;
-    let mut changed = [0u16; 512];
+    let mut changed = [0u16; MOST_DAYS];
     let after = session_lent::cut_held(session, cut, &mut changed);
     let answer = after.answer;
     let session = after.session;
@@ -62,9 +65,9 @@ fn cut_once(opened: Opened, entry: Entry) -> Opened
 }
 
 // Applies the first `count` entries in order, up to the first refusal.
-fn cut_all(opened: Opened, count: usize, entries: [Entry; 512]) -> Opened
-    requires { ⌜ Sane (opened .session) × (count ≤ 512) ⌝ }
-    ensures { λ r. ⌜ (r ≡ cutAll opened (λ j. getD entries j blank .cut) count) × Sane (r .session) ⌝ }
+fn cut_all(opened: Opened, count: usize, entries: [Entry; MOST_CUTS]) -> Opened
+    requires { ⌜ SessionInBounds (opened .session) × (count ≤ mostCuts) ⌝ }
+    ensures { λ r. ⌜ (r ≡ cutAll opened (λ j. getD entries j blank .cut) count) × SessionInBounds (r .session) ⌝ }
 {
     let mut after = opened;
     let mut j = 0;
@@ -113,10 +116,10 @@ fn put_days(
     out: &mut [u8],
     at: usize,
     days: usize,
-    floors: &[i16; 512],
-    ceilings: &[i16; 512],
+    floors: &[i16; MOST_DAYS],
+    ceilings: &[i16; MOST_DAYS],
 ) -> usize
-    requires { ⌜ (days ≤ 512) × ((k : ℕ) → k < days → length (dayLine k (on (now floors) k) (on (now ceilings) k)) ≤ 20) × (at + days * 20 ≤ length (now out)) ⌝ }
+    requires { ⌜ (days ≤ mostDays) × ((k : ℕ) → k < days → length (dayLine k (on (now floors) k) (on (now ceilings) k)) ≤ 20) × (at + days * 20 ≤ length (now out)) ⌝ }
     ensures { λ r. ⌜ now (out .exit) ≡ sets (now (out .entry)) at (rows (λ k. dayLine k (on (now (floors .entry)) k) (on (now (ceilings .entry)) k)) days) ⌝ }
     ensures { λ r. ⌜ r ≡ at + length (rows (λ k. dayLine k (on (now (floors .entry)) k) (on (now (ceilings .entry)) k)) days) ⌝ }
 {
@@ -130,13 +133,13 @@ fn put_days(
 }
 
 fn put_ranges(session: Session, out: &mut [u8; 10262]) -> usize
-    requires { ⌜ Sane session ⌝ }
+    requires { ⌜ SessionInBounds session ⌝ }
     ensures { λ r. ⌜ now (out .exit) ≡ inFront (rangesText session) (now (out .entry)) ⌝ }
     ensures { λ r. ⌜ r ≡ length (rangesText session) ⌝ }
 {
     let days = session.days;
-    let mut floors = [0i16; 512];
-    let mut ceilings = [0i16; 512];
+    let mut floors = [0i16; MOST_DAYS];
+    let mut ceilings = [0i16; MOST_DAYS];
     let shown = session.show(&mut floors, &mut ceilings);
     let at = put_total(out, shown.least, shown.most);
     put_days(out, at, days, &floors, &ceilings)
@@ -156,13 +159,13 @@ fn put_refusal(number: u8, out: &mut [u8; 10262]) -> usize
 // Opens what was read of a file.
 fn open_read(
     days: usize,
-    floors: &[i16; 512],
-    ceilings: &[i16; 512],
+    floors: &[i16; MOST_DAYS],
+    ceilings: &[i16; MOST_DAYS],
     rises: &[i16; 511],
     lowest: i32,
     highest: i32,
 ) -> Opened
-    requires { ⌜ (0 < days) × (days ≤ 512) ⌝ }
+    requires { ⌜ (0 < days) × (days ≤ mostDays) ⌝ }
     ensures { λ r. ⌜ r ≡ opened (profile days (take days (now (floors .entry))) (take days (now (ceilings .entry))) (take (days - 1) (now (rises .entry))) lowest highest) ⌝ }
 {
     let low: &[i16] = floors;
@@ -185,8 +188,8 @@ pub fn print_ranges(file: &[u8], out: &mut [u8; 10262]) -> usize
     ensures { λ r. ⌜ now (out .exit) ≡ inFront (printed (now (file .entry))) (now (out .entry)) ⌝ }
     ensures { λ r. ⌜ r ≡ length (printed (now (file .entry))) ⌝ }
 {
-    let mut floors = [0i16; 512];
-    let mut ceilings = [0i16; 512];
+    let mut floors = [0i16; MOST_DAYS];
+    let mut ceilings = [0i16; MOST_DAYS];
     let mut rises = [0i16; 511];
     let read = file_reading::read(file, &mut floors, &mut ceilings, &mut rises);
     let reading = stage_of(read.refusal);

@@ -13,8 +13,8 @@ use Rattle.theory_lists.specs.ListOf.{listOf-same}
 use Rattle.theory_lists.specs.Written.{written-below}
 use Rattle.session_cuts.specs.declared.Entry.{Entry}
 use Rattle.session_cuts.specs.Sheet.{blank, cutsOf}
-use Rattle.file_format.specs.Format.{dayOffset, dayCount, cutCount, toldAt, known, cutsIn}
-use Rattle.file_format.specs.Reading.{earlier, noRoom, refusal}
+use Rattle.file_format.specs.Format.{dayOffset, dayCount, cutCount, numberedAt, known, cutsIn}
+use Rattle.file_format.specs.Reading.{earlyReading, noRoom, readingRefusal}
 use Rattle.file_format.proofs.Taken.{Taken, taken}
 use Rattle.file_reading.specs.Reading.{sheetFrom, contents, readFrom, refusedRead}
 
@@ -23,13 +23,13 @@ unfolding cutsOf sheetFrom cutsIn
 sheet-cuts b few =
     listOf-same _ _ (cutCount b)
     (λ j h. ap (λ (e : Entry). e .cut)
-    (written-below (λ k. record { cut = known (toldAt b (dayOffset (dayCount b) + k * 8)) }) blank (cutCount b) (replicate 512 blank) j h (omega (arith, length-replicate {A = Entry} 512 blank))))
+    (written-below (λ k. record { cut = known (numberedAt b (dayOffset (dayCount b) + k * 8)) }) blank (cutCount b) (replicate 512 blank) j h (omega (arith, length-replicate {A = Entry} 512 blank))))
 
 module _ (b : List ℕ) (floors ceilings rises : ℕ) where
   -- the number that stands in the answer
-  pub read-refusal : readFrom b floors ceilings rises .refusal ≡ refusal b floors ceilings rises
+  pub read-refusal : readFrom b floors ceilings rises .refusal ≡ readingRefusal b floors ceilings rises
   unfolding readFrom contents
-  read-refusal = go (refusal b floors ceilings rises)
+  read-refusal = go (readingRefusal b floors ceilings rises)
     where
       go : (r : ℕ) → cond (eqb r 0) (contents b) (refusedRead r) .refusal ≡ r
       go zero = refl
@@ -40,14 +40,14 @@ module _ (b : List ℕ) (floors ceilings rises : ℕ) where
     pub ceilings-long : dayCount b ≤ ceilings
     pub rises-long : dayCount b - 1 ≤ rises
 
-  unrefused : refusal b floors ceilings rises ≡ 0 → readFrom b floors ceilings rises ≡ contents b
+  unrefused : readingRefusal b floors ceilings rises ≡ 0 → readFrom b floors ceilings rises ≡ contents b
   unfolding readFrom
-  unrefused z = rw (eq-eqb (refusal b floors ceilings rises) 0 z) refl
+  unrefused z = rw (eq-eqb (readingRefusal b floors ceilings rises) 0 z) refl
 
-  checked : refusal b floors ceilings rises ≡ 0 → Taken b × Room
-  unfolding refusal
+  checked : readingRefusal b floors ceilings rises ≡ 0 → Taken b × Room
+  unfolding readingRefusal
   checked z =
-      let c1 = then-zero (earlier b) _ z in
+      let c1 = then-zero (earlyReading b) _ z in
       let c2 = cond-zero (noRoom b floors ceilings rises) 1 0 (c1 .1) in
       let short = or-false (ltb floors (dayCount b) || ltb ceilings (dayCount b)) (ltb rises (dayCount b - 1)) (c2 .0) in
       let two = or-false (ltb floors (dayCount b)) (ltb ceilings (dayCount b)) (short .0) in
@@ -56,18 +56,18 @@ module _ (b : List ℕ) (floors ceilings rises : ℕ) where
   pub read-taken : readFrom b floors ceilings rises .refusal ≡ 0 → (readFrom b floors ceilings rises ≡ contents b) × Taken b × Room
   read-taken e = let z = sym read-refusal ∙ e in (unrefused z, checked z .0, checked z .1)
 
-  pub read-all : earlier b ≡ 0 → Room → readFrom b floors ceilings rises ≡ contents b
-  unfolding refusal
+  pub read-all : earlyReading b ≡ 0 → Room → readFrom b floors ceilings rises ≡ contents b
+  unfolding readingRefusal
   read-all e r =
       unrefused (rw (e, le-ltb floors (dayCount b) (r .floors-long), le-ltb ceilings (dayCount b) (r .ceilings-long), le-ltb rises (dayCount b - 1) (r .rises-long)) refl)
 
   -- lists that are long enough for every file: what is refused is the file
-  pub read-number : 512 ≤ floors → 512 ≤ ceilings → 511 ≤ rises → readFrom b floors ceilings rises .refusal ≡ earlier b
-  unfolding refusal contents
-  read-number f c r = go (ℕ-discrete (earlier b) 0)
+  pub read-number : 512 ≤ floors → 512 ≤ ceilings → 511 ≤ rises → readFrom b floors ceilings rises .refusal ≡ earlyReading b
+  unfolding readingRefusal contents
+  read-number f c r = go (ℕ-discrete (earlyReading b) 0)
     where
-      go : Dec (earlier b ≡ 0) → readFrom b floors ceilings rises .refusal ≡ earlier b
+      go : Dec (earlyReading b ≡ 0) → readFrom b floors ceilings rises .refusal ≡ earlyReading b
       go (yes z) =
           let few = taken b z .few in
           ap (λ a. a .refusal) (read-all z (record { floors-long = omega arith; ceilings-long = omega arith; rises-long = omega arith })) ∙ sym z
-      go (no h) = read-refusal ∙ rw (ne-eqb (earlier b) 0 h) refl
+      go (no h) = read-refusal ∙ rw (ne-eqb (earlyReading b) 0 h) refl

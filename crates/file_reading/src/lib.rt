@@ -2,19 +2,24 @@
 ghost use mathlib.Core.Path.{_≡_};
 ghost use Prim.Native.Nat.{_+_, _-_, _*_, _≤_};
 ghost use lib.ListN.{length};
+ghost use Rattle.limits.specs.Limits.{mostDays, mostCuts};
 ghost use Rattle.theory_lists.specs.Lent.{lentList};
-ghost use Rattle.file_format.specs.Format.{fileLength, dayCount, cutCount, floorAt, ceilingAt, riseAt, toldAt, known};
+ghost use Rattle.file_format.specs.Format.{cutLength, fileLength, dayCount, cutCount, floorAt, ceilingAt, riseAt, numberedAt, known};
 ghost use Rattle.file_reading.specs.Reading.{sheetFrom, refusedRead, contents, readFrom};
 use base_little_endian::i32_at;
 use base_little_endian::u16_at;
 use base_numbers::wide;
 use file_checks::file_refusal;
-use file_checks::told_at;
+use file_checks::numbered_at;
 use file_days::store_days;
+use file_format::CUT_BYTES;
+use file_format::DAY_BYTES;
+use file_format::HEADER_BYTES;
+use limits::MOST_CUTS;
 use session_cuts::Cut;
 use session_cuts::Entry;
+use session_cuts::Numbered;
 use session_cuts::Sheet;
-use session_cuts::Told;
 
 // The refusal's number, 0 for none; the day count, the total's bounds and the cuts.
 pub struct ReadAnswer {
@@ -26,10 +31,10 @@ pub struct ReadAnswer {
 }
 
 fn entry_at(bytes: &[u8], at: usize) -> Entry
-    requires { ⌜ at + 8 ≤ length (now bytes) ⌝ }
-    ensures { λ r. ⌜ r ≡ record { cut = known (toldAt (now (bytes .entry)) at) } ⌝ }
+    requires { ⌜ at + cutLength ≤ length (now bytes) ⌝ }
+    ensures { λ r. ⌜ r ≡ record { cut = known (numberedAt (now (bytes .entry)) at) } ⌝ }
 {
-    let Told::Known(cut) = told_at(bytes, at) else {
+    let Numbered::Known(cut) = numbered_at(bytes, at) else {
         return Entry {
             cut: Cut::DayFloor(0, 0),
         };
@@ -38,16 +43,16 @@ fn entry_at(bytes: &[u8], at: usize) -> Entry
 }
 
 fn read_sheet(bytes: &[u8], from: usize, count: usize) -> Sheet
-    requires { ⌜ (from + count * 8 ≤ length (now bytes)) × (count ≤ 512) ⌝ }
+    requires { ⌜ (from + count * cutLength ≤ length (now bytes)) × (count ≤ mostCuts) ⌝ }
     ensures { λ r. ⌜ r ≡ sheetFrom (now (bytes .entry)) from count ⌝ }
 {
     let blank = Entry {
         cut: Cut::DayFloor(0, 0),
     };
-    let mut entries = [blank; 512];
+    let mut entries = [blank; MOST_CUTS];
     let mut j = 0;
     while j < count {
-        entries[j] = entry_at(bytes, from + j * 8);
+        entries[j] = entry_at(bytes, from + j * CUT_BYTES);
         j += 1;
     }
     Sheet { count, entries }
@@ -59,7 +64,7 @@ fn refused(number: u8) -> ReadAnswer
     let blank = Entry {
         cut: Cut::DayFloor(0, 0),
     };
-    let entries = [blank; 512];
+    let entries = [blank; MOST_CUTS];
     ReadAnswer {
         refusal: number,
         days: 0,
@@ -71,13 +76,13 @@ fn refused(number: u8) -> ReadAnswer
 
 // What is read of a file beside its days.
 fn read_contents(bytes: &[u8], days: usize) -> ReadAnswer
-    requires { ⌜ (days ≡ dayCount (now bytes)) × (fileLength days (cutCount (now bytes)) ≡ length (now bytes)) × (days ≤ 512) × (cutCount (now bytes) ≤ 512) ⌝ }
+    requires { ⌜ (days ≡ dayCount (now bytes)) × (fileLength days (cutCount (now bytes)) ≡ length (now bytes)) × (days ≤ mostDays) × (cutCount (now bytes) ≤ mostCuts) ⌝ }
     ensures { λ r. ⌜ r ≡ contents (now (bytes .entry)) ⌝ }
 {
     let lowest = i32_at(bytes, 8);
     let highest = i32_at(bytes, 12);
     let count = wide(u16_at(bytes, 2));
-    let sheet = read_sheet(bytes, 16 + days * 6, count);
+    let sheet = read_sheet(bytes, HEADER_BYTES + days * DAY_BYTES, count);
     ReadAnswer {
         refusal: 0,
         days,

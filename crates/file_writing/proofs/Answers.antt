@@ -18,7 +18,7 @@ use Rattle.session_cutting.specs.Cutting.{malformed}
 use Rattle.session_cutting.proofs.Laws.{formed-day}
 use Rattle.file_format.specs.Format.{dayOffset, fileLength, header, cutBytes, dayRow, file}
 use Rattle.file_format.proofs.Parts.{length-file, parts-stored}
-use Rattle.file_format.specs.Writing.{earlier, refusal}
+use Rattle.file_format.specs.Writing.{earlyWriting, writingRefusal}
 use Rattle.file_writing.specs.declared.WriteAnswer.{WriteAnswer}
 use Rattle.file_writing.specs.Writing.{writeAnswer, output}
 
@@ -33,41 +33,41 @@ entriesRefusal p s = firstNonzero (λ j. malformed (p .days) (getD (s .entries) 
 -- no check before the output's length refuses
 pub record Checked (p : Profile) (s : Sheet) : Type 0 where
   pub few : s .count ≤ 512
-  pub profile : Opening.earlier p ≡ 0
+  pub profile : Opening.earlyOpening p ≡ 0
   pub formed : entriesRefusal p s ≡ 0
 
 -- ---- refused
 
-by-cuts : (p : Profile) (s : Sheet) → s .count ≤ 512 → Opening.earlier p ≡ 0 → earlier p (cutsOf s) ≡ entriesRefusal p s
-unfolding earlier
+by-cuts : (p : Profile) (s : Sheet) → s .count ≤ 512 → Opening.earlyOpening p ≡ 0 → earlyWriting p (cutsOf s) ≡ entriesRefusal p s
+unfolding earlyWriting
 by-cuts p s few o =
     rw (length-cutsOf s, le-ltb 512 (s .count) few, o)
     (nonzero-same (λ j. malformed (p .days) (cutOn (cutsOf s) j)) (λ j. malformed (p .days) (getD (s .entries) j blank .cut)) (s .count)
     (λ j h. ap (malformed (p .days)) (cutOn-cutsOf s j h)))
 
 module _ (p : Profile) (s : Sheet) (l : List ℕ) where
-  refused : (number : ℕ) {r : WriteAnswer} → refusal p (cutsOf s) (length l) ≡ number → (number ≡ 0 → ⊥) → r ≡ record { refusal = number; length = 0 } → Answers p s l r l
+  refused : (number : ℕ) {r : WriteAnswer} → writingRefusal p (cutsOf s) (length l) ≡ number → (number ≡ 0 → ⊥) → r ≡ record { refusal = number; length = 0 } → Answers p s l r l
   unfolding writeAnswer output
   refused number e x a = (rw (e, ne-eqb number 0 x) a, rw (e, ne-eqb number 0 x) refl)
 
-  early : {number : ℕ} {r : WriteAnswer} → number ≡ earlier p (cutsOf s) → (number ≡ 0 → ⊥) → r ≡ record { refusal = number; length = 0 } → Answers p s l r l
-  unfolding refusal
+  early : {number : ℕ} {r : WriteAnswer} → number ≡ earlyWriting p (cutsOf s) → (number ≡ 0 → ⊥) → r ≡ record { refusal = number; length = 0 } → Answers p s l r l
+  unfolding writingRefusal
   early {number} e x a = refused number (rw (← e, ne-eqb number 0 x) refl) x a
 
   pub too-many : {r : WriteAnswer} → 512 < s .count → r ≡ record { refusal = 1; length = 0 } → Answers p s l r l
-  unfolding earlier
+  unfolding earlyWriting
   too-many h a = early (rw (length-cutsOf s, lt-ltb 512 (s .count) h) refl) (λ z. omega arith) a
 
   module _ (few : s .count ≤ 512) {number : ℕ} {r : WriteAnswer} (x : number ≡ 0 → ⊥) (a : r ≡ record { refusal = number; length = 0 }) where
-    pub bad-profile : number ≡ Opening.earlier p → Answers p s l r l
-    unfolding earlier
+    pub bad-profile : number ≡ Opening.earlyOpening p → Answers p s l r l
+    unfolding earlyWriting
     bad-profile e = early (rw (length-cutsOf s, le-ltb 512 (s .count) few, ← e, ne-eqb number 0 x) refl) x a
 
-    pub bad-cut : Opening.earlier p ≡ 0 → number ≡ entriesRefusal p s → Answers p s l r l
+    pub bad-cut : Opening.earlyOpening p ≡ 0 → number ≡ entriesRefusal p s → Answers p s l r l
     bad-cut o e = early (e ∙ sym (by-cuts p s few o)) x a
 
   pub too-short : {r : WriteAnswer} → Checked p s → length l < fileLength (p .days) (s .count) → r ≡ record { refusal = 2; length = 0 } → Answers p s l r l
-  unfolding refusal
+  unfolding writingRefusal
   too-short c h a =
       refused 2 (rw (by-cuts p s (c .few) (c .profile), c .formed, length-cutsOf s, lt-ltb (length l) (fileLength (p .days) (s .count)) h) refl) (λ z. omega arith) a
 
@@ -81,8 +81,8 @@ module _ (p : Profile) (s : Sheet) (c : Checked p s) where
       omega (arith, formed-day (p .days) (getD (s .entries) j blank .cut) (nonzero-none (λ i. malformed (p .days) (getD (s .entries) i blank .cut)) (s .count) (c .formed) j h) (z .some), z .few)
 
   module _ (l : List ℕ) (h : fileLength (p .days) (s .count) ≤ length l) where
-    accepted : refusal p (cutsOf s) (length l) ≡ 0
-    unfolding refusal
+    accepted : writingRefusal p (cutsOf s) (length l) ≡ 0
+    unfolding writingRefusal
     accepted = rw (by-cuts p s (c .few) (c .profile), c .formed, length-cutsOf s, le-ltb (length l) (fileLength (p .days) (s .count)) h) refl
 
     -- the three parts of the file, stored one after another

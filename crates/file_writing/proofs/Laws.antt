@@ -14,7 +14,7 @@ use Rattle.session.specs.Profile.{Profile}
 use Rattle.session_cuts.specs.declared.Cut.{Cut}
 use Rattle.file_format.specs.Format.{fileLength, file}
 use Rattle.file_format.proofs.Parts.{length-file}
-use Rattle.file_format.specs.Writing.{earlier, refusal}
+use Rattle.file_format.specs.Writing.{earlyWriting, writingRefusal}
 use Rattle.file_writing.specs.declared.WriteAnswer.{WriteAnswer}
 use Rattle.file_writing.specs.Writing.{writeAnswer, output}
 
@@ -24,25 +24,25 @@ answered zero long = refl
 answered (suc number) long = rw (ne-eqb (suc number) 0 (λ e. omega arith)) refl
 
 module _ (p : Profile) (cs : List Cut) where
-  pub answer-refusal : (room : ℕ) → writeAnswer p cs room .refusal ≡ refusal p cs room
+  pub answer-refusal : (room : ℕ) → writeAnswer p cs room .refusal ≡ writingRefusal p cs room
   unfolding writeAnswer
-  answer-refusal room = answered (refusal p cs room) (fileLength (p .days) (length cs))
+  answer-refusal room = answered (writingRefusal p cs room) (fileLength (p .days) (length cs))
 
   module _ (out : List ℕ) (e : writeAnswer p cs (length out) .refusal ≡ 0) where
-    none : refusal p cs (length out) ≡ 0
+    none : writingRefusal p cs (length out) ≡ 0
     none = sym (answer-refusal (length out)) ∙ e
 
-    pub written-passed : earlier p cs ≡ 0
-    unfolding refusal
-    written-passed = then-zero (earlier p cs) _ none .0
+    pub written-passed : earlyWriting p cs ≡ 0
+    unfolding writingRefusal
+    written-passed = then-zero (earlyWriting p cs) _ none .0
 
     pub written-length : writeAnswer p cs (length out) .length ≡ length (file p cs)
     unfolding writeAnswer
-    written-length = rw (eq-eqb (refusal p cs (length out)) 0 none) (sym (length-file p cs))
+    written-length = rw (eq-eqb (writingRefusal p cs (length out)) 0 none) (sym (length-file p cs))
 
     pub written-front : output p cs out ≡ inFront (file p cs) out
     unfolding output
-    written-front = rw (eq-eqb (refusal p cs (length out)) 0 none) refl
+    written-front = rw (eq-eqb (writingRefusal p cs (length out)) 0 none) refl
 
     -- what stands at the front
     pub written-file : take (writeAnswer p cs (length out) .length) (output p cs out) ≡ file p cs

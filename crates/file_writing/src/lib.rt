@@ -2,14 +2,19 @@
 ghost use mathlib.Core.Path.{_≡_};
 ghost use Prim.Native.Nat.{_≤_};
 ghost use lib.ListN.{length, getD};
+ghost use Rattle.limits.specs.Limits.{mostCuts};
 ghost use Rattle.theory_lists.specs.First.{firstNonzero};
-ghost use Rattle.session.specs.Opening.{earlier, profile};
+ghost use Rattle.session.specs.Opening.{earlyOpening, profile};
 ghost use Rattle.session_cuts.specs.Sheet.{blank, cutsOf};
 ghost use Rattle.session_cutting.specs.Cutting.{malformed};
 ghost use Rattle.file_writing.specs.Writing.{writeAnswer, output};
+use file_format::CUT_BYTES;
+use file_format::DAY_BYTES;
+use file_format::HEADER_BYTES;
 use file_parts::put_days;
 use file_parts::put_entries;
 use file_parts::put_header;
+use limits::MOST_CUTS;
 use session::Session;
 use session_cuts::Entry;
 use session_cuts::Sheet;
@@ -29,7 +34,7 @@ pub fn profile_refusal(
     lowest: i32,
     highest: i32,
 ) -> u8
-    ensures { λ r. ⌜ r ≡ earlier (profile days (now (floors .entry)) (now (ceilings .entry)) (now (rises .entry)) lowest highest) ⌝ }
+    ensures { λ r. ⌜ r ≡ earlyOpening (profile days (now (floors .entry)) (now (ceilings .entry)) (now (rises .entry)) lowest highest) ⌝ }
 {
     let opened = Session::open(days, floors, ceilings, rises, lowest, highest);
     if opened.refusal == 8 {
@@ -46,8 +51,8 @@ fn entry_refusal(entry: Entry, days: usize) -> u8
 }
 
 // The first refusal of the entries in their order, or 0.
-fn entries_refusal(entries: [Entry; 512], count: usize, days: usize) -> u8
-    requires { ⌜ count ≤ 512 ⌝ }
+fn entries_refusal(entries: [Entry; MOST_CUTS], count: usize, days: usize) -> u8
+    requires { ⌜ count ≤ mostCuts ⌝ }
     ensures { λ r. ⌜ r ≡ firstNonzero (λ j. malformed days (getD entries j blank .cut)) count ⌝ }
 {
     let mut j = 0;
@@ -86,7 +91,7 @@ pub fn write(
 {
     let count = sheet.count;
     let entries = sheet.entries;
-    if 512 < count {
+    if MOST_CUTS < count {
         return refuse(1);
     }
     let of_profile = profile_refusal(days, floors, ceilings, rises, lowest, highest);
@@ -97,8 +102,8 @@ pub fn write(
     if of_cuts != 0 {
         return refuse(of_cuts);
     }
-    let from = 16 + days * 6;
-    let length = from + count * 8;
+    let from = HEADER_BYTES + days * DAY_BYTES;
+    let length = from + count * CUT_BYTES;
     if out.len() < length {
         return refuse(2);
     }

@@ -4,7 +4,7 @@ use session::Session;
 use session_cuts::Cut;
 use session_cutting::AfterCut;
 ghost use Prim.Native.Nat.{_≤_};
-ghost use Rattle.session.specs.Showing.{Sane};
+ghost use Rattle.session.specs.Showing.{SessionInBounds};
 
 const DAY_FLOOR: usize = 0;
 
@@ -16,7 +16,7 @@ pub const DAYS: usize = 3;
 
 // A: 2..6, 4..7, 4..7, total 10..12.
 pub(crate) fn profile_a() -> Session
-    ensures { λ r. ⌜ Sane r ⌝ }
+    ensures { λ r. ⌜ SessionInBounds r ⌝ }
 {
     let floors = [2i16, 4, 4];
     let ceilings = [6i16, 7, 7];
@@ -26,23 +26,23 @@ pub(crate) fn profile_a() -> Session
 }
 
 fn cut(session: Session, kind: usize, day: usize, value: i32, room: usize) -> AfterCut
-    requires { ⌜ Sane session × (room ≤ 3) ⌝ }
-    ensures { λ r. ⌜ Sane (r .session) ⌝ }
+    requires { ⌜ SessionInBounds session × (room ≤ 3) ⌝ }
+    ensures { λ r. ⌜ SessionInBounds (r .session) ⌝ }
 {
     let mut changed = [0u16; 3];
-    session_cutting::cut_told(session, kind, day, value, &mut changed[..room])
+    session_cutting::cut_numbered(session, kind, day, value, &mut changed[..room])
 }
 
 // A after a cut that no schedule keeps.
 pub(crate) fn spent() -> Session
-    ensures { λ r. ⌜ Sane r ⌝ }
+    ensures { λ r. ⌜ SessionInBounds r ⌝ }
 {
     let after = cut(profile_a(), TOTAL_FLOOR, 0, 13, DAYS);
     after.session
 }
 
 fn refusal(session: Session, kind: usize, day: usize, value: i32, room: usize) -> u8
-    requires { ⌜ Sane session × (room ≤ 3) ⌝ }
+    requires { ⌜ SessionInBounds session × (room ≤ 3) ⌝ }
 {
     let after = cut(session, kind, day, value, room);
     let answer = after.answer;

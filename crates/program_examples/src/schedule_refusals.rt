@@ -8,12 +8,12 @@ use crate::numbered;
 use schedule_inspection::Inspection;
 use session::Session;
 ghost use Prim.Native.Nat.{_≤_};
-ghost use Rattle.session.specs.Showing.{Sane};
+ghost use Rattle.session.specs.Showing.{SessionInBounds};
 
 // ---- for a day
 
 fn on_day(session: Session, day: usize, value: i32, room: usize) -> u8
-    requires { ⌜ Sane session × (room ≤ 4) ⌝ }
+    requires { ⌜ SessionInBounds session × (room ≤ 4) ⌝ }
 {
     let mut list = [0i16; 4];
     schedule_writing::write_day(session, day, value, &mut list[..room])
@@ -78,7 +78,7 @@ fn day_order() {
 // ---- for the total
 
 fn with_total(session: Session, value: i32, room: usize) -> u8
-    requires { ⌜ Sane session × (room ≤ 4) ⌝ }
+    requires { ⌜ SessionInBounds session × (room ≤ 4) ⌝ }
 {
     let mut list = [0i16; 4];
     schedule_writing::write_total(session, value, &mut list[..room])
@@ -148,7 +148,7 @@ fn print_answer(answer: Inspection) {
 }
 
 fn inspected(text: &[u8], session: Session, list: &[i16])
-    requires { ⌜ Sane session ⌝ }
+    requires { ⌜ SessionInBounds session ⌝ }
 {
     io::write_all(1, text);
     print_answer(schedule_inspection::inspect(session, list));

@@ -7,10 +7,11 @@ use native.Mathlib.Omega.{arith}
 use lib.IntN.{ℤ, pos, _+ℤ_}
 use lib.ListN.{length}
 use lib.Signed.{_≤ℤ_}
+use Rattle.limits.specs.Limits.{lowestPoint, lowestRise, lowestTotal}
 use Rattle.theory_lists.specs.ListOf.{listOf, length-listOf, get-listOf}
 use Rattle.theory_lists.specs.Sum.{at}
 use Rattle.theory_chains.specs.Sum.{sum, all}
-use Rattle.base_codes.specs.Code.{lowestPoint, lowestRise, lowestTotal, code, decoded, on}
+use Rattle.base_codes.specs.Code.{code, decoded, on}
 use Rattle.base_codes.proofs.Offset.{Less, less-le, le-less, less-order, less-shift, less-same, less-add}
 use Rattle.base_codes.proofs.Laws.{point-less, total-less, code-less, decoded-less}
 use Rattle.theory_chains.specs.Spans as Codes
@@ -141,7 +142,7 @@ module _ (p : Profile) (d : Entered p) (S : List ℤ → Type 0) (T : (ℕ → �
   -- a range of codes that spans the set in codes, decoded, spans the set: for a day's setpoint and for the total alike
   module _ (low : ℤ) (k : ℕ) (offset : Less low 0 k) (f : List ℤ → ℤ) (g : (ℕ → ℕ) → ℕ)
       (same : (x : List ℤ) (c : ℕ → ℕ) → length x ≡ p .days → ((i : ℕ) → i < p .days → Less (on x i) (c i) 1000) → Less (f x) (g c) k)
-      (lo hi : ℕ) (s : Codes.Spans T g lo hi) where
+      (lo hi : ℕ) (s : Codes.NatSpans T g lo hi) where
     bottom : Less (decoded low lo) lo k
     bottom = decoded-less low lo k offset
 
@@ -166,8 +167,8 @@ module _ (p : Profile) (d : Entered p) (S : List ℤ → Type 0) (T : (ℕ → �
       taken = at-value;
     }
 
-  pub exact-points : (s : Session) → ((i : ℕ) → i < p .days → Codes.Spans T (λ c. c i) (at (s .present .floors) i) (at (s .present .ceilings) i))
-      → Codes.Spans T (held (p .days)) (s .present .least) (s .present .most) → Exact p S s
+  pub exact-points : (s : Session) → ((i : ℕ) → i < p .days → Codes.NatSpans T (λ c. c i) (at (s .present .floors) i) (at (s .present .ceilings) i))
+      → Codes.NatSpans T (held (p .days)) (s .present .least) (s .present .most) → Exact p S s
   exact-points s day sum = record {
     each = λ i h. spans lowestPoint 1000 point-less (λ x. on x i) (λ c. c i) (λ x c w same. same i h) _ _ (day i h);
     sum = spans lowestTotal 512000 total-less total (held (p .days)) (λ x c w same. held-less x (p .days) c w (d .sized .few) same) _ _ sum;

@@ -11,21 +11,21 @@ use borrow.Author.Tests.{eq-eqb, eqb-false}
 use Rattle.session.specs.Profile.{Profile}
 use Rattle.session.specs.Opening.{opened}
 use Rattle.session.specs.declared.Session.{Session}
-use Rattle.session_cuts.specs.declared.Told.{Told}
-use Rattle.session_cutting.specs.Cutting.{afterTold}
+use Rattle.session_cuts.specs.declared.Numbered.{Numbered}
+use Rattle.session_cutting.specs.Cutting.{afterNumbered}
 use Rattle.promises.specs.Cuts.{after}
 use Rattle.promises.proofs.Demand1.{demand-1}
-use Rattle.c_lists.specs.Profiles.{lengthRefusal, profileOf}
+use Rattle.c_lists.specs.Profiles.{byteLengthRefusal, profileOf}
 use Rattle.c_storage.specs.Layout.{sessionBytes, encoding, decoding}
 use Rattle.c_storage.specs.Storing.{Storable}
 use Rattle.c_storage.proofs.Lengths.{encoding-length}
 use Rattle.c_storage.proofs.Inverse.{decoding-encoding}
-use Rattle.c_sessions.specs.Sessions.{isSession, openRefusal, openBytes, cutAnswer, cutBytes}
-use Rattle.promises.specs.InBytes.{HandedBytes, byValue, bytesAfter, CameFrom, SessionsInBytes}
-use Rattle.promises.proofs.Storable.{opened-storable, told-storable}
+use Rattle.c_sessions.specs.Sessions.{isSession, openRefusal, bytesOpened, cutAnswer, bytesCut}
+use Rattle.promises.specs.InBytes.{ByteCutCall, byValue, bytesAfter, CameFrom, SessionsInBytes}
+use Rattle.promises.proofs.Storable.{opened-storable, numbered-storable}
 
 encoded : (s : Session) → Storable s → isSession (encoding s) ≡ true
-encoded s h = eq-eqb (length (encoding s)) sessionBytes (encoding-length s (h .sane .opened .most))
+encoded s h = eq-eqb (length (encoding s)) sessionBytes (encoding-length s (h .bounds .opened .most))
 
 -- ---- cuts
 
@@ -38,25 +38,25 @@ written-or-left r s after left = go (eqb r 0) (eqb r 8) refl refl
     go false false e f = ap encoding (sym (left (eqb-false r 0 e) (eqb-false r 8 f)))
 
 -- one cut: a refusal other than 8 leaves the session, and so its bytes
-cut-encoded : (s : Session) (t : Told) (bytes : ℕ) → Storable s → cutBytes (encoding s) t bytes ≡ encoding (afterTold s t (bytes / 2) .session)
-unfolding cutBytes cutAnswer
+cut-encoded : (s : Session) (t : Numbered) (bytes : ℕ) → Storable s → bytesCut (encoding s) t bytes ≡ encoding (afterNumbered s t (bytes / 2) .session)
+unfolding bytesCut cutAnswer
 cut-encoded s t bytes h =
     let left = rw (length-replicate {A = ℕ} (bytes / 2) 0) at (demand-1 .refused s t (replicate (bytes / 2) 0) .session) in
     rw (encoded s h, decoding-encoding s h)
-    (written-or-left (afterTold s t (bytes / 2) .answer .refusal) s (afterTold s t (bytes / 2) .session) left)
+    (written-or-left (afterNumbered s t (bytes / 2) .answer .refusal) s (afterNumbered s t (bytes / 2) .session) left)
 
 -- a whole list of cuts
-follow : (s : Session) (hs : List HandedBytes) → Storable s → (bytesAfter (encoding s) hs ≡ encoding (after s (byValue hs))) × Storable (after s (byValue hs))
+follow : (s : Session) (hs : List ByteCutCall) → Storable s → (bytesAfter (encoding s) hs ≡ encoding (after s (byValue hs))) × Storable (after s (byValue hs))
 follow s [] h = (refl, h)
 follow s (c ∷ hs) h =
-    let f = follow (afterTold s (c .told) (c .bytes / 2) .session) hs (told-storable s (c .told) (c .bytes / 2) h) in
-    (ap (λ b. bytesAfter b hs) (cut-encoded s (c .told) (c .bytes) h) ∙ f .0, f .1)
+    let f = follow (afterNumbered s (c .cut) (c .bytes / 2) .session) hs (numbered-storable s (c .cut) (c .bytes / 2) h) in
+    (ap (λ b. bytesAfter b hs) (cut-encoded s (c .cut) (c .bytes) h) ∙ f .0, f .1)
 
 -- ---- opening
 
 module _ (b : List ℕ) (n : ℕ) (fs cs rs : List ℕ) (lo hi : ℤ) (e : openRefusal b n fs cs rs lo hi ≡ 0) where
   abbrev lengths : ℕ
-  lengths = lengthRefusal n (length fs) (length cs) (length rs)
+  lengths = byteLengthRefusal n (length fs) (length cs) (length rs)
 
   abbrev number : ℕ
   number = opened (profileOf n fs cs rs lo hi) .refusal
@@ -70,14 +70,14 @@ module _ (b : List ℕ) (n : ℕ) (fs cs rs : List ℕ) (lo hi : ℤ) (e : openR
   unfolding openRefusal
   unrefused = passes (isSession b) (eqb lengths 0) refl e
 
-  written : openBytes b n fs cs rs lo hi ≡ encoding (opened (profileOf n fs cs rs lo hi) .session)
-  unfolding openBytes
+  written : bytesOpened b n fs cs rs lo hi ≡ encoding (opened (profileOf n fs cs rs lo hi) .session)
+  unfolding bytesOpened
   written = rw (eq-eqb (openRefusal b n fs cs rs lo hi) 0 e) refl
 
 -- ---- both
 
 -- what is known of bytes that came from opening and cuts
-pub record Came (p : Profile) (hs : List HandedBytes) (b : List ℕ) : Type 0 where
+pub record Came (p : Profile) (hs : List ByteCutCall) (b : List ℕ) : Type 0 where
   pub opens : opened p .refusal ≡ 0
   pub bytes : b ≡ encoding (after (opened p .session) (byValue hs))
   pub held : decoding b ≡ after (opened p .session) (byValue hs)
@@ -85,7 +85,7 @@ pub record Came (p : Profile) (hs : List HandedBytes) (b : List ℕ) : Type 0 wh
   pub storable : Storable (decoding b)
   pub sized : isSession b ≡ true
 
-pub came : (p : Profile) (hs : List HandedBytes) (b : List ℕ) → CameFrom p hs b → Came p hs b
+pub came : (p : Profile) (hs : List ByteCutCall) (b : List ℕ) → CameFrom p hs b → Came p hs b
 came p hs b c =
     let s : Session = after (opened p .session) (byValue hs) in
     let opens : opened p .refusal ≡ 0 = rw (← c .entered) at (unrefused (c .lent) (p .days) (c .floors) (c .ceilings) (c .rises) (p .lowest) (p .highest) (c .accepted)) in
@@ -103,17 +103,17 @@ came p hs b c =
     }
 
 -- one cut more
-pub record CutHeld (b : List ℕ) (t : Told) (bytes : ℕ) : Type 0 where
-  pub after-bytes : cutBytes b t bytes ≡ encoding (afterTold (decoding b) t (bytes / 2) .session)
-  pub after-held : decoding (cutBytes b t bytes) ≡ afterTold (decoding b) t (bytes / 2) .session
+pub record CutHeld (b : List ℕ) (t : Numbered) (bytes : ℕ) : Type 0 where
+  pub after-bytes : bytesCut b t bytes ≡ encoding (afterNumbered (decoding b) t (bytes / 2) .session)
+  pub after-held : decoding (bytesCut b t bytes) ≡ afterNumbered (decoding b) t (bytes / 2) .session
 
-pub cut-held : (p : Profile) (hs : List HandedBytes) (b : List ℕ) → CameFrom p hs b → (t : Told) (bytes : ℕ) → CutHeld b t bytes
+pub cut-held : (p : Profile) (hs : List ByteCutCall) (b : List ℕ) → CameFrom p hs b → (t : Numbered) (bytes : ℕ) → CutHeld b t bytes
 cut-held p hs b c t bytes =
     let w = came p hs b c in
-    let e = ap (λ a. cutBytes a t bytes) (w .back) ∙ cut-encoded (decoding b) t bytes (w .storable) in
+    let e = ap (λ a. bytesCut a t bytes) (w .back) ∙ cut-encoded (decoding b) t bytes (w .storable) in
     record {
       after-bytes = e;
-      after-held = ap decoding e ∙ decoding-encoding (afterTold (decoding b) t (bytes / 2) .session) (told-storable (decoding b) t (bytes / 2) (w .storable));
+      after-held = ap decoding e ∙ decoding-encoding (afterNumbered (decoding b) t (bytes / 2) .session) (numbered-storable (decoding b) t (bytes / 2) (w .storable));
     }
 
 pub sessions-in-bytes : SessionsInBytes

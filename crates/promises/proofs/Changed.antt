@@ -8,17 +8,18 @@ use native.Mathlib.Omega.{arith}
 use lib.Dec.{eqb}
 use lib.ListN.{length}
 use borrow.Author.Tests.{eqb-true, eq-eqb}
+use Rattle.limits.specs.Limits.{lowestPoint}
 use Rattle.theory_lists.specs.Sum.{at}
-use Rattle.base_codes.specs.Code.{lowestPoint, code, decoded}
+use Rattle.base_codes.specs.Code.{code, decoded}
 use Rattle.base_codes.proofs.Laws.{code-decoded}
 use Rattle.session.specs.Showing.{floorOn, ceilingOn}
 use Rattle.session.specs.declared.Session.{Session}
-use Rattle.session_cuts.specs.declared.Told.{Told}
+use Rattle.session_cuts.specs.declared.Numbered.{Numbered}
 use Rattle.session_changed.specs.Changes.{differs, daysWhere}
 use Rattle.theory_lists.specs.Front.{front-at, front-past, front-length}
 use Rattle.session_changed.proofs.Days.{at-mem, mem-at, days-where, days-ascend}
-use Rattle.session_cutting.specs.Cutting.{afterTold, listAfter}
-use Rattle.session_cutting.proofs.Laws.{Accepted, accepted-list, told-accepted}
+use Rattle.session_cutting.specs.Cutting.{afterNumbered, listAfter}
+use Rattle.session_cutting.proofs.Laws.{Accepted, accepted-list, numbered-accepted}
 use Rattle.session_cutting.specs.declared.AfterCut.{AfterCut}
 use Rattle.promises.specs.Demands.{Changes}
 
@@ -40,9 +41,9 @@ differs-shown a b a′ b′ = (to, go (eqb a a′) (eqb b b′) refl refl)
     go true false e f h = refl
     go false y e f h = refl
 
-module _ (s : Session) (l : List ℕ) (t : Told) (z : afterTold s t (length l) .answer .refusal ≡ 0) where
+module _ (s : Session) (l : List ℕ) (t : Numbered) (z : afterNumbered s t (length l) .answer .refusal ≡ 0) where
   abbrev r : AfterCut
-  r = afterTold s t (length l)
+  r = afterNumbered s t (length l)
 
   abbrev test : ℕ → Bool
   test = differs (s .present .floors) (s .present .ceilings) (r .session .present .floors) (r .session .present .ceilings)
@@ -51,7 +52,7 @@ module _ (s : Session) (l : List ℕ) (t : Told) (z : afterTold s t (length l) .
   days = daysWhere test (s .days)
 
   accepted : Accepted s (length l) r
-  accepted = told-accepted s t (length l) z
+  accepted = numbered-accepted s t (length l) z
 
   count : r .answer .changed ≡ length days
   count = accepted .counted

@@ -9,9 +9,10 @@ use lib.ListN.{length}
 use lib.Signed.{_≤ℤ_}
 use lib.Seq.{getD-set-same, getD-set-other}
 use borrow.Author.Tests.{eq-eqb, lt-ltb}
+use Rattle.limits.specs.Limits.{lowestPoint, highestPoint, lowestTotal, highestTotal}
 use Rattle.theory_lists.specs.Sum.{at}
 use Rattle.theory_lists.specs.Written.{by-cell}
-use Rattle.base_codes.specs.Code.{lowestPoint, highestPoint, lowestTotal, highestTotal, code}
+use Rattle.base_codes.specs.Code.{code}
 use Rattle.base_codes.proofs.Laws.{within-yes}
 use Rattle.theory_method.specs.Filter.{held}
 use Rattle.theory_method.specs.Levels.{rebound}
@@ -20,7 +21,7 @@ use Rattle.session.proofs.Within.{Within}
 use Rattle.session.specs.declared.Ranges.{Ranges}
 use Rattle.session_cuts.specs.declared.Cut.{Cut}
 use Rattle.session_cuts.specs.declared.Cut.the-variants.{DayFloor, DayCeiling, TotalFloor, TotalCeiling}
-use Rattle.session_cutting.specs.Cutting.{dayRefusal, totalRefusal, malformed, clipped}
+use Rattle.session_cutting.specs.Cutting.{dayCutRefusal, totalCutRefusal, malformed, clipped}
 use Rattle.session_cutting.proofs.Laws.{day-formed, total-formed}
 use Rattle.promises.specs.Cuts.{WellFormed}
 
@@ -32,16 +33,16 @@ KeepsLevels n (TotalFloor day value) x = code lowestTotal value ≤ held n x
 KeepsLevels n (TotalCeiling day value) x = held n x ≤ code lowestTotal value
 
 -- a cut is well-formed where the checks 12, 7, 3 and 5 find nothing
-day-well : (n d : ℕ) (v : ℤ) → dayRefusal n d v ≡ 0 → (d < n) × (lowestPoint ≤ℤ v) × (v ≤ℤ highestPoint)
+day-well : (n d : ℕ) (v : ℤ) → dayCutRefusal n d v ≡ 0 → (d < n) × (lowestPoint ≤ℤ v) × (v ≤ℤ highestPoint)
 day-well n d v e = let f = day-formed n d v e in let w = within-yes lowestPoint highestPoint v .0 (f .1) in (f .0, w .0, w .1)
 
-total-well : (d : ℕ) (v : ℤ) → totalRefusal d v ≡ 0 → (d ≡ 0) × (lowestTotal ≤ℤ v) × (v ≤ℤ highestTotal)
+total-well : (d : ℕ) (v : ℤ) → totalCutRefusal d v ≡ 0 → (d ≡ 0) × (lowestTotal ≤ℤ v) × (v ≤ℤ highestTotal)
 total-well d v e = let f = total-formed d v e in let w = within-yes lowestTotal highestTotal v .0 (f .1) in (f .0, w .0, w .1)
 
-day-right : (n d : ℕ) (v : ℤ) → (d < n) × (lowestPoint ≤ℤ v) × (v ≤ℤ highestPoint) → dayRefusal n d v ≡ 0
+day-right : (n d : ℕ) (v : ℤ) → (d < n) × (lowestPoint ≤ℤ v) × (v ≤ℤ highestPoint) → dayCutRefusal n d v ≡ 0
 day-right n d v w = rw (lt-ltb d n (w .0), within-yes lowestPoint highestPoint v .1 (w .1, w .2)) refl
 
-total-right : (d : ℕ) (v : ℤ) → (d ≡ 0) × (lowestTotal ≤ℤ v) × (v ≤ℤ highestTotal) → totalRefusal d v ≡ 0
+total-right : (d : ℕ) (v : ℤ) → (d ≡ 0) × (lowestTotal ≤ℤ v) × (v ≤ℤ highestTotal) → totalCutRefusal d v ≡ 0
 total-right d v w = rw (eq-eqb d 0 (w .0), within-yes lowestTotal highestTotal v .1 (w .1, w .2)) refl
 
 pub well-formed : (p : Profile) (c : Cut) → (malformed (p .days) c ≡ 0) ↔ WellFormed p c

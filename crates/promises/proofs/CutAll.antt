@@ -15,21 +15,21 @@ use Rattle.session.specs.Profile.{Profile}
 use Rattle.session.specs.Opening.{opened}
 use Rattle.session.specs.declared.Session.{Session}
 use Rattle.session_cuts.specs.declared.Cut.{Cut}
-use Rattle.session_cuts.specs.declared.Told.the-variants.{Known}
-use Rattle.session_cutting.specs.Cutting.{malformed, earlier, afterCut, afterTold, retightened, clipped}
+use Rattle.session_cuts.specs.declared.Numbered.the-variants.{Known}
+use Rattle.session_cutting.specs.Cutting.{malformed, earlyCutting, afterCut, afterNumbered, retightened, clipped}
 use Rattle.session_cutting.proofs.Laws.{passed, accepted, refused-same, earlier-none}
 use Rattle.file_printing.proofs.Lines.{once-refused, once-applied}
 use Rattle.file_printing.specs.Printing.{afterEntry, cutOnce, cutAll}
-use Rattle.promises.specs.Cuts.{Handed, after}
+use Rattle.promises.specs.Cuts.{CutCall, after}
 use Rattle.promises.proofs.Demand1.{demand-1}
 use Rattle.promises.proofs.Demand2.{unrefused}
 
 -- ---- one cut
 
 cut-days : (s : Session) (c : Cut) (room : ℕ) → afterCut s c room .session .days ≡ s .days
-cut-days s c room = go (eqb (earlier s c room) 0) (retightened s (clipped (s .present) c) .found) refl refl
+cut-days s c room = go (eqb (earlyCutting s c room) 0) (retightened s (clipped (s .present) c) .found) refl refl
   where
-    go : (early found : Bool) → eqb (earlier s c room) 0 ≡ early → retightened s (clipped (s .present) c) .found ≡ found → afterCut s c room .session .days ≡ s .days
+    go : (early found : Bool) → eqb (earlyCutting s c room) 0 ≡ early → retightened s (clipped (s .present) c) .found ≡ found → afterCut s c room .session .days ≡ s .days
     go true true e f = rw (accepted s c room e, f) refl
     go true false e f = rw (accepted s c room e, f) refl
     go false found e f = rw (refused-same s c room e) refl
@@ -37,14 +37,14 @@ cut-days s c room = go (eqb (earlier s c room) 0) (retightened s (clipped (s .pr
 module _ (s : Session) (c : Cut) (room : ℕ) where
   -- an accepted cut is well-formed, and leaves an unspent session unspent
   cut-formed : afterCut s c room .answer .refusal ≡ 0 → malformed (s .days) c ≡ 0
-  cut-formed z = go (eqb (earlier s c room) 0) refl
+  cut-formed z = go (eqb (earlyCutting s c room) 0) refl
     where
-      go : (b : Bool) → eqb (earlier s c room) 0 ≡ b → malformed (s .days) c ≡ 0
+      go : (b : Bool) → eqb (earlyCutting s c room) 0 ≡ b → malformed (s .days) c ≡ 0
       go true e = passed s c room e .formed
-      go false e = absurd (eqb-false (earlier s c room) 0 e (rw (refused-same s c room e) at z))
+      go false e = absurd (eqb-false (earlyCutting s c room) 0 e (rw (refused-same s c room e) at z))
 
   eight-spent : (afterCut s c room .answer .refusal ≡ 8) ↔ (s .spent ≡ false) × (afterCut s c room .session .spent ≡ true)
-  unfolding afterTold
+  unfolding afterNumbered
   eight-spent = rw (length-replicate {A = ℕ} room 0) at (demand-1 .refused s (Known c) (replicate room 0) .eight)
 
   cut-unspent : s .spent ≡ false → afterCut s c room .answer .refusal ≡ 0 → afterCut s c room .session .spent ≡ false
@@ -58,7 +58,7 @@ module _ (s : Session) (c : Cut) (room : ℕ) where
   cut-answer : malformed (s .days) c ≡ 0 → s .days ≤ room → s .spent ≡ false → (afterCut s c room .answer .refusal ≡ 0 → ⊥) → afterCut s c room .answer .refusal ≡ 8
   cut-answer m r u n = go (retightened s (clipped (s .present) c) .found) refl n
     where
-      e : eqb (earlier s c room) 0 ≡ true
+      e : eqb (earlyCutting s c room) 0 ≡ true
       e = earlier-none s c room m (le-ltb room (s .days) r) u
 
       go : (found : Bool) → retightened s (clipped (s .present) c) .found ≡ found → (afterCut s c room .answer .refusal ≡ 0 → ⊥) → afterCut s c room .answer .refusal ≡ 8
@@ -67,17 +67,17 @@ module _ (s : Session) (c : Cut) (room : ℕ) where
 
 -- ---- a list of cuts
 
-pub after-append : (s : Session) (xs ys : List Handed) → after s (xs ++ ys) ≡ after (after s xs) ys
+pub after-append : (s : Session) (xs ys : List CutCall) → after s (xs ++ ys) ≡ after (after s xs) ys
 after-append s [] ys = refl
-after-append s (h ∷ hs) ys = after-append (afterTold s (h .told) (h .room) .session) hs ys
+after-append s (h ∷ hs) ys = after-append (afterNumbered s (h .cut) (h .room) .session) hs ys
 
 -- a cut of a file as it is handed over
-abbrev pub hand : Cut → Handed
-hand c = record { told = Known c; room = 512 }
+abbrev pub hand : Cut → CutCall
+hand c = record { cut = Known c; room = 512 }
 
 module _ (f : ℕ → Cut) where
   -- the first m cuts
-  abbrev pub handed : ℕ → List Handed
+  abbrev pub handed : ℕ → List CutCall
   handed m = rows (λ j. hand (f j) ∷ []) m
 
   pub mem-handed : (m j : ℕ) → j < m → List·Memᴰ (hand (f j)) (handed m)
@@ -89,7 +89,7 @@ module _ (f : ℕ → Cut) where
       go (yes l) ih = Memᴰ·append-left _ (ih l)
       go (no l) ih = let e : j ≡ m = omega arith in Memᴰ·append-right (handed m) (List·Memᴰ·head (ap (λ k. hand (f k)) e))
 
-  pub handed-mem : (m : ℕ) (h : Handed) → List·Memᴰ h (handed m) → (j : ℕ) × (j < m) × (h ≡ hand (f j))
+  pub handed-mem : (m : ℕ) (h : CutCall) → List·Memᴰ h (handed m) → (j : ℕ) × (j < m) × (h ≡ hand (f j))
   unfolding rows
   handed-mem zero h q = absurd (List·Memᴰ·not-nil q)
   handed-mem (suc m) h q =
@@ -104,7 +104,7 @@ module _ (f : ℕ → Cut) where
 
     -- the session after one cut more
     pub after-more : (m : ℕ) → Reached m → after (opened p .session) (handed (suc m)) ≡ afterCut (cutAll (opened p) f m .session) (f m) 512 .session
-    unfolding rows afterTold
+    unfolding rows afterNumbered
     after-more m w = after-append (opened p .session) (handed m) (hand (f m) ∷ []) ∙ rw (sym (w .session)) refl
 
     one-more : (m : ℕ) → Reached m → cutAll (opened p) f m .refusal ≡ 0 → afterCut (cutAll (opened p) f m .session) (f m) 512 .answer .refusal ≡ 0 → Reached (suc m)

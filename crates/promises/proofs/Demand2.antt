@@ -9,15 +9,15 @@ use lib.IntN.{ℤ}
 use lib.Dec.{eqb}
 use lib.Signed.{≤ℤ-refl}
 use borrow.Author.Tests.{eqb-true, eqb-false}
+use Rattle.limits.specs.Limits.{lowestRise}
 use Rattle.theory_lists.specs.Sum.{at}
-use Rattle.base_codes.specs.Code.{lowestRise}
 use Rattle.theory_method.proofs.Exact.{none, exact}
 use Rattle.session.specs.Profile.{Profile, Schedule, total}
-use Rattle.session.specs.Opening.{earlier, opened, refusedWith, narrowed, codes, fresh, rangesOf}
+use Rattle.session.specs.Opening.{earlyOpening, opened, refusedWith, narrowed, codes, fresh, rangesOf}
 use Rattle.promises.specs.Demands.{Exact, Demand2}
 use Rattle.session.specs.declared.Opened.{Opened}
 use Rattle.session.proofs.Entered.{Entered, entered, codes-bounds}
-use Rattle.session.proofs.Sanity.{earlier-few}
+use Rattle.session.proofs.SessionBounds.{earlier-few}
 use Rattle.promises.proofs.Bridge.{CodesOf, coding, codes-of, schedule-of, exact-points}
 
 module _ (p : Profile) (d : Entered p) where
@@ -33,38 +33,38 @@ module _ (p : Profile) (d : Entered p) where
 abbrev outcome : Profile → Bool → Bool → Opened
 outcome p early found =
     cond early (cond found (record { refusal = 0; session = fresh (p .days) (codes lowestRise (p .rises) (p .days - 1)) (rangesOf (narrowed p)) }) (refusedWith 8))
-    (refusedWith (earlier p))
+    (refusedWith (earlyOpening p))
 
 -- what an opening that is not refused says of the profile
 pub record Unrefused (p : Profile) : Type 0 where
-  pub early : earlier p ≡ 0
+  pub early : earlyOpening p ≡ 0
   pub found : narrowed p .found ≡ true
   pub session : opened p .session ≡ fresh (p .days) (codes lowestRise (p .rises) (p .days - 1)) (rangesOf (narrowed p))
 
 pub unrefused : (p : Profile) → opened p .refusal ≡ 0 → Unrefused p
 unfolding opened
-unrefused p = go (eqb (earlier p) 0) (narrowed p .found) refl refl
+unrefused p = go (eqb (earlyOpening p) 0) (narrowed p .found) refl refl
   where
-    go : (early found : Bool) → eqb (earlier p) 0 ≡ early → narrowed p .found ≡ found → opened p .refusal ≡ 0 → Unrefused p
-    go true true e f z = record { early = eqb-true (earlier p) 0 e; found = f; session = rw (e, f) refl }
+    go : (early found : Bool) → eqb (earlyOpening p) 0 ≡ early → narrowed p .found ≡ found → opened p .refusal ≡ 0 → Unrefused p
+    go true true e f z = record { early = eqb-true (earlyOpening p) 0 e; found = f; session = rw (e, f) refl }
     go true false e f z = absurd (omega (arith, rw (e, f) at z))
-    go false found e f z = absurd (eqb-false (earlier p) 0 e (rw e at z))
+    go false found e f z = absurd (eqb-false (earlyOpening p) 0 e (rw e at z))
 
-refused : (p : Profile) (early found : Bool) → eqb (earlier p) 0 ≡ early → narrowed p .found ≡ found
-    → (outcome p early found .refusal ≡ 8) ↔ (earlier p ≡ 0) × ((x : List ℤ) → Schedule p x → ⊥)
+refused : (p : Profile) (early found : Bool) → eqb (earlyOpening p) 0 ≡ early → narrowed p .found ≡ found
+    → (outcome p early found .refusal ≡ 8) ↔ (earlyOpening p ≡ 0) × ((x : List ℤ) → Schedule p x → ⊥)
 refused p true true e f =
-    let z : earlier p ≡ 0 = eqb-true (earlier p) 0 e in
+    let z : earlyOpening p ≡ 0 = eqb-true (earlyOpening p) 0 e in
     let day = opens p (entered p z) f .sum in
     let some = day .taken _ (≤ℤ-refl _) (day .some) in
     (λ h. absurd (omega arith), λ w. absurd (w .1 (some .0) (some .1)))
 refused p true false e f =
-    let z : earlier p ≡ 0 = eqb-true (earlier p) 0 e in
+    let z : earlyOpening p ≡ 0 = eqb-true (earlyOpening p) 0 e in
     (λ h. (z, no-schedule p (entered p z) f), λ w. refl)
-refused p false found e f = (λ h. absurd (omega (arith, earlier-few p)), λ w. absurd (eqb-false (earlier p) 0 e (w .0)))
+refused p false found e f = (λ h. absurd (omega (arith, earlier-few p)), λ w. absurd (eqb-false (earlyOpening p) 0 e (w .0)))
 
 pub demand-2 : Demand2
 unfolding opened
 demand-2 = record {
   opening = λ p z. let u = unrefused p z in rw (u .session) (opens p (entered p (u .early)) (u .found));
-  none = λ p. refused p (eqb (earlier p) 0) (narrowed p .found) refl refl;
+  none = λ p. refused p (eqb (earlyOpening p) 0) (narrowed p .found) refl refl;
 }

@@ -6,7 +6,8 @@ use mathlib.Core.List.{List}
 use Prim.Native.Nat.{ℕ, _-_, _<_}
 use lib.IntN.{ℤ}
 use lib.ListN.{length}
-use Rattle.base_codes.specs.Code.{lowestPoint, lowestRise, lowestTotal, code, on}
+use Rattle.limits.specs.Limits.{lowestPoint, lowestRise, lowestTotal}
+use Rattle.base_codes.specs.Code.{code, on}
 use Rattle.base_codes.proofs.Offset.{Less, less-order}
 use Rattle.base_codes.proofs.Laws.{point-less, total-less, code-less}
 use Rattle.theory_method.specs.Filter.{held}
@@ -19,7 +20,7 @@ use Rattle.session.specs.declared.Session.{Session}
 use Rattle.session_cuts.specs.declared.Cut.{Cut}
 use Rattle.session_cuts.specs.declared.Cut.the-variants.{DayFloor, DayCeiling, TotalFloor, TotalCeiling}
 use Rattle.session_cutting.specs.Cutting.{spend}
-use Rattle.promises.specs.Cuts.{WellFormed, Keeps, Handed, ValidIn, Kept, after}
+use Rattle.promises.specs.Cuts.{WellFormed, Keeps, CutCall, ValidIn, Kept, after}
 use Rattle.promises.specs.Demands.{Exact, Demand3}
 use Rattle.promises.proofs.Bridge.{held-less, CodesOf, levels-of, pointsOf, points-length, points-less, codes-of, coding, of-levels, exact-points}
 use Rattle.promises.proofs.Demand2.{unrefused}
@@ -46,39 +47,39 @@ module _ (p : Profile) (d : Entered p) where
   o = rangesOf (tight p)
 
   -- the levels that keep every valid cut of the list
-  abbrev pub LevelsKept : List Handed → (ℕ → ℕ) → Type 0
+  abbrev pub LevelsKept : List CutCall → (ℕ → ℕ) → Type 0
   LevelsKept hs = KeepingAll p rs o (CodesOf p d) hs
 
-  pub kept-levels : (hs : List Handed) (x : List ℤ) → Kept p hs x → LevelsKept hs (λ k. code lowestPoint (on x k))
+  pub kept-levels : (hs : List CutCall) (x : List ℤ) → Kept p hs x → LevelsKept hs (λ k. code lowestPoint (on x k))
   kept-levels hs x k =
       (codes-of (coding p d) x (k .schedule), λ c v. keeps-same x (k .schedule .whole) _ (levels-of (coding p d) x (k .schedule)) c (v .valid .formed) .0 (k .keeps c v))
 
-  pub levels-kept : (hs : List Handed) (x : List ℤ) → length x ≡ p .days → (y : ℕ → ℕ) → ((i : ℕ) → i < p .days → Less (on x i) (y i) 1000) → LevelsKept hs y → Kept p hs x
+  pub levels-kept : (hs : List CutCall) (x : List ℤ) → length x ≡ p .days → (y : ℕ → ℕ) → ((i : ℕ) → i < p .days → Less (on x i) (y i) 1000) → LevelsKept hs y → Kept p hs x
   levels-kept hs x whole y same k = record {
     schedule = of-levels (coding p d) x whole y same (k .0);
     keeps = λ c v. keeps-same x whole y same c (v .valid .formed) .1 (k .1 c v);
   }
 
-  kept-points : (hs : List Handed) (y : ℕ → ℕ) → LevelsKept hs y → Kept p hs (pointsOf p d y)
+  kept-points : (hs : List CutCall) (y : ℕ → ℕ) → LevelsKept hs y → Kept p hs (pointsOf p d y)
   kept-points hs y = levels-kept hs (pointsOf p d y) (points-length p d y) y (points-less p d y)
 
   -- levels keep a list where every schedule that keeps one keeps the other
-  also : (hs gs : List Handed) → ((x : List ℤ) → Kept p hs x → Kept p gs x) → (y : ℕ → ℕ) → LevelsKept hs y → LevelsKept gs y
+  also : (hs gs : List CutCall) → ((x : List ℤ) → Kept p hs x → Kept p gs x) → (y : ℕ → ℕ) → LevelsKept hs y → LevelsKept gs y
   also hs gs keep y k =
       (k .0, λ c v. keeps-same (pointsOf p d y) (points-length p d y) y (points-less p d y) c (v .valid .formed) .0 (keep (pointsOf p d y) (kept-points hs y k) .keeps c v))
 
   -- what a session that is right for the levels says of the schedules
-  spent-exactly : (hs : List Handed) {s : Session} → Right (p .days) rs o (LevelsKept hs) s → (s .spent ≡ true) ↔ ((x : List ℤ) → Kept p hs x → ⊥)
+  spent-exactly : (hs : List CutCall) {s : Session} → Right (p .days) rs o (LevelsKept hs) s → (s .spent ≡ true) ↔ ((x : List ℤ) → Kept p hs x → ⊥)
   spent-exactly hs (narrowed r e w) =
       let z = some w in
       (λ t. absurd (true≢false (sym t ∙ ap (λ (s : Session). s .spent) e)), λ h. absurd (h (pointsOf p d (z .0)) (kept-points hs (z .0) (z .1))))
   spent-exactly hs (exhausted e h) = (λ t x k. h _ (kept-levels hs x k), λ _. ap (λ (s : Session). s .spent) e)
 
-  opened-again : (hs : List Handed) {s : Session} → Right (p .days) rs o (LevelsKept hs) s → s .spent ≡ true → s ≡ spend (fresh (p .days) rs o)
+  opened-again : (hs : List CutCall) {s : Session} → Right (p .days) rs o (LevelsKept hs) s → s .spent ≡ true → s ≡ spend (fresh (p .days) rs o)
   opened-again hs (narrowed r e w) u = absurd (true≢false (sym u ∙ ap (λ (s : Session). s .spent) e))
   opened-again hs (exhausted e h) u = e
 
-  exactly : (hs : List Handed) {s : Session} → Right (p .days) rs o (LevelsKept hs) s → s .spent ≡ false → Exact p (Kept p hs) s
+  exactly : (hs : List CutCall) {s : Session} → Right (p .days) rs o (LevelsKept hs) s → s .spent ≡ false → Exact p (Kept p hs) s
   exactly hs (narrowed r e w) u = rw e (exact-points p d (Kept p hs) (LevelsKept hs) (λ x k. k .schedule) (kept-levels hs) (kept-points hs) _ (w .day) (w .total))
   exactly hs (exhausted e h) u = absurd (true≢false (sym (ap (λ (s : Session). s .spent) e) ∙ u))
 
@@ -100,15 +101,15 @@ module _ (p : Profile) (d : Entered p) where
           ceilings-kept = λ k h. refl;
         })
 
-    pub after-right : (hs : List Handed) → Right (p .days) rs o (LevelsKept hs) (after start hs)
+    pub after-right : (hs : List CutCall) → Right (p .days) rs o (LevelsKept hs) (after start hs)
     after-right hs = fold p rs o (CodesOf p d) start hs start-right
 
     -- two lists that the same schedules keep end in equal sessions
-    pub same-session : (hs gs : List Handed) → ((x : List ℤ) → Kept p hs x ↔ Kept p gs x) → after start hs ≡ after start gs
+    pub same-session : (hs gs : List CutCall) → ((x : List ℤ) → Kept p hs x ↔ Kept p gs x) → after start hs ≡ after start gs
     same-session hs gs same = right-one (right-same (also hs gs (λ x. same x .0)) (also gs hs (λ x. same x .1)) (after-right hs)) (after-right gs)
 
     -- so do two lists with the same valid cuts
-    same-cuts : (hs gs : List Handed) → ((c : Cut) → ValidIn p hs c ↔ ValidIn p gs c) → after start hs ≡ after start gs
+    same-cuts : (hs gs : List CutCall) → ((c : Cut) → ValidIn p hs c ↔ ValidIn p gs c) → after start hs ≡ after start gs
     same-cuts hs gs same =
         same-session hs gs (λ x. (
           λ k. record { schedule = k .schedule; keeps = λ c v. k .keeps c (same c .1 v) },

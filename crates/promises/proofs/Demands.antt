@@ -15,19 +15,19 @@ use Rattle.theory_lists.specs.Sum.{at}
 use Rattle.theory_lists.specs.Front.{inFront, front-at, front-past, front-length}
 use Rattle.theory_lists.specs.Rows.{rows}
 use Rattle.session.specs.Profile.{Profile, Schedule, Spans}
-use Rattle.session.specs.Opening.{earlier, opened}
+use Rattle.session.specs.Opening.{earlyOpening, opened}
 use Rattle.session.specs.Showing.{floorOn, ceilingOn, totalFloor, totalCeiling, listTooShort, shown}
 use Rattle.session.specs.declared.Session.{Session}
 use Rattle.session.specs.declared.Shown.{Shown}
 use Rattle.session.proofs.Entered.{entered}
 use Rattle.session.proofs.Shows.{both-long}
 use Rattle.session_cuts.specs.declared.Cut.{Cut}
-use Rattle.session_cuts.specs.declared.Told.{Told}
-use Rattle.session_cuts.specs.declared.Told.the-variants.{Known}
-use Rattle.session_cutting.specs.Cutting.{spend, changedDays, earlierTold, afterTold, listAfter}
+use Rattle.session_cuts.specs.declared.Numbered.{Numbered}
+use Rattle.session_cuts.specs.declared.Numbered.the-variants.{Known}
+use Rattle.session_cutting.specs.Cutting.{spend, changedDays, earlyNumbered, afterNumbered, listAfter}
 use Rattle.session_cutting.specs.declared.AfterCut.{AfterCut}
-use Rattle.session_cutting.proofs.Laws.{Accepted, accepted-list, told-accepted}
-use Rattle.promises.specs.Cuts.{WellFormed, Looser, Handed, Kept}
+use Rattle.session_cutting.proofs.Laws.{Accepted, accepted-list, numbered-accepted}
+use Rattle.promises.specs.Cuts.{WellFormed, Looser, CutCall, Kept}
 use Rattle.promises.specs.Demands.{Changes, Exact}
 use Rattle.promises.proofs.Demand1.{demand-1}
 use Rattle.promises.proofs.Demand2.{demand-2, unrefused}
@@ -37,12 +37,12 @@ use Rattle.promises.proofs.NoneAtCut.{none-at-cut}
 use Rattle.promises.proofs.Reached.{after-reached}
 use Rattle.base_little_endian.specs.Fields.{u16At}
 use Rattle.c_lists.specs.Lists.{cellBytes}
-use Rattle.c_lists.specs.Profiles.{haveLengths, lengthRefusal, profileOf}
+use Rattle.c_lists.specs.Profiles.{haveLengths, byteLengthRefusal, profileOf}
 use Rattle.c_lists.proofs.Laws.{points-left}
 use Rattle.c_storage.specs.Layout.{encoding, decoding}
 use Rattle.c_storage.proofs.Lengths.{cells-length}
-use Rattle.c_sessions.specs.Sessions.{isSession, openRefusal, openBytes, cutAnswer, cutBytes, changedBytes, shownOver}
-use Rattle.promises.specs.InBytes.{HandedBytes, byValue, CameFrom}
+use Rattle.c_sessions.specs.Sessions.{isSession, openRefusal, bytesOpened, cutAnswer, bytesCut, changedBytes, shownOver}
+use Rattle.promises.specs.InBytes.{ByteCutCall, byValue, CameFrom}
 use Rattle.promises.specs.DemandsInBytes.{BytesLeft, Changed, Unchanged, AfterBytes, readRanges, Read, Reading, NoneAtOpening, NoneAtCutOver, DemandsInBytes}
 use Rattle.promises.proofs.Bytes.{Came, came, cut-held}
 use Rattle.promises.proofs.Points.{point-fits, lent-point, lent-rest, cell-read}
@@ -53,7 +53,7 @@ left-bytes : (r : ℕ) (new old : List ℕ) → (r ≡ 0 → ⊥) → (r ≡ 8 �
 left-bytes r new old h k = rw (ne-eqb r 0 h, ne-eqb r 8 k) refl
 
 refused : BytesLeft
-unfolding openBytes cutBytes changedBytes
+unfolding bytesOpened bytesCut changedBytes
 refused =
     record {
       opening = λ b n fs cs rs lo hi h. rw (ne-eqb (openRefusal b n fs cs rs lo hi) 0 h) refl;
@@ -64,8 +64,8 @@ refused =
 
 -- ---- 8 at opening
 
-lengths-never-8 : (n floors ceilings rises : ℕ) → lengthRefusal n floors ceilings rises ≡ 8 → ⊥
-unfolding lengthRefusal
+lengths-never-8 : (n floors ceilings rises : ℕ) → byteLengthRefusal n floors ceilings rises ≡ 8 → ⊥
+unfolding byteLengthRefusal
 lengths-never-8 n floors ceilings rises = go (eqb n 0 || ltb 512 n) (haveLengths n floors ceilings rises)
   where
     go : (a b : Bool) → _≡_ {A = ℕ} (cond a 1 (cond b 0 2)) 8 → ⊥
@@ -81,19 +81,19 @@ none-at-opening b n fs cs rs lo hi = go (isSession b) (eqb lengths 0) refl
     p = profileOf n fs cs rs lo hi
 
     lengths : ℕ
-    lengths = lengthRefusal n (length fs) (length cs) (length rs)
+    lengths = byteLengthRefusal n (length fs) (length cs) (length rs)
 
     go : (a c : Bool) → eqb lengths 0 ≡ c
-        → (cond a (cond c (opened p .refusal) lengths) 2 ≡ 8) ↔ (cond a (cond c (earlier p) lengths) 2 ≡ 0) × ((x : List ℤ) → Schedule p x → ⊥)
+        → (cond a (cond c (opened p .refusal) lengths) 2 ≡ 8) ↔ (cond a (cond c (earlyOpening p) lengths) 2 ≡ 0) × ((x : List ℤ) → Schedule p x → ⊥)
     go true true e = demand-2 .none p
     go true false e = (λ h. absurd (lengths-never-8 n (length fs) (length cs) (length rs) h), λ h. absurd (eqb-false lengths 0 e (h .0)))
     go false c e = (λ h. absurd (omega arith), λ h. absurd (omega (arith, h .0)))
 
 -- ---- sessions from opening and cuts
 
-by-value-more : (hs : List HandedBytes) (h : HandedBytes) → byValue (hs ++ h ∷ []) ≡ byValue hs ++ record { told = h .told; room = h .bytes / 2 } ∷ []
+by-value-more : (hs : List ByteCutCall) (h : ByteCutCall) → byValue (hs ++ h ∷ []) ≡ byValue hs ++ record { cut = h .cut; room = h .bytes / 2 } ∷ []
 by-value-more [] h = refl
-by-value-more (g ∷ hs) h = ap (λ (gs : List Handed). record { told = g .told; room = g .bytes / 2 } ∷ gs) (by-value-more hs h)
+by-value-more (g ∷ hs) h = ap (λ (gs : List CutCall). record { cut = g .cut; room = g .bytes / 2 } ∷ gs) (by-value-more hs h)
 
 same-range : {S : List ℤ → Type 0} {f : List ℤ → ℤ} {low high lo hi : ℤ} → low ≡ lo → high ≡ hi → Spans S f lo hi → Spans S f low high
 same-range e d x = rw (e, d) x
@@ -109,7 +109,7 @@ shown-whole s a c = go (ltb a (s .days)) (ltb c (s .days)) refl refl
     go false true e f z = absurd (omega arith)
     go false false e f z = (ltb-false a (s .days) e, ltb-false c (s .days) f)
 
-module _ (p : Profile) (hs : List HandedBytes) (b : List ℕ) (c : CameFrom p hs b) where
+module _ (p : Profile) (hs : List ByteCutCall) (b : List ℕ) (c : CameFrom p hs b) where
   w : Came p hs b
   w = came p hs b c
 
@@ -140,11 +140,11 @@ module _ (p : Profile) (hs : List HandedBytes) (b : List ℕ) (c : CameFrom p hs
       let x = rw o at (demand-2 .opening p (w .opens)) in
       rw (spent-as u, o) (record { each = x .each; sum = x .sum })
 
-  none-at-cut-over : (h : HandedBytes) → NoneAtCutOver p hs b h
+  none-at-cut-over : (h : ByteCutCall) → NoneAtCutOver p hs b h
   unfolding cutAnswer
   none-at-cut-over h =
-      subst (λ gs. (cutAnswer b (h .told) (h .bytes) .refusal ≡ 8) ↔ (earlierTold (decoding b) (h .told) (h .bytes / 2) ≡ 0) × ((x : List ℤ) → Kept p gs x → ⊥)) (sym (by-value-more hs h))
-      (rw (w .sized) (none-at-cut p (w .opens) (byValue hs) (decoding b) (w .held) (record { told = h .told; room = h .bytes / 2 })))
+      subst (λ gs. (cutAnswer b (h .cut) (h .bytes) .refusal ≡ 8) ↔ (earlyNumbered (decoding b) (h .cut) (h .bytes / 2) ≡ 0) × ((x : List ℤ) → Kept p gs x → ⊥)) (sym (by-value-more hs h))
+      (rw (w .sized) (none-at-cut p (w .opens) (byValue hs) (decoding b) (w .held) (record { cut = h .cut; room = h .bytes / 2 })))
 
   -- ---- reading
 
@@ -162,7 +162,7 @@ module _ (p : Profile) (hs : List HandedBytes) (b : List ℕ) (c : CameFrom p hs
 
       read : (S : List ℤ → Type 0) → Exact p S (decoding b) → Read p S b fs cs
       read S x =
-          let fits = w .storable .sane .present in
+          let fits = w .storable .bounds .present in
           let low : (k : ℕ) → k < decoding b .days → SFits w16 (floorOn (decoding b) k) = λ k h. point-fits (at (decoding b .present .floors) k) (fits .floor k h) in
           let high : (k : ℕ) → k < decoding b .days → SFits w16 (ceilingOn (decoding b) k) = λ k h. point-fits (at (decoding b .present .ceilings) k) (fits .ceiling k h) in
           record {
@@ -184,9 +184,9 @@ module _ (p : Profile) (hs : List HandedBytes) (b : List ℕ) (c : CameFrom p hs
 
   -- ---- changed days
 
-  module _ (t : Told) (l : List ℕ) where
+  module _ (t : Numbered) (l : List ℕ) where
     abbrev r : AfterCut
-    r = afterTold (decoding b) t (length l / 2)
+    r = afterNumbered (decoding b) t (length l / 2)
 
     answers : cutAnswer b t (length l) ≡ r .answer
     unfolding cutAnswer
@@ -197,7 +197,7 @@ module _ (p : Profile) (hs : List HandedBytes) (b : List ℕ) (c : CameFrom p hs
 
     module _ (z : r .answer .refusal ≡ 0) where
       accepted : Accepted (decoding b) (length l / 2) r
-      accepted = told-accepted (decoding b) t (length l / 2) z
+      accepted = numbered-accepted (decoding b) t (length l / 2) z
 
       front : changedBytes b t l ≡ inFront (cellBytes (at listed) (length listed)) l
       unfolding changedBytes
@@ -231,11 +231,11 @@ module _ (p : Profile) (hs : List HandedBytes) (b : List ℕ) (c : CameFrom p hs
             long = rw front (front-length (cellBytes (at listed) (length listed)) l (omega (arith, wide, accepted .few, accepted .roomy)));
           }
 
-  changed-over : (t : Told) (l : List ℕ) → cutAnswer b t (length l) .refusal ≡ 0 → Changed b t l
+  changed-over : (t : Numbered) (l : List ℕ) → cutAnswer b t (length l) .refusal ≡ 0 → Changed b t l
   changed-over t l z = changed t l (rw (answers t l) at z)
 
   looser : decoding b .spent ≡ false → (e : Cut) → WellFormed p e → Looser (decoding b) e → (l : List ℕ) → p .days ≤ length l / 2 → Unchanged b (Known e) l
-  unfolding afterTold cellBytes inFront rows
+  unfolding afterNumbered cellBytes inFront rows
   looser u e f k l room =
       let by-value = looser-cuts p (w .opens) (byValue hs) (decoding b) (w .held) u e f k (length l / 2) room in
       let z : r (Known e) l .answer .refusal ≡ 0 = ap (λ (a : AfterCut). a .answer .refusal) by-value in

@@ -26,14 +26,14 @@ use Rattle.base_little_endian.proofs.Laws.{u16-most, i16-length, i16-part}
 use Rattle.session.specs.Profile.{Profile}
 use Rattle.session.specs.Opening as Opening
 use Rattle.session_cuts.specs.declared.Cut.the-variants.{DayFloor}
-use Rattle.session_cuts.specs.declared.Told.{Told}
-use Rattle.session_cuts.specs.declared.Told.the-variants.{Known, Unknown}
+use Rattle.session_cuts.specs.declared.Numbered.{Numbered}
+use Rattle.session_cuts.specs.declared.Numbered.the-variants.{Known, Unknown}
 use Rattle.session_cuts.specs.Sheet.{cutOn}
 use Rattle.session_cutting.specs.Cutting.{malformed}
 use Rattle.file_format.specs.Format as Format
-use Rattle.file_format.specs.Format.{dayOffset, fileLength, dayCount, cutCount, totalFloor, totalCeiling, floorAt, ceilingAt, riseAt, toldAt, known, cutsIn, file}
+use Rattle.file_format.specs.Format.{dayOffset, fileLength, dayCount, cutCount, totalFloorAt, totalCeilingAt, floorAt, ceilingAt, riseAt, numberedAt, known, cutsIn, file}
 use Rattle.file_format.specs.Reading as Reading
-use Rattle.file_format.specs.Writing.{earlier, refusal}
+use Rattle.file_format.specs.Writing.{earlyWriting, writingRefusal}
 use Rattle.file_format.proofs.Parts.{file-cuts}
 use Rattle.file_format.proofs.Taken.{taken}
 use Rattle.file_format.proofs.RoundTrip.{reads-again, written-back}
@@ -42,19 +42,19 @@ use Rattle.file_writing.proofs.Laws.{answered, written-front, written-file}
 use Rattle.c_lists.specs.Lists.{pointAt, pointsIn, pointBytes, lentPoints}
 use Rattle.c_lists.proofs.Laws.{points-left, points-filled}
 use Rattle.c_files.specs.declared.Contents.{Contents}
-use Rattle.c_files.specs.Reading.{noRoom, readRefusal, refusedContents, contentsOf, readInto, cutsLent}
-use Rattle.c_files.specs.Writing.{toldRefusal, cutsOf, lengthsRefusal, earlierOver, refusalOver, writeOver, outputOver}
+use Rattle.c_files.specs.Reading.{noRoomOver, readingRefusalOver, refusedContents, contentsOf, readInto, cutsLent}
+use Rattle.c_files.specs.Writing.{numberedRefusal, cutsInBytes, lengthsRefusal, earlyWritingOver, writingRefusalOver, writeOver, outputOver}
 use Rattle.c_files.proofs.Writing.{Sized, sized, length-cuts, cuts-back}
-use Rattle.promises.specs.FilesInBytes.{Lists, write, output, written, profileIn, Lent, readOver, filledOver, readLists, Roomy, ReadAgain, WrittenBack, FilesInBytes}
+use Rattle.promises.specs.FilesInBytes.{ListsInBytes, write, outputInBytes, writtenInBytes, profileInBytes, Lent, readOver, filledOver, readLists, RoomyInBytes, ReadAgainInBytes, WrittenBackInBytes, FilesInBytes}
 use Rattle.promises.proofs.Points.{points-long, points-read}
 
-told-formed : (n : ℕ) (t : Told) → toldRefusal n t ≡ 0 → malformed n (known t) ≡ 0
-told-formed n (Known c) e = e
-told-formed n Unknown e = absurd (omega arith)
+numbered-formed : (n : ℕ) (t : Numbered) → numberedRefusal n t ≡ 0 → malformed n (known t) ≡ 0
+numbered-formed n (Known c) e = e
+numbered-formed n Unknown e = absurd (omega arith)
 
-cut-listed : (b : List ℕ) (j : ℕ) → j < length b / 8 → cutOn (cutsOf b) j ≡ known (toldAt b (j * 8))
-unfolding cutsOf
-cut-listed b j h = get-listOf (λ k. known (toldAt b (k * 8))) (DayFloor 0 (pos 0)) (length b / 8) j h
+cut-listed : (b : List ℕ) (j : ℕ) → j < length b / 8 → cutOn (cutsInBytes b) j ≡ known (numberedAt b (j * 8))
+unfolding cutsInBytes
+cut-listed b j h = get-listOf (λ k. known (numberedAt b (k * 8))) (DayFloor 0 (pos 0)) (length b / 8) j h
 
 -- values that are the points of a list have its bytes
 points-back : {m n : ℕ} (xs : List ℕ) (f : ℕ → ℤ) → Bytes xs → length xs ≡ n * 2 → m ≡ n → listOf f m ≡ pointsIn xs n → pointBytes f m ≡ xs
@@ -68,19 +68,19 @@ points-back {m} {n} xs f bytes long e same =
     (part-rows row 2 m (λ k h. i16-length (pointAt xs k)) (λ k h. let z : 0 + k * 2 ≡ k * 2 = omega arith in rw z (i16-part bytes (k * 2))))
 
 -- the lists that stand in a file
-abbrev listsIn : List ℕ → Lists
+abbrev listsIn : List ℕ → ListsInBytes
 listsIn f =
     record {
       days = dayCount f;
       floors = pointBytes (floorAt f) (dayCount f);
       ceilings = pointBytes (ceilingAt f) (dayCount f);
       rises = pointBytes (riseAt f) (dayCount f - 1);
-      lowest = totalFloor f;
-      highest = totalCeiling f;
+      lowest = totalFloorAt f;
+      highest = totalCeilingAt f;
       cuts = drop (dayOffset (dayCount f)) f;
     }
 
-module _ (l : Lists) where
+module _ (l : ListsInBytes) where
   abbrev n : ℕ
   n = l .days
 
@@ -89,79 +89,79 @@ module _ (l : Lists) where
 
   -- the profile by value
   abbrev p : Profile
-  p = profileIn l
+  p = profileInBytes l
 
   -- the file by value
   abbrev whole : List ℕ
-  whole = file p (cutsOf b)
+  whole = file p (cutsInBytes b)
 
   abbrev early : ℕ
-  early = earlierOver n (l .floors) (l .ceilings) (l .rises) (l .lowest) (l .highest) b
+  early = earlyWritingOver n (l .floors) (l .ceilings) (l .rises) (l .lowest) (l .highest) b
 
   -- what passes over C
   record Passed : Type 0 where
     pub size : Sized n (length (l .floors)) (length (l .ceilings)) (length (l .rises)) (length b)
-    pub values : Opening.earlier p ≡ 0
-    pub cuts : firstNonzero (λ j. toldRefusal n (toldAt b (j * 8))) (length b / 8) ≡ 0
+    pub values : Opening.earlyOpening p ≡ 0
+    pub cuts : firstNonzero (λ j. numberedRefusal n (numberedAt b (j * 8))) (length b / 8) ≡ 0
 
   passed : early ≡ 0 → Passed
-  unfolding earlierOver
+  unfolding earlyWritingOver
   passed e =
       let lengths = then-zero (lengthsRefusal n (length (l .floors)) (length (l .ceilings)) (length (l .rises)) (length b)) _ e in
-      let values = then-zero (Opening.earlier p) _ (lengths .1) in
+      let values = then-zero (Opening.earlyOpening p) _ (lengths .1) in
       record { size = sized n _ _ _ _ (lengths .0); values = values .0; cuts = values .1 }
 
   -- passes by value
-  by-value : Passed → earlier p (cutsOf b) ≡ 0
-  unfolding earlier
+  by-value : Passed → earlyWriting p (cutsInBytes b) ≡ 0
+  unfolding earlyWriting
   by-value w =
-      let same : (j : ℕ) → j < length b / 8 → malformed n (cutOn (cutsOf b) j) ≡ toldRefusal n (toldAt b (j * 8)) =
-      λ j h. let z = nonzero-none (λ i. toldRefusal n (toldAt b (i * 8))) (length b / 8) (w .cuts) j h in rw (cut-listed b j h) (told-formed n (toldAt b (j * 8)) z ∙ sym z) in
+      let same : (j : ℕ) → j < length b / 8 → malformed n (cutOn (cutsInBytes b) j) ≡ numberedRefusal n (numberedAt b (j * 8)) =
+      λ j h. let z = nonzero-none (λ i. numberedRefusal n (numberedAt b (i * 8))) (length b / 8) (w .cuts) j h in rw (cut-listed b j h) (numbered-formed n (numberedAt b (j * 8)) z ∙ sym z) in
       rw (length-cuts b, le-ltb 512 (length b / 8) (w .size .few), w .values)
-      (nonzero-same (λ j. malformed n (cutOn (cutsOf b) j)) (λ j. toldRefusal n (toldAt b (j * 8))) (length b / 8) same ∙ w .cuts)
+      (nonzero-same (λ j. malformed n (cutOn (cutsInBytes b) j)) (λ j. numberedRefusal n (numberedAt b (j * 8))) (length b / 8) same ∙ w .cuts)
 
   module _ (out : List ℕ) (e : write l out .refusal ≡ 0) where
-    none : refusalOver n (l .floors) (l .ceilings) (l .rises) (l .lowest) (l .highest) b (length out) ≡ 0
+    none : writingRefusalOver n (l .floors) (l .ceilings) (l .rises) (l .lowest) (l .highest) b (length out) ≡ 0
     unfolding writeOver
     none = sym (answered _ (fileLength n (length b / 8))) ∙ e
 
     checked : Passed
-    unfolding refusalOver
+    unfolding writingRefusalOver
     checked = passed (then-zero early _ none .0)
 
-    taken-by-value : refusal p (cutsOf b) (length out) ≡ 0
-    unfolding refusal refusalOver
+    taken-by-value : writingRefusal p (cutsInBytes b) (length out) ≡ 0
+    unfolding writingRefusal writingRefusalOver
     taken-by-value = rw (by-value checked, length-cuts b) (then-zero early _ none .1)
 
     -- what is written is what the writer by value writes
-    written-by-value : (write l out ≡ ByValue.writeAnswer p (cutsOf b) (length out)) × (output l out ≡ ByValue.output p (cutsOf b) out)
+    written-by-value : (write l out ≡ ByValue.writeAnswer p (cutsInBytes b) (length out)) × (outputInBytes l out ≡ ByValue.output p (cutsInBytes b) out)
     unfolding writeOver ByValue.writeAnswer outputOver ByValue.output
     written-by-value = (rw (none, taken-by-value, length-cuts b) refl, rw (none, taken-by-value) refl)
 
-    accepted : ByValue.writeAnswer p (cutsOf b) (length out) .refusal ≡ 0
+    accepted : ByValue.writeAnswer p (cutsInBytes b) (length out) .refusal ≡ 0
     accepted = rw (written-by-value .0) at e
 
-    at-front : written l out ≡ whole
-    at-front = rw (written-by-value .0, written-by-value .1) (written-file p (cutsOf b) out accepted)
+    at-front : writtenInBytes l out ≡ whole
+    at-front = rw (written-by-value .0, written-by-value .1) (written-file p (cutsInBytes b) out accepted)
 
-    in-front : output l out ≡ inFront whole out
-    in-front = written-by-value .1 ∙ written-front p (cutsOf b) out accepted
+    in-front : outputInBytes l out ≡ inFront whole out
+    in-front = written-by-value .1 ∙ written-front p (cutsInBytes b) out accepted
 
     -- ---- read again
 
-    taken-again : Reading.earlier (written l out) ≡ 0
-    taken-again = rw at-front (reads-again p (cutsOf b) (by-value checked) .taken)
+    taken-again : Reading.earlyReading (writtenInBytes l out) ≡ 0
+    taken-again = rw at-front (reads-again p (cutsInBytes b) (by-value checked) .taken)
 
-    lists-again : Bytes (l .floors) → Bytes (l .ceilings) → Bytes (l .rises) → Bytes b → listsIn (written l out) ≡ l
+    lists-again : Bytes (l .floors) → Bytes (l .ceilings) → Bytes (l .rises) → Bytes b → listsIn (writtenInBytes l out) ≡ l
     unfolding Format.profileIn
     lists-again bf bc br bb =
-        let r = reads-again p (cutsOf b) (by-value checked) in
+        let r = reads-again p (cutsInBytes b) (by-value checked) in
         let long = checked .size .lists in
         let days : dayCount whole ≡ n = ap (λ (q : Profile). q .days) (r .profile) in
         let floors : listsIn whole .floors ≡ l .floors = points-back (l .floors) _ bf (long .floors-long) days (ap (λ (q : Profile). q .floors) (r .profile)) in
         let ceilings : listsIn whole .ceilings ≡ l .ceilings = points-back (l .ceilings) _ bc (long .ceilings-long) days (ap (λ (q : Profile). q .ceilings) (r .profile)) in
         let rises : listsIn whole .rises ≡ l .rises = points-back (l .rises) _ br (long .rises-long) (ap (λ m. m - 1) days) (ap (λ (q : Profile). q .rises) (r .profile)) in
-        let cuts : listsIn whole .cuts ≡ b = rw days (file-cuts p (cutsOf b) ∙ cuts-back b n bb (checked .cuts) (checked .size .whole)) in
+        let cuts : listsIn whole .cuts ≡ b = rw days (file-cuts p (cutsInBytes b) ∙ cuts-back b n bb (checked .cuts) (checked .size .whole)) in
         rw at-front
         (rw (floors, ceilings, rises, cuts, days, ap (λ (q : Profile). q .lowest) (r .profile), ap (λ (q : Profile). q .highest) (r .profile)) refl)
 
@@ -172,12 +172,12 @@ module _ (d : ℕ) (f : List ℕ) where
   unfolding u16At
   u16-drop i = simp (getD-drop, ← add-assoc)
 
-  told-drop : (i : ℕ) → toldAt (drop d f) i ≡ toldAt f (d + i)
+  numbered-drop : (i : ℕ) → numberedAt (drop d f) i ≡ numberedAt f (d + i)
   unfolding i32At u32At
-  told-drop i = simp (u16-drop, ← add-assoc)
+  numbered-drop i = simp (u16-drop, ← add-assoc)
 
 -- what the reader stores of a file, by value
-module _ (f : List ℕ) (bytes : Bytes f) (e : Reading.earlier f ≡ 0) where
+module _ (f : List ℕ) (bytes : Bytes f) (e : Reading.earlyReading f ≡ 0) where
   fits : (i : ℕ) → SFits w16 (i16At f i)
   unfolding i16At
   fits i = sfits-toZ (record { fits = u16-most bytes i })
@@ -194,11 +194,11 @@ module _ (f : List ℕ) (bytes : Bytes f) (e : Reading.earlier f ≡ 0) where
         points-same (riseAt f) (dayCount f - 1) (λ k. fits (dayOffset k + 4)),
       ) refl
 
-  cuts-read : cutsOf (listsIn f .cuts) ≡ cutsIn f
-  unfolding cutsOf cutsIn
+  cuts-read : cutsInBytes (listsIn f .cuts) ≡ cutsIn f
+  unfolding cutsInBytes cutsIn
   cuts-read =
       let count : length (listsIn f .cuts) / 8 ≡ cutCount f = rw length-drop (omega (arith, taken f e .whole)) in
-      rw count (listOf-same _ _ (cutCount f) (λ j h. ap known (told-drop (dayOffset (dayCount f)) f (j * 8))))
+      rw count (listOf-same _ _ (cutCount f) (λ j h. ap known (numbered-drop (dayOffset (dayCount f)) f (j * 8))))
 
   file-read : whole (listsIn f) ≡ f
   file-read = rw (profile-read, cuts-read) (written-back f bytes e)
@@ -221,7 +221,7 @@ answered-zero number c e z = then-zero number (c .refusal) (go (eqb number 0) e)
 
 module _ (f : List ℕ) (t : Lent) where
   abbrev number : ℕ
-  number = readRefusal f (length (t .floors)) (length (t .ceilings)) (length (t .rises)) (length (t .cuts))
+  number = readingRefusalOver f (length (t .floors)) (length (t .ceilings)) (length (t .rises)) (length (t .cuts))
 
   -- the answer where nothing is refused
   contents : number ≡ 0 → readOver f t ≡ contentsOf f
@@ -233,9 +233,9 @@ module _ (f : List ℕ) (t : Lent) where
     unfolding readInto
     unrefused = answered-zero number (contentsOf f) e refl
 
-    early-none : Reading.earlier f ≡ 0
-    unfolding readRefusal
-    early-none = then-zero (Reading.earlier f) _ unrefused .0
+    early-none : Reading.earlyReading f ≡ 0
+    unfolding readingRefusalOver
+    early-none = then-zero (Reading.earlyReading f) _ unrefused .0
 
     cuts-found : take (cutCount f * 8) (cutsLent (readOver f t .refusal) f (t .cuts)) ≡ drop (dayOffset (dayCount f)) f
     unfolding cutsLent
@@ -248,8 +248,8 @@ module _ (f : List ℕ) (t : Lent) where
         let c = contents unrefused in
         let days : readOver f t .days ≡ dayCount f = ap (λ (r : Contents). r .days) c in
         let count : readOver f t .cuts ≡ cutCount f = ap (λ (r : Contents). r .cuts) c in
-        let lowest : readLists f t .lowest ≡ totalFloor f = ap (λ (r : Contents). r .lowest) c in
-        let highest : readLists f t .highest ≡ totalCeiling f = ap (λ (r : Contents). r .highest) c in
+        let lowest : readLists f t .lowest ≡ totalFloorAt f = ap (λ (r : Contents). r .lowest) c in
+        let highest : readLists f t .highest ≡ totalCeilingAt f = ap (λ (r : Contents). r .highest) c in
         let floors : readLists f t .floors ≡ listsIn f .floors = ap (λ m. take (m * 2) (filledOver f t .floors)) days ∙ points-found _ (floorAt f) (dayCount f) (t .floors) e in
         let ceilings : readLists f t .ceilings ≡ listsIn f .ceilings = ap (λ m. take (m * 2) (filledOver f t .ceilings)) days ∙ points-found _ (ceilingAt f) (dayCount f) (t .ceilings) e in
         let rises : readLists f t .rises ≡ listsIn f .rises = ap (λ m. take ((m - 1) * 2) (filledOver f t .rises)) days ∙ points-found _ (riseAt f) (dayCount f - 1) (t .rises) e in
@@ -261,11 +261,11 @@ module _ (f : List ℕ) (t : Lent) where
   left h = rw (points-left _ _ _ (t .floors) h, points-left _ _ _ (t .ceilings) h, points-left _ _ _ (t .rises) h, ne-eqb (readOver f t .refusal) 0 h) refl
 
 -- lists long enough are not refused
-room : (n m a b c d : ℕ) → n * 2 ≤ a → n * 2 ≤ b → (n - 1) * 2 ≤ c → m * 8 ≤ d → noRoom n m a b c d ≡ false
+room : (n m a b c d : ℕ) → n * 2 ≤ a → n * 2 ≤ b → (n - 1) * 2 ≤ c → m * 8 ≤ d → noRoomOver n m a b c d ≡ false
 room n m a b c d p q r s = rw (le-ltb (a / 2) n (omega arith), le-ltb (b / 2) n (omega arith), le-ltb (c / 2) (n - 1) (omega arith), le-ltb d (m * 8) s) refl
 
-roomy-taken : (f : List ℕ) (t : Lent) → Reading.earlier f ≡ 0 → Roomy (listsIn f) t → readOver f t .refusal ≡ 0
-unfolding readInto readRefusal
+roomy-taken : (f : List ℕ) (t : Lent) → Reading.earlyReading f ≡ 0 → RoomyInBytes (listsIn f) t → readOver f t .refusal ≡ 0
+unfolding readInto readingRefusalOver
 roomy-taken f t e r =
     let z = room (dayCount f) (cutCount f) (length (t .floors)) (length (t .ceilings)) (length (t .rises)) (length (t .cuts))
     (omega (arith, r .floors, points-long (floorAt f) (dayCount f))) (omega (arith, r .ceilings, points-long (ceilingAt f) (dayCount f)))
@@ -274,27 +274,27 @@ roomy-taken f t e r =
 
 -- ---- all of it
 
-output-left : (l : Lists) (out : List ℕ) → (write l out .refusal ≡ 0 → ⊥) → output l out ≡ out
+output-left : (l : ListsInBytes) (out : List ℕ) → (write l out .refusal ≡ 0 → ⊥) → outputInBytes l out ≡ out
 unfolding writeOver outputOver
 output-left l out h =
-    let number = refusalOver (l .days) (l .floors) (l .ceilings) (l .rises) (l .lowest) (l .highest) (l .cuts) (length out) in
+    let number = writingRefusalOver (l .days) (l .floors) (l .ceilings) (l .rises) (l .lowest) (l .highest) (l .cuts) (length out) in
     rw (ne-eqb number 0 (λ z. h (answered number (fileLength (l .days) (length (l .cuts) / 8)) ∙ z))) refl
 
-again : (l : Lists) (out : List ℕ) (t : Lent) → Bytes (l .floors) → Bytes (l .ceilings) → Bytes (l .rises) → Bytes (l .cuts) → write l out .refusal ≡ 0 → Roomy l t
-    → ReadAgain l (written l out) t
+again : (l : ListsInBytes) (out : List ℕ) (t : Lent) → Bytes (l .floors) → Bytes (l .ceilings) → Bytes (l .rises) → Bytes (l .cuts) → write l out .refusal ≡ 0 → RoomyInBytes l t
+    → ReadAgainInBytes l (writtenInBytes l out) t
 again l out t bf bc br bb e r =
     let same = lists-again l out e bf bc br bb in
-    let z = roomy-taken (written l out) t (taken-again l out e) (rw same r) in
-    record { taken = z; lists = lists-found (written l out) t z ∙ same }
+    let z = roomy-taken (writtenInBytes l out) t (taken-again l out e) (rw same r) in
+    record { taken = z; lists = lists-found (writtenInBytes l out) t z ∙ same }
 
-back : (f out : List ℕ) (t : Lent) → Bytes f → readOver f t .refusal ≡ 0 → write (readLists f t) out .refusal ≡ 0 → WrittenBack f out t
+back : (f out : List ℕ) (t : Lent) → Bytes f → readOver f t .refusal ≡ 0 → write (readLists f t) out .refusal ≡ 0 → WrittenBackInBytes f out t
 back f out t bytes e w =
     let same = lists-found f t e in
-    let v = subst (λ (x : Lists). write x out .refusal ≡ 0) same w in
+    let v = subst (λ (x : ListsInBytes). write x out .refusal ≡ 0) same w in
     let file = file-read f bytes (early-none f t e) in
     record {
-      same = ap (λ (x : Lists). written x out) same ∙ at-front (listsIn f) out v ∙ file;
-      rest = ap (λ (x : Lists). output x out) same ∙ in-front (listsIn f) out v ∙ ap (λ xs. inFront xs out) file;
+      same = ap (λ (x : ListsInBytes). writtenInBytes x out) same ∙ at-front (listsIn f) out v ∙ file;
+      rest = ap (λ (x : ListsInBytes). outputInBytes x out) same ∙ in-front (listsIn f) out v ∙ ap (λ xs. inFront xs out) file;
     }
 
 pub files-in-bytes : FilesInBytes

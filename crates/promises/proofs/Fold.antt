@@ -18,11 +18,11 @@ use Rattle.session.specs.Profile.{Profile}
 use Rattle.session.specs.declared.Ranges.{Ranges}
 use Rattle.session.specs.declared.Session.{Session}
 use Rattle.session_cuts.specs.declared.Cut.{Cut}
-use Rattle.session_cuts.specs.declared.Told.{Told}
-use Rattle.session_cuts.specs.declared.Told.the-variants.{Known, Unknown}
-use Rattle.session_cutting.specs.Cutting.{malformed, earlier, clipped, retightened, tightenedTo, afterCut, afterTold}
+use Rattle.session_cuts.specs.declared.Numbered.{Numbered}
+use Rattle.session_cuts.specs.declared.Numbered.the-variants.{Known, Unknown}
+use Rattle.session_cutting.specs.Cutting.{malformed, earlyCutting, clipped, retightened, tightenedTo, afterCut, afterNumbered}
 use Rattle.session_cutting.proofs.Laws.{clipped-in-bounds, earlier-none, passed, refused-same, accepted}
-use Rattle.promises.specs.Cuts.{WellFormed, Handed, Valid, ValidIn, after}
+use Rattle.promises.specs.Cuts.{WellFormed, CutCall, Valid, ValidIn, after}
 use Rattle.promises.proofs.Clip.{KeepsLevels, well-formed, to-clipped, of-clipped, clipped-past}
 use Rattle.promises.proofs.Right.{Narrowed, unspent, spent, Right, narrowed, exhausted, right-same}
 
@@ -82,28 +82,28 @@ module _ (p : Profile) (rs : List ℕ) (o : Ranges) where
   -- ---- one cut as it is handed over
 
   -- the levels of S that keep the valid cut, if there is one
-  abbrev pub Keeping : ((ℕ → ℕ) → Type 0) → Handed → (ℕ → ℕ) → Type 0
+  abbrev pub Keeping : ((ℕ → ℕ) → Type 0) → CutCall → (ℕ → ℕ) → Type 0
   Keeping S h x = S x × ((c : Cut) → Valid p h c → KeepsLevels (p .days) c x)
 
   module _ (S : (ℕ → ℕ) → Type 0) where
     -- where no cut is valid, S is kept as it is
-    none-valid : (h : Handed) {s : Session} → ((c : Cut) → Valid p h c → ⊥) → RightFor S s → RightFor (Keeping S h) s
+    none-valid : (h : CutCall) {s : Session} → ((c : Cut) → Valid p h c → ⊥) → RightFor S s → RightFor (Keeping S h) s
     none-valid h invalid = right-same (λ x k. (k, λ c v. absurd (invalid c v))) (λ x k. k .0)
 
     module _ (c : Cut) (room : ℕ) where
-      abbrev h : Handed
-      h = record { told = Known c; room = room }
+      abbrev h : CutCall
+      h = record { cut = Known c; room = room }
 
       -- a valid cut of an unspent session is not refused before 8
-      unrefused : (r : Ranges) (d : Cut) → Valid p h d → eqb (earlier (unspentWith r) c room) 0 ≡ true
+      unrefused : (r : Ranges) (d : Cut) → Valid p h d → eqb (earlyCutting (unspentWith r) c room) 0 ≡ true
       unrefused r d v =
           let same : c ≡ d = known-same c d (v .known) in
           earlier-none (unspentWith r) c room (well-formed p c .1 (rw same (v .formed))) (le-ltb room (p .days) (v .roomy)) refl
 
       unspent-step : (r : Ranges) → Narrowed (p .days) rs o S r → RightFor (Keeping S h) (afterCut (unspentWith r) c room .session)
-      unspent-step r w = go (eqb (earlier (unspentWith r) c room) 0) refl
+      unspent-step r w = go (eqb (earlyCutting (unspentWith r) c room) 0) refl
         where
-          go : (b : Bool) → eqb (earlier (unspentWith r) c room) 0 ≡ b → RightFor (Keeping S h) (afterCut (unspentWith r) c room .session)
+          go : (b : Bool) → eqb (earlyCutting (unspentWith r) c room) 0 ≡ b → RightFor (Keeping S h) (afterCut (unspentWith r) c room .session)
           go true e =
               let q = passed (unspentWith r) c room e in
               let v : Valid p h c = record { known = refl; formed = well-formed p c .0 (q .formed); roomy = ltb-false room (p .days) (q .roomy) } in
@@ -115,25 +115,25 @@ module _ (p : Profile) (rs : List ℕ) (o : Ranges) where
           go false e = rw (refused-same (unspentWith r) c room e) (none-valid h (λ d u. true≢false (sym (unrefused r d u) ∙ e)) (narrowed r refl w))
 
       spent-step : ((x : ℕ → ℕ) → S x → ⊥) → RightFor (Keeping S h) (afterCut spentSession c room .session)
-      spent-step empty = go (eqb (earlier spentSession c room) 0) refl
+      spent-step empty = go (eqb (earlyCutting spentSession c room) 0) refl
         where
-          go : (b : Bool) → eqb (earlier spentSession c room) 0 ≡ b → RightFor (Keeping S h) (afterCut spentSession c room .session)
+          go : (b : Bool) → eqb (earlyCutting spentSession c room) 0 ≡ b → RightFor (Keeping S h) (afterCut spentSession c room .session)
           go true e = absurd (true≢false (passed spentSession c room e .unspent))
           go false e = rw (refused-same spentSession c room e) (exhausted refl (λ x k. empty x (k .0)))
 
-    step : {s : Session} (t : Told) (room : ℕ) → RightFor S s → RightFor (Keeping S (record { told = t; room = room })) (afterTold s t room .session)
-    unfolding afterTold
+    step : {s : Session} (t : Numbered) (room : ℕ) → RightFor S s → RightFor (Keeping S (record { cut = t; room = room })) (afterNumbered s t room .session)
+    unfolding afterNumbered
     step (Known c) room (narrowed r e w) = rw e (unspent-step c room r w)
     step (Known c) room (exhausted e empty) = rw e (spent-step c room empty)
-    step Unknown room z = none-valid (record { told = Unknown; room = room }) (λ c v. unknown-known c (v .known)) z
+    step Unknown room z = none-valid (record { cut = Unknown; room = room }) (λ c v. unknown-known c (v .known)) z
 
   -- ---- whole lists
 
   -- the levels of S that keep every valid cut of the list
-  abbrev pub KeepingAll : ((ℕ → ℕ) → Type 0) → List Handed → (ℕ → ℕ) → Type 0
+  abbrev pub KeepingAll : ((ℕ → ℕ) → Type 0) → List CutCall → (ℕ → ℕ) → Type 0
   KeepingAll S hs x = S x × ((c : Cut) → ValidIn p hs c → KeepsLevels (p .days) c x)
 
-  first-or-later : (h : Handed) (hs : List Handed) (x : ℕ → ℕ) → ((c : Cut) → Valid p h c → KeepsLevels (p .days) c x) → ((c : Cut) → ValidIn p hs c → KeepsLevels (p .days) c x)
+  first-or-later : (h : CutCall) (hs : List CutCall) (x : ℕ → ℕ) → ((c : Cut) → Valid p h c → KeepsLevels (p .days) c x) → ((c : Cut) → ValidIn p hs c → KeepsLevels (p .days) c x)
       → (c : Cut) → ValidIn p (h ∷ hs) c → KeepsLevels (p .days) c x
   first-or-later h hs x first later c v = go (List·Memᴰ·cases-cons (v .member))
     where
@@ -141,10 +141,10 @@ module _ (p : Profile) (rs : List ℕ) (o : Ranges) where
       go (inl e) = first c (rw e at (v .valid))
       go (inr m) = later c (record { handed = v .handed; member = m; valid = v .valid })
 
-  pub fold : (S : (ℕ → ℕ) → Type 0) (s : Session) (hs : List Handed) → RightFor S s → RightFor (KeepingAll S hs) (after s hs)
+  pub fold : (S : (ℕ → ℕ) → Type 0) (s : Session) (hs : List CutCall) → RightFor S s → RightFor (KeepingAll S hs) (after s hs)
   fold S s [] z = right-same (λ x k. (k, λ c v. absurd (List·Memᴰ·not-nil (v .member)))) (λ x k. k .0) z
   fold S s (h ∷ hs) z =
       right-same
       (λ x k. (k .0 .0, first-or-later h hs x (k .0 .1) (k .1)))
       (λ x k. ((k .0, λ c v. k .1 c (record { handed = h; member = List·Memᴰ·head refl; valid = v })), λ c v. k .1 c (record { handed = v .handed; member = List·Memᴰ·tail (v .member); valid = v .valid })))
-      (fold (Keeping S h) (afterTold s (h .told) (h .room) .session) hs (step S (h .told) (h .room) z))
+      (fold (Keeping S h) (afterNumbered s (h .cut) (h .room) .session) hs (step S (h .cut) (h .room) z))

@@ -15,7 +15,7 @@ pub mod LooserCuts
 pub mod Inspected
 pub mod Written
 pub mod NoneAtCut
-pub mod Sanity
+pub mod SessionBounds
 pub mod RoundTrip
 pub mod CutAll
 pub mod Printed

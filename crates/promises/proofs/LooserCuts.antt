@@ -18,10 +18,10 @@ use Rattle.session.specs.declared.Ranges.{Ranges}
 use Rattle.session.specs.declared.Session.{Session}
 use Rattle.session_cuts.specs.declared.Cut.{Cut}
 use Rattle.session_cuts.specs.declared.Cut.the-variants.{DayFloor, DayCeiling, TotalFloor, TotalCeiling}
-use Rattle.session_cuts.specs.declared.Told.the-variants.{Known}
-use Rattle.session_cutting.specs.Cutting.{earlier, clipped, retightened, changedDays, afterCut, afterTold}
+use Rattle.session_cuts.specs.declared.Numbered.the-variants.{Known}
+use Rattle.session_cutting.specs.Cutting.{earlyCutting, clipped, retightened, changedDays, afterCut, afterNumbered}
 use Rattle.session_cutting.proofs.Laws.{earlier-none, accepted}
-use Rattle.promises.specs.Cuts.{WellFormed, Keeps, Looser, Handed, ValidIn, Kept, after}
+use Rattle.promises.specs.Cuts.{WellFormed, Keeps, Looser, CutCall, ValidIn, Kept, after}
 use Rattle.promises.specs.Demands.{Exact, LooserCuts}
 use Rattle.promises.proofs.Clip.{well-formed}
 use Rattle.promises.proofs.Demand2.{unrefused}
@@ -29,13 +29,13 @@ use Rattle.promises.proofs.Demand3.{demand-3, same-session}
 use Rattle.promises.proofs.Fold.{known-same}
 use Rattle.promises.proofs.Reached.{after-reached}
 
-pub after-more : (s : Session) (hs : List Handed) (h : Handed) → after s (hs ++ h ∷ []) ≡ afterTold (after s hs) (h .told) (h .room) .session
+pub after-more : (s : Session) (hs : List CutCall) (h : CutCall) → after s (hs ++ h ∷ []) ≡ afterNumbered (after s hs) (h .cut) (h .room) .session
 after-more s [] h = refl
-after-more s (g ∷ hs) h = after-more (afterTold s (g .told) (g .room) .session) hs h
+after-more s (g ∷ hs) h = after-more (afterNumbered s (g .cut) (g .room) .session) hs h
 
-module _ (p : Profile) (hs : List Handed) (c : Cut) (room : ℕ) where
-  abbrev h : Handed
-  h = record { told = Known c; room = room }
+module _ (p : Profile) (hs : List CutCall) (c : Cut) (room : ℕ) where
+  abbrev h : CutCall
+  h = record { cut = Known c; room = room }
 
   -- schedules that keep the cut too keep the longer list, and the other way round
   kept-more : (x : List ℤ) → Keeps c x → Kept p hs x → Kept p (hs ++ h ∷ []) x
@@ -55,7 +55,7 @@ module _ (p : Profile) (hs : List Handed) (c : Cut) (room : ℕ) where
 no-changes : (n : ℕ) (r : Ranges) → length (changedDays n r r) ≡ 0
 no-changes n r = days-none _ (λ k. rw (eq-eqb (at (r .floors) k) (at (r .floors) k) refl, eq-eqb (at (r .ceilings) k) (at (r .ceilings) k) refl) refl) n
 
-unchanged : (s : Session) (c : Cut) (room : ℕ) → eqb (earlier s c room) 0 ≡ true → s .spent ≡ false → afterCut s c room .session ≡ s
+unchanged : (s : Session) (c : Cut) (room : ℕ) → eqb (earlyCutting s c room) 0 ≡ true → s .spent ≡ false → afterCut s c room .session ≡ s
     → afterCut s c room ≡ record { answer = record { refusal = 0; changed = 0 }; session = s }
 unchanged s c room early unspent same = go (retightened s (clipped (s .present) c) .found) refl
   where
@@ -70,7 +70,7 @@ unchanged s c room early unspent same = go (retightened s (clipped (s .present) 
 
 -- ---- every schedule that keeps the list keeps it
 
-module _ (p : Profile) (hs : List Handed) (s : Session) (w : Exact p (Kept p hs) s) where
+module _ (p : Profile) (hs : List CutCall) (s : Session) (w : Exact p (Kept p hs) s) where
   keeps-looser : (c : Cut) → WellFormed p c → Looser s c → (x : List ℤ) → Kept p hs x → Keeps c x
   keeps-looser (DayFloor day value) f l x k = ≤ℤ-trans _ _ _ l (w .each day (f .0) .inside x k .0)
   keeps-looser (DayCeiling day value) f l x k = ≤ℤ-trans _ _ _ (w .each day (f .0) .inside x k .1) l
@@ -78,7 +78,7 @@ module _ (p : Profile) (hs : List Handed) (s : Session) (w : Exact p (Kept p hs)
   keeps-looser (TotalCeiling day value) f l x k = ≤ℤ-trans _ _ _ (w .sum .inside x k .1) l
 
 pub looser-cuts : LooserCuts
-unfolding afterTold
+unfolding afterNumbered
 looser-cuts p z hs s e unspent c f l room long =
     let u = unrefused p z in
     let d = entered p (u .early) in

@@ -10,9 +10,9 @@ use lib.ListN.{replicate, length-replicate}
 use borrow.Author.Tests.{eqb-true, eq-eqb}
 use Rattle.session.specs.Opening.{opened}
 use Rattle.session.specs.declared.Session.{Session}
-use Rattle.session_cuts.specs.declared.Told.{Told}
-use Rattle.session_cuts.specs.declared.Told.the-variants.{Known, Unknown}
-use Rattle.session_cutting.specs.Cutting.{earlier, earlierTold, afterTold}
+use Rattle.session_cuts.specs.declared.Numbered.{Numbered}
+use Rattle.session_cuts.specs.declared.Numbered.the-variants.{Known, Unknown}
+use Rattle.session_cutting.specs.Cutting.{earlyCutting, earlyNumbered, afterNumbered}
 use Rattle.session_cutting.proofs.Laws.{passed, refused-same}
 use Rattle.promises.specs.Cuts.{after}
 use Rattle.promises.specs.Demands.{NoneAtCut}
@@ -21,28 +21,28 @@ use Rattle.promises.proofs.Demand3.{demand-3}
 use Rattle.promises.proofs.LooserCuts.{after-more}
 
 -- 8 is said where an unspent session becomes spent
-eight-spends : (s : Session) (t : Told) (room : ℕ)
-    → (afterTold s t room .answer .refusal ≡ 8) ↔ (s .spent ≡ false) × (afterTold s t room .session .spent ≡ true)
+eight-spends : (s : Session) (t : Numbered) (room : ℕ)
+    → (afterNumbered s t room .answer .refusal ≡ 8) ↔ (s .spent ≡ false) × (afterNumbered s t room .session .spent ≡ true)
 eight-spends s t room = rw (length-replicate {A = ℕ} room 0) at (demand-1 .refused s t (replicate room 0) .eight)
 
-none-before : (s : Session) (t : Told) (room : ℕ) → afterTold s t room .answer .refusal ≡ 8 → earlierTold s t room ≡ 0
-unfolding afterTold
+none-before : (s : Session) (t : Numbered) (room : ℕ) → afterNumbered s t room .answer .refusal ≡ 8 → earlyNumbered s t room ≡ 0
+unfolding afterNumbered
 none-before s Unknown room h = absurd (omega arith)
-none-before s (Known c) room h = go (eqb (earlier s c room) 0) refl
+none-before s (Known c) room h = go (eqb (earlyCutting s c room) 0) refl
   where
-    go : (b : Bool) → eqb (earlier s c room) 0 ≡ b → earlier s c room ≡ 0
-    go true e = eqb-true (earlier s c room) 0 e
+    go : (b : Bool) → eqb (earlyCutting s c room) 0 ≡ b → earlyCutting s c room ≡ 0
+    go true e = eqb-true (earlyCutting s c room) 0 e
     go false e = absurd (earlier-never-8 s c room (rw (refused-same s c room e) at h))
 
-unspent : (s : Session) (t : Told) (room : ℕ) → earlierTold s t room ≡ 0 → s .spent ≡ false
+unspent : (s : Session) (t : Numbered) (room : ℕ) → earlyNumbered s t room ≡ 0 → s .spent ≡ false
 unspent s Unknown room e = absurd (omega arith)
-unspent s (Known c) room e = passed s c room (eq-eqb (earlier s c room) 0 e) .unspent
+unspent s (Known c) room e = passed s c room (eq-eqb (earlyCutting s c room) 0 e) .unspent
 
 pub none-at-cut : NoneAtCut
 none-at-cut p z hs s e h =
-    let t = h .told in
+    let t = h .cut in
     let room = h .room in
-    let session : after (opened p .session) (hs ++ h ∷ []) ≡ afterTold s t room .session = rw e (after-more (opened p .session) hs h) in
+    let session : after (opened p .session) (hs ++ h ∷ []) ≡ afterNumbered s t room .session = rw e (after-more (opened p .session) hs h) in
     let more = ap (λ (q : Session). q .spent) session in
     let list = demand-3 p z (hs ++ h ∷ []) .spent in
     let eight = eight-spends s t room in (

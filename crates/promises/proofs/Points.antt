@@ -10,12 +10,13 @@ use lib.ListN.{length, drop}
 use borrow.Author.Tests.{eqb-true, eqb-false}
 use mir.Syntax.{w16}
 use mir.Val.{SFits}
+use Rattle.limits.specs.Limits.{lowestPoint}
 use Rattle.theory_lists.specs.Sum.{at}
 use Rattle.theory_lists.specs.Front.{inFront, front-past}
 use Rattle.theory_lists.specs.ListOf.{listOf, listOf-same}
 use Rattle.theory_lists.specs.Part.{Part, part-left, part-row, part-all}
 use Rattle.theory_lists.specs.Rows.{length-rows}
-use Rattle.base_codes.specs.Code.{lowestPoint, decoded}
+use Rattle.base_codes.specs.Code.{decoded}
 use Rattle.base_codes.proofs.Casts.{less-fits}
 use Rattle.base_codes.proofs.Laws.{point-less, decoded-less}
 use Rattle.base_little_endian.specs.Fields.{u16At, u16Bytes, i16Bytes}

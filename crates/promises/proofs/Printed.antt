@@ -11,9 +11,9 @@ use lib.Dec.{eqb}
 use lib.ListN.{length}
 use borrow.Author.Tests.{eqb-true, eqb-false}
 use Rattle.session.specs.Profile.{Profile, Spans}
-use Rattle.session.specs.Opening.{earlier, opened, refusedWith}
+use Rattle.session.specs.Opening.{earlyOpening, opened, refusedWith}
 use Rattle.session.proofs.Entered.{entered}
-use Rattle.session.proofs.Sanity.{opened-refusal}
+use Rattle.session.proofs.SessionBounds.{opened-refusal}
 use Rattle.session.specs.declared.Opened.{Opened}
 use Rattle.session_cuts.specs.declared.Cut.{Cut}
 use Rattle.session_cuts.specs.Sheet.{cutOn}
@@ -24,7 +24,7 @@ use Rattle.file_format.specs.Reading.{noHeader, badCounts, badLayout, badFields
 use Rattle.file_format.proofs.ReadAgain.{passed}
 use Rattle.file_printing.proofs.Lines.{all-refused}
 use Rattle.file_printing.specs.Printing.{cutAll, fileOpened}
-use Rattle.promises.specs.Cuts.{Keeps, Handed, ValidIn, Kept}
+use Rattle.promises.specs.Cuts.{Keeps, CutCall, ValidIn, Kept}
 use Rattle.promises.proofs.Clip.{well-formed}
 use Rattle.promises.specs.Demands.{Exact}
 use Rattle.promises.proofs.Demand2.{unrefused, demand-2}
@@ -52,7 +52,7 @@ module _ (b : List ℕ) where
       keeps : (c : Cut) → ValidIn p (handed f k) c → Keeps c x
       keeps c v =
           let j = handed-mem f k (v .handed) (v .member) in
-          let same : f (j .0) ≡ c = ap known (sym (ap (λ (h : Handed). h .told) (j .2)) ∙ v .valid .known) in
+          let same : f (j .0) ≡ c = ap known (sym (ap (λ (h : CutCall). h .cut) (j .2)) ∙ v .valid .known) in
           rw same at (s .keeps (j .0) (omega (arith, j .1)))
 
   -- and the other way, where they are all well-formed
@@ -98,8 +98,8 @@ module _ (b : List ℕ) where
 
 -- ---- the stages before the cuts
 
-reading-apart : (b : List ℕ) → Reading.earlier b ≡ 8 → ⊥
-unfolding Reading.earlier
+reading-apart : (b : List ℕ) → Reading.earlyReading b ≡ 8 → ⊥
+unfolding Reading.earlyReading
 reading-apart b = go (noHeader b) (badCounts b) (badLayout b) (badFields b)
   where
     go : (a c d e : Bool) → _≡_ {A = ℕ} (cond a 11 (cond c 1 (cond d 11 (cond e 12 0)))) 8 → ⊥
@@ -110,7 +110,7 @@ reading-apart b = go (noHeader b) (badCounts b) (badLayout b) (badFields b)
     go false false false false h = omega arith
 
 -- what is refused at opening and passes every check before 8 is refused with 8
-shut-eight : (p : Profile) → earlier p ≡ 0 → (opened p .refusal ≡ 0 → ⊥) → opened p .refusal ≡ 8
+shut-eight : (p : Profile) → earlyOpening p ≡ 0 → (opened p .refusal ≡ 0 → ⊥) → opened p .refusal ≡ 8
 shut-eight p e n = go (ℕ-discrete (opened p .refusal) 8)
   where
     go : Dec (opened p .refusal ≡ 8) → opened p .refusal ≡ 8
@@ -118,13 +118,13 @@ shut-eight p e n = go (ℕ-discrete (opened p .refusal) 8)
     go (no h) = absurd (n (opened-refusal p .1 h ∙ e))
 
 -- by the reader's answer: refused, or opened and cut
-by-reading : (b : List ℕ) (P : Opened → Type 0) → ((Reading.earlier b ≡ 0 → ⊥) → P (refusedWith (Reading.earlier b)))
-    → (Reading.earlier b ≡ 0 → (opened (profileIn b) .refusal ≡ 0 → ⊥) → P (opened (profileIn b)))
-    → (Reading.earlier b ≡ 0 → opened (profileIn b) .refusal ≡ 0 → P (cutAll (opened (profileIn b)) (cutOn (cutsIn b)) (length (cutsIn b)))) → P (fileOpened b)
+by-reading : (b : List ℕ) (P : Opened → Type 0) → ((Reading.earlyReading b ≡ 0 → ⊥) → P (refusedWith (Reading.earlyReading b)))
+    → (Reading.earlyReading b ≡ 0 → (opened (profileIn b) .refusal ≡ 0 → ⊥) → P (opened (profileIn b)))
+    → (Reading.earlyReading b ≡ 0 → opened (profileIn b) .refusal ≡ 0 → P (cutAll (opened (profileIn b)) (cutOn (cutsIn b)) (length (cutsIn b)))) → P (fileOpened b)
 unfolding fileOpened
-by-reading b P refused shut cut = go (eqb (Reading.earlier b) 0) (eqb (opened (profileIn b) .refusal) 0) refl refl
+by-reading b P refused shut cut = go (eqb (Reading.earlyReading b) 0) (eqb (opened (profileIn b) .refusal) 0) refl refl
   where
-    go : (r o : Bool) → eqb (Reading.earlier b) 0 ≡ r → eqb (opened (profileIn b) .refusal) 0 ≡ o → P (fileOpened b)
+    go : (r o : Bool) → eqb (Reading.earlyReading b) 0 ≡ r → eqb (opened (profileIn b) .refusal) 0 ≡ o → P (fileOpened b)
     go true true e h = rw e (cut (eqb-true _ _ e) (eqb-true _ _ h))
     go true false e h =
         let n = eqb-false (opened (profileIn b) .refusal) 0 h in

@@ -5,10 +5,11 @@ use mathlib.Core.List.{List}
 use Prim.Native.Nat.{ℕ, _-_, _≤_}
 use native.Mathlib.Omega.{arith}
 use lib.IntN.{ℤ, pos}
+use Rattle.limits.specs.Limits.{lowestPoint, lowestRise, lowestTotal}
 use Rattle.theory_lists.specs.ListOf.{get-listOf}
 use Rattle.theory_lists.specs.Sum.{at}
 use Rattle.theory_chains.specs.Spans.{spans-same}
-use Rattle.base_codes.specs.Code.{lowestPoint, lowestRise, lowestTotal, code, on}
+use Rattle.base_codes.specs.Code.{code, on}
 use Rattle.base_codes.proofs.Laws.{point-less, rise-less, total-less, decoded-less}
 use Rattle.session.specs.Profile.{Profile, Schedule}
 use Rattle.session.specs.Opening.{opened, narrowed as tight, codes, rangesOf}
@@ -17,7 +18,7 @@ use Rattle.session.specs.Showing.{floorOn, ceilingOn, riseOn}
 use Rattle.session.proofs.Within.{Within}
 use Rattle.session.specs.declared.Session.{Session}
 use Rattle.schedule_writing.proofs.Supported.{Supported}
-use Rattle.promises.specs.Cuts.{Handed, Kept, after}
+use Rattle.promises.specs.Cuts.{CutCall, Kept, after}
 use Rattle.promises.proofs.Bridge.{Coding, of-levels, levels-of, codes-of, coding}
 use Rattle.promises.proofs.Demand2.{unrefused}
 use Rattle.promises.proofs.Right.{Right, narrowed, exhausted}
@@ -37,13 +38,13 @@ present-coding s few = record {
 
 -- an unspent session that came from a profile by cuts: the levels within its present ranges are those of the profile that keep the cuts, and
 -- each value of a range is taken
-pub record Reached (p : Profile) (d : Entered p) (hs : List Handed) (s : Session) : Type 0 where
+pub record Reached (p : Profile) (d : Entered p) (hs : List CutCall) (s : Session) : Type 0 where
   pub days : s .days ≡ p .days
   pub supported : Supported (s .rises) (s .days) (s .present)
   pub within : (c : ℕ → ℕ) → LevelsKept p d hs c → Within (s .rises) (s .days) (s .present) c
   pub only : (c : ℕ → ℕ) → Within (s .rises) (s .days) (s .present) c → LevelsKept p d hs c
 
-reached : (p : Profile) (d : Entered p) (hs : List Handed) {s : Session} → Right (p .days) (codes lowestRise (p .rises) (p .days - 1)) (rangesOf (tight p)) (LevelsKept p d hs) s
+reached : (p : Profile) (d : Entered p) (hs : List CutCall) {s : Session} → Right (p .days) (codes lowestRise (p .rises) (p .days - 1)) (rangesOf (tight p)) (LevelsKept p d hs) s
     → s .spent ≡ false → Reached p d hs s
 reached p d hs (narrowed r e w) u =
     rw e (record {
@@ -54,10 +55,10 @@ reached p d hs (narrowed r e w) u =
     })
 reached p d hs (exhausted e h) u = absurd (true≢false (sym (ap (λ (s : Session). s .spent) e) ∙ u))
 
-pub after-reached : (p : Profile) (z : opened p .refusal ≡ 0) (d : Entered p) (hs : List Handed) (s : Session) → s ≡ after (opened p .session) hs → s .spent ≡ false → Reached p d hs s
+pub after-reached : (p : Profile) (z : opened p .refusal ≡ 0) (d : Entered p) (hs : List CutCall) (s : Session) → s ≡ after (opened p .session) hs → s .spent ≡ false → Reached p d hs s
 after-reached p z d hs s e = let u = unrefused p z in reached p d hs (rw (e, u .session) (after-right p d (u .found) hs))
 
-module _ (p : Profile) (d : Entered p) (hs : List Handed) (s : Session) (w : Reached p d hs s) where
+module _ (p : Profile) (d : Entered p) (hs : List CutCall) (s : Session) (w : Reached p d hs s) where
   present : Coding (presentProfile s) (s .present .floors) (s .present .ceilings) (s .rises) (s .present .least) (s .present .most)
   present = present-coding s (w .supported .bounds .most)
 

@@ -9,7 +9,7 @@ use native.Mathlib.Decide.{decLt}
 use lib.Seq.{ext-getD}
 use Rattle.theory_lists.specs.Sum.{at}
 use Rattle.theory_method.specs.Filter.{held}
-use Rattle.theory_chains.specs.Spans.{Spans, spans-same, spans-least, spans-most}
+use Rattle.theory_chains.specs.Spans.{NatSpans, spans-same, spans-least, spans-most}
 use Rattle.session.specs.Showing.{Fits}
 use Rattle.session.proofs.Within.{Within}
 use Rattle.session.specs.declared.Ranges.{Ranges}
@@ -20,8 +20,8 @@ pub record Narrowed (n : ℕ) (rs : List ℕ) (o : Ranges) (S : (ℕ → ℕ) �
   pub bounds : Fits rs n r
   pub within : (x : ℕ → ℕ) → S x → Within rs n r x
   pub only : (x : ℕ → ℕ) → Within rs n r x → S x
-  pub day : (k : ℕ) → k < n → Spans S (λ x. x k) (at (r .floors) k) (at (r .ceilings) k)
-  pub total : Spans S (held n) (r .least) (r .most)
+  pub day : (k : ℕ) → k < n → NatSpans S (λ x. x k) (at (r .floors) k) (at (r .ceilings) k)
+  pub total : NatSpans S (held n) (r .least) (r .most)
   pub floors-kept : (k : ℕ) → n ≤ k → at (r .floors) k ≡ at (o .floors) k
   pub ceilings-kept : (k : ℕ) → n ≤ k → at (r .ceilings) k ≡ at (o .ceilings) k
 

@@ -12,7 +12,7 @@ use Rattle.session.specs.Profile.{Profile}
 use Rattle.session.specs.Opening.{profile}
 use Rattle.session_cuts.specs.declared.Cut.{Cut}
 use Rattle.session_cuts.specs.Sheet.{cutsOf}
-use Rattle.file_format.specs.Format.{dayCount, totalFloor, totalCeiling, floorAt, ceilingAt, riseAt, profileIn, cutsIn, file}
+use Rattle.file_format.specs.Format.{dayCount, totalFloorAt, totalCeilingAt, floorAt, ceilingAt, riseAt, profileIn, cutsIn, file}
 use Rattle.file_format.proofs.Taken.{Taken, not-refused}
 use Rattle.file_format.proofs.RoundTrip.{Reads, reads-again, written-back}
 use Rattle.file_reading.specs.Reading.{contents}
@@ -20,7 +20,7 @@ use Rattle.file_reading.specs.declared.ReadAnswer.{ReadAnswer}
 use Rattle.file_reading.proofs.Laws.{sheet-cuts, Room, read-taken, read-all}
 use Rattle.file_writing.specs.Writing.{writeAnswer}
 use Rattle.file_writing.proofs.Laws.{written-passed, written-front, written-file}
-use Rattle.promises.specs.RoundTrips.{Lists, read, filled, profileOf, Roomy, ReadAgain, WrittenBack, RoundTrips}
+use Rattle.promises.specs.RoundTrips.{Lists, read, filled, profileFound, Roomy, ReadAgain, WrittenBack, RoundTrips}
 
 -- what stands in the front of a lent list that was filled
 found : (refusal : ℕ) (f : ℕ → ℤ) (l : List ℤ) {m n : ℕ} → refusal ≡ 0 → m ≡ n → n ≤ length l → take m (lentList refusal f n l) ≡ listOf f n
@@ -30,17 +30,17 @@ module _ (b : List ℕ) (l : Lists) (e : read b l .refusal ≡ 0) where
   whole : (read b l ≡ contents b) × Taken b × Room b (length (l .floors)) (length (l .ceilings)) (length (l .rises))
   whole = read-taken b (length (l .floors)) (length (l .ceilings)) (length (l .rises)) e
 
-  pub profile-read : profileOf (read b l) (filled b l) ≡ profileIn b
+  pub profile-read : profileFound (read b l) (filled b l) ≡ profileIn b
   unfolding profileIn contents
   profile-read =
-      let p : Profile = profileOf (read b l) (filled b l) in
+      let p : Profile = profileFound (read b l) (filled b l) in
       let room = whole .2 in
       let days : p .days ≡ dayCount b = ap (λ (a : ReadAnswer). a .days) (whole .0) in
       let floors : p .floors ≡ profileIn b .floors = found _ (floorAt b) (l .floors) e days (room .floors-long) in
       let ceilings : p .ceilings ≡ profileIn b .ceilings = found _ (ceilingAt b) (l .ceilings) e days (room .ceilings-long) in
       let rises : p .rises ≡ profileIn b .rises = found _ (riseAt b) (l .rises) e (ap (λ n. n - 1) days) (room .rises-long) in
-      let lowest : p .lowest ≡ totalFloor b = ap (λ (a : ReadAnswer). a .lowest) (whole .0) in
-      let highest : p .highest ≡ totalCeiling b = ap (λ (a : ReadAnswer). a .highest) (whole .0) in
+      let lowest : p .lowest ≡ totalFloorAt b = ap (λ (a : ReadAnswer). a .lowest) (whole .0) in
+      let highest : p .highest ≡ totalCeilingAt b = ap (λ (a : ReadAnswer). a .highest) (whole .0) in
       λ i. profile (days i) (floors i) (ceilings i) (rises i) (lowest i) (highest i)
 
   pub cuts-read : cutsOf (read b l .sheet) ≡ cutsIn b
@@ -69,9 +69,9 @@ again p cs out l e r =
     }
 
 back : (b : List ℕ) (l : Lists) (out : List ℕ) → Bytes b → read b l .refusal ≡ 0
-    → writeAnswer (profileOf (read b l) (filled b l)) (cutsOf (read b l .sheet)) (length out) .refusal ≡ 0 → WrittenBack b l out
+    → writeAnswer (profileFound (read b l) (filled b l)) (cutsOf (read b l .sheet)) (length out) .refusal ≡ 0 → WrittenBack b l out
 back b l out bytes e w =
-    let p : Profile = profileOf (read b l) (filled b l) in
+    let p : Profile = profileFound (read b l) (filled b l) in
     let cs : List Cut = cutsOf (read b l .sheet) in
     let same : file p cs ≡ b = rw (profile-read b l e, cuts-read b l e) (written-back b bytes (not-refused b (whole b l e .1))) in
     record { same = written-file p cs out w ∙ same; rest = written-front p cs out w ∙ ap (λ xs. inFront xs out) same }

@@ -9,17 +9,18 @@ use lib.IntN.{ℤ, pos}
 use lib.ListN.{length}
 use lib.Signed.{_≤ℤ_}
 use borrow.Author.Tests.{eqb-true, eqb-false, eq-eqb}
+use Rattle.limits.specs.Limits.{lowestPoint}
 use Rattle.theory_lists.specs.Sum.{at}
 use Rattle.theory_lists.specs.Lent.{list-filled}
 use Rattle.theory_lists.specs.ListOf.{listOf, length-listOf, get-listOf, listOf-all}
 use Rattle.theory_lists.specs.Written.{written, length-written, written-below}
-use Rattle.base_codes.specs.Code.{lowestPoint, decoded, on}
+use Rattle.base_codes.specs.Code.{decoded, on}
 use Rattle.base_codes.proofs.Laws.{point-less, decoded-less}
 use Rattle.base_codes.proofs.Offset.{le-less}
 use Rattle.session.specs.Profile.{Profile, total}
 use Rattle.session.specs.Showing.{floorOn, ceilingOn, totalFloor, totalCeiling}
 use Rattle.session.specs.declared.Session.{Session}
-use Rattle.schedule_writing.specs.Writing.{dayLevels, totalLevels, dayRefusal, totalRefusal, dayWritten, totalWritten}
+use Rattle.schedule_writing.specs.Writing.{dayLevels, totalLevels, dayWriteRefusal, totalWriteRefusal, dayWritten, totalWritten}
 use Rattle.schedule_inspection.specs.Inspecting.{Finding, refused, kept, inspected}
 use Rattle.promises.specs.Cuts.{Kept}
 use Rattle.promises.specs.Schedules.{ScheduleFor, Ranged}
@@ -33,7 +34,7 @@ use Rattle.c_sessions.specs.Sessions.{isSession}
 use Rattle.c_schedules.specs.Schedules.{refusalFor, writeRefusal, inspectedOver}
 use Rattle.c_schedules.specs.declared.Subject.{Subject}
 use Rattle.c_schedules.specs.declared.Subject.the-variants.{Day, Total}
-use Rattle.promises.specs.InBytes.{HandedBytes, byValue, CameFrom}
+use Rattle.promises.specs.InBytes.{ByteCutCall, byValue, CameFrom}
 use Rattle.promises.specs.SchedulesInBytes.{valueIn, listWritten, Written, WritingInBytes, InspectionInBytes}
 use Rattle.promises.proofs.Bytes.{Came, came}
 use Rattle.promises.proofs.Demands.{days}
@@ -54,7 +55,7 @@ pairs true true r e = e
 pairs true false r e = absurd (omega arith)
 pairs false c r e = absurd (omega arith)
 
-module _ (p : Profile) (hs : List HandedBytes) (b : List ℕ) (c : CameFrom p hs b) where
+module _ (p : Profile) (hs : List ByteCutCall) (b : List ℕ) (c : CameFrom p hs b) where
   w : Came p hs b
   w = came p hs b c
 
@@ -76,24 +77,24 @@ module _ (p : Profile) (hs : List HandedBytes) (b : List ℕ) (c : CameFrom p hs
             arith,
             le-less (point k) (ceilingOn s k) (level k) (at (s .present .ceilings) k) 1000 (decoded-less lowestPoint (level k) 1000 point-less)
                 (decoded-less lowestPoint (at (s .present .ceilings) k) 1000 point-less) within,
-            w .storable .sane .present .ceiling k h,
+            w .storable .bounds .present .ceiling k h,
           )
 
       stored : (r : ℕ) → r ≡ 0 → ScheduleFor p (byValue hs) s (valueIn subject) v (pointsIn (lentPoints r point n l) n)
       stored r z = rw (lent-points r point n l z (λ k h. point-fits (level k) (low k h))) x
 
-  by-day : (i : ℕ) (v : ℤ) → dayRefusal s i v n ≡ 0 → ScheduleFor p (byValue hs) s (λ x. on x i) v (listOf (λ k. decoded lowestPoint (dayLevels s i v k)) n)
+  by-day : (i : ℕ) (v : ℤ) → dayWriteRefusal s i v n ≡ 0 → ScheduleFor p (byValue hs) s (λ x. on x i) v (listOf (λ k. decoded lowestPoint (dayLevels s i v k)) n)
   unfolding dayWritten
   by-day i v r =
       let l : List ℤ = listOf (λ _. pos 0) n in
-      let o : dayRefusal s i v (length l) ≡ 0 = rw (length-listOf (λ (_ : ℕ). pos 0) n) r in
+      let o : dayWriteRefusal s i v (length l) ≡ 0 = rw (length-listOf (λ (_ : ℕ). pos 0) n) r in
       rw (list-filled _ _ _ l o, filled-whole (λ k. decoded lowestPoint (dayLevels s i v k)) n) at (writing .day p (w .opens) (byValue hs) s (w .held) i v l .schedule o)
 
-  by-total : (v : ℤ) → totalRefusal s v n ≡ 0 → ScheduleFor p (byValue hs) s total v (listOf (λ k. decoded lowestPoint (totalLevels s v k)) n)
+  by-total : (v : ℤ) → totalWriteRefusal s v n ≡ 0 → ScheduleFor p (byValue hs) s total v (listOf (λ k. decoded lowestPoint (totalLevels s v k)) n)
   unfolding totalWritten
   by-total v r =
       let l : List ℤ = listOf (λ _. pos 0) n in
-      let o : totalRefusal s v (length l) ≡ 0 = rw (length-listOf (λ (_ : ℕ). pos 0) n) r in
+      let o : totalWriteRefusal s v (length l) ≡ 0 = rw (length-listOf (λ (_ : ℕ). pos 0) n) r in
       rw (list-filled _ _ _ l o, filled-whole (λ k. decoded lowestPoint (totalLevels s v k)) n) at (writing .sum p (w .opens) (byValue hs) s (w .held) v l .schedule o)
 
   checked : (subject : Subject) (v : ℤ) (l : List ℕ) → writeRefusal b subject v l ≡ 0 → refusalFor s subject v ≡ 0

@@ -10,9 +10,10 @@ use lib.Dec.{eqb, ltb}
 use lib.ListN.{length}
 use lib.Signed.{_≤ℤ_}
 use borrow.Author.Tests.{eqb-true, eq-eqb, ltb-true, lt-ltb}
+use Rattle.limits.specs.Limits.{lowestPoint, lowestTotal}
 use Rattle.theory_lists.specs.Sum.{at}
 use Rattle.theory_lists.specs.Written.{written, length-written, written-below}
-use Rattle.base_codes.specs.Code.{lowestPoint, lowestTotal, within, code, decoded, on}
+use Rattle.base_codes.specs.Code.{within, code, decoded, on}
 use Rattle.base_codes.proofs.Offset.{Less, less-same}
 use Rattle.base_codes.proofs.Laws.{point-less, total-less, decoded-less, within-yes, within-no}
 use Rattle.session.specs.Profile.{Profile, Schedule, total}
@@ -22,9 +23,9 @@ use Rattle.session.specs.Showing.{floorOn, ceilingOn, totalFloor, totalCeiling}
 use Rattle.session.proofs.Within.{Within}
 use Rattle.theory_lists.specs.Lent.{list-left, list-filled}
 use Rattle.session.specs.declared.Session.{Session}
-use Rattle.schedule_writing.specs.Writing.{dayRefusal, totalRefusal, dayLevels, totalLevels, dayWritten, totalWritten}
+use Rattle.schedule_writing.specs.Writing.{dayWriteRefusal, totalWriteRefusal, dayLevels, totalLevels, dayWritten, totalWritten}
 use Rattle.schedule_writing.proofs.Supported.{with-total, with-day}
-use Rattle.promises.specs.Cuts.{Handed, after}
+use Rattle.promises.specs.Cuts.{CutCall, after}
 use Rattle.promises.proofs.Bridge.{held-less, of-levels, between}
 use Rattle.promises.proofs.Demand2.{unrefused}
 use Rattle.promises.proofs.Reached.{Reached, present-coding, after-reached, present-kept}
@@ -68,16 +69,16 @@ ranged a b c low v high before = record {
 }
 
 day-ranged : (s : Session) (i : ℕ) (v : ℤ) (room : ℕ)
-    → Ranged (dayRefusal s i v room) ((room ≡ s .days) × (i < s .days) × (s .spent ≡ false)) (floorOn s i) v (ceilingOn s i)
-unfolding dayRefusal
+    → Ranged (dayWriteRefusal s i v room) ((room ≡ s .days) × (i < s .days) × (s .spent ≡ false)) (floorOn s i) v (ceilingOn s i)
+unfolding dayWriteRefusal
 day-ranged s i v room =
     ranged (eqb room (s .days)) (ltb i (s .days)) (s .spent) (floorOn s i) v (ceilingOn s i) (
       λ w. (eq-eqb room (s .days) (w .0), lt-ltb i (s .days) (w .1), w .2),
       λ t. (eqb-true room (s .days) (t .0), ltb-true i (s .days) (t .1), t .2),
     )
 
-sum-ranged : (s : Session) (v : ℤ) (room : ℕ) → Ranged (totalRefusal s v room) ((room ≡ s .days) × (s .spent ≡ false)) (totalFloor s) v (totalCeiling s)
-unfolding totalRefusal
+sum-ranged : (s : Session) (v : ℤ) (room : ℕ) → Ranged (totalWriteRefusal s v room) ((room ≡ s .days) × (s .spent ≡ false)) (totalFloor s) v (totalCeiling s)
+unfolding totalWriteRefusal
 sum-ranged s v room =
     ranged (eqb room (s .days)) true (s .spent) (totalFloor s) v (totalCeiling s) (
       λ w. (eq-eqb room (s .days) (w .0), refl, w .1),
@@ -86,7 +87,7 @@ sum-ranged s v room =
 
 -- ---- the list
 
-module _ (p : Profile) (d : Entered p) (hs : List Handed) (s : Session) (w : Reached p d hs s) (u : s .spent ≡ false) (l : List ℤ) (e : length l ≡ s .days) where
+module _ (p : Profile) (d : Entered p) (hs : List CutCall) (s : Session) (w : Reached p d hs s) (u : s .spent ≡ false) (l : List ℤ) (e : length l ≡ s .days) where
   -- levels within the present ranges, as points on the list
   module _ (c : ℕ → ℕ) (l′ : Within (s .rises) (s .days) (s .present) c) where
     abbrev x : List ℤ
@@ -129,11 +130,11 @@ module _ (p : Profile) (d : Entered p) (hs : List Handed) (s : Session) (w : Rea
 
 -- ---- all of it
 
-module _ (p : Profile) (z : opened p .refusal ≡ 0) (hs : List Handed) (s : Session) (e : s ≡ after (opened p .session) hs) where
+module _ (p : Profile) (z : opened p .refusal ≡ 0) (hs : List CutCall) (s : Session) (e : s ≡ after (opened p .session) hs) where
   d : Entered p
   d = entered p (unrefused p z .early)
 
-  writes-day : (i : ℕ) (v : ℤ) (l : List ℤ) → Writes p hs s (λ x. on x i) v (dayRefusal s i v (length l)) l (dayWritten s i v l)
+  writes-day : (i : ℕ) (v : ℤ) (l : List ℤ) → Writes p hs s (λ x. on x i) v (dayWriteRefusal s i v (length l)) l (dayWritten s i v l)
   unfolding dayWritten
   writes-day i v l = record {
     left = list-left _ _ _ l;
@@ -142,7 +143,7 @@ module _ (p : Profile) (z : opened p .refusal ≡ 0) (hs : List Handed) (s : Ses
         rw (list-filled _ _ _ l o) (day-schedule p d hs s (after-reached p z d hs s e (t .0 .2)) (t .0 .2) l (t .0 .0) i v (t .0 .1) (t .1) (t .2));
   }
 
-  writes-sum : (v : ℤ) (l : List ℤ) → Writes p hs s total v (totalRefusal s v (length l)) l (totalWritten s v l)
+  writes-sum : (v : ℤ) (l : List ℤ) → Writes p hs s total v (totalWriteRefusal s v (length l)) l (totalWritten s v l)
   unfolding totalWritten
   writes-sum v l = record {
     left = list-left _ _ _ l;

@@ -4,15 +4,16 @@ use mathlib.Core.List.{List, [], _∷_, List·Memᴰ}
 use Prim.Native.Nat.{ℕ, _≤_, _<_}
 use lib.IntN.{ℤ}
 use lib.Signed.{_≤ℤ_}
-use Rattle.base_codes.specs.Code.{lowestPoint, highestPoint, lowestTotal, highestTotal, on}
+use Rattle.limits.specs.Limits.{lowestPoint, highestPoint, lowestTotal, highestTotal}
+use Rattle.base_codes.specs.Code.{on}
 use Rattle.session.specs.Profile.{Profile, Schedule, total}
 use Rattle.session.specs.Showing.{floorOn, ceilingOn, totalFloor, totalCeiling}
 use Rattle.session.specs.declared.Session.{Session}
 use Rattle.session_cuts.specs.declared.Cut.{Cut}
 use Rattle.session_cuts.specs.declared.Cut.the-variants.{DayFloor, DayCeiling, TotalFloor, TotalCeiling}
-use Rattle.session_cuts.specs.declared.Told.{Told}
-use Rattle.session_cuts.specs.declared.Told.the-variants.{Known}
-use Rattle.session_cutting.specs.Cutting.{afterTold}
+use Rattle.session_cuts.specs.declared.Numbered.{Numbered}
+use Rattle.session_cuts.specs.declared.Numbered.the-variants.{Known}
+use Rattle.session_cutting.specs.Cutting.{afterNumbered}
 
 -- A cut is well-formed (document 01) if its day is in the profile, for the day kinds, or 0, for the total kinds, and its value within bounds
 abbrev pub WellFormed : Profile → Cut → Type 0
@@ -36,28 +37,28 @@ Looser s (TotalFloor day value) = value ≤ℤ totalFloor s
 Looser s (TotalCeiling day value) = totalCeiling s ≤ℤ value
 
 -- a cut as it is handed over: its kind may be unknown, and the list lent for changed days is `room` long
-pub record Handed : Type 0 where
-  pub told : Told
+pub record CutCall : Type 0 where
+  pub cut : Numbered
   pub room : ℕ
 
 -- A cut is valid (document 01) if it is well-formed and the list lent for changed days is at least n long
-pub record Valid (p : Profile) (h : Handed) (c : Cut) : Type 0 where
-  pub known : h .told ≡ Known c
+pub record Valid (p : Profile) (h : CutCall) (c : Cut) : Type 0 where
+  pub known : h .cut ≡ Known c
   pub formed : WellFormed p c
   pub roomy : p .days ≤ h .room
 
 -- c is a valid cut of the list
-pub record ValidIn (p : Profile) (hs : List Handed) (c : Cut) : Type 0 where
-  pub handed : Handed
+pub record ValidIn (p : Profile) (hs : List CutCall) (c : Cut) : Type 0 where
+  pub handed : CutCall
   pub member : List·Memᴰ handed hs
   pub valid : Valid p handed c
 
 -- a schedule of the profile that keeps every valid cut of the list
-pub record Kept (p : Profile) (hs : List Handed) (x : List ℤ) : Type 0 where
+pub record Kept (p : Profile) (hs : List CutCall) (x : List ℤ) : Type 0 where
   pub schedule : Schedule p x
   pub keeps : (c : Cut) → ValidIn p hs c → Keeps c x
 
 -- the session after a whole list of cuts, one after another, refused ones included
-abbrev pub after : Session → List Handed → Session
+abbrev pub after : Session → List CutCall → Session
 after s [] = s
-after s (h ∷ hs) = after (afterTold s (h .told) (h .room) .session) hs
+after s (h ∷ hs) = after (afterNumbered s (h .cut) (h .room) .session) hs

@@ -9,14 +9,14 @@ use lib.ListN.{length}
 use Rattle.theory_lists.specs.Sum.{at}
 use Rattle.base_codes.specs.Code.{on}
 use Rattle.session.specs.Profile.{Profile, Schedule, Spans, total}
-use Rattle.session.specs.Showing.{Sane, floorOn, ceilingOn, totalFloor, totalCeiling}
-use Rattle.session.specs.Opening.{earlier, opened}
+use Rattle.session.specs.Showing.{SessionInBounds, floorOn, ceilingOn, totalFloor, totalCeiling}
+use Rattle.session.specs.Opening.{earlyOpening, opened}
 use Rattle.session.specs.declared.Session.{Session}
 use Rattle.session_cuts.specs.declared.Cut.{Cut}
-use Rattle.session_cuts.specs.declared.Told.{Told}
-use Rattle.session_cutting.specs.Cutting.{spend, earlierTold, afterCut, afterTold, listAfter}
+use Rattle.session_cuts.specs.declared.Numbered.{Numbered}
+use Rattle.session_cutting.specs.Cutting.{spend, earlyNumbered, afterCut, afterNumbered, listAfter}
 use Rattle.session_cutting.specs.declared.AfterCut.{AfterCut}
-use Rattle.promises.specs.Cuts.{WellFormed, Looser, Handed, ValidIn, Kept, after}
+use Rattle.promises.specs.Cuts.{WellFormed, Looser, CutCall, ValidIn, Kept, after}
 
 -- ---- demand 1 at a cut
 
@@ -37,8 +37,8 @@ pub record Changes (s : Session) (l : List ℕ) (r : AfterCut) : Type 0 where
 
 -- for whatever session, cut and lent list
 pub record Demand1 : Type 0 where
-  pub refused : (s : Session) (t : Told) (l : List ℕ) → Leaves s l (afterTold s t (length l))
-  pub accepted : (s : Session) (t : Told) (l : List ℕ) → afterTold s t (length l) .answer .refusal ≡ 0 → Changes s l (afterTold s t (length l))
+  pub refused : (s : Session) (t : Numbered) (l : List ℕ) → Leaves s l (afterNumbered s t (length l))
+  pub accepted : (s : Session) (t : Numbered) (l : List ℕ) → afterNumbered s t (length l) .answer .refusal ≡ 0 → Changes s l (afterNumbered s t (length l))
 
 -- ---- demand 2 at opening
 
@@ -51,29 +51,29 @@ pub record Exact (p : Profile) (S : List ℤ → Type 0) (s : Session) : Type 0 
 -- no schedule
 pub record Demand2 : Type 0 where
   pub opening : (p : Profile) → opened p .refusal ≡ 0 → Exact p (Schedule p) (opened p .session)
-  pub none : (p : Profile) → (opened p .refusal ≡ 8) ↔ (earlier p ≡ 0) × ((x : List ℤ) → Schedule p x → ⊥)
+  pub none : (p : Profile) → (opened p .refusal ≡ 8) ↔ (earlyOpening p ≡ 0) × ((x : List ℤ) → Schedule p x → ⊥)
 
 -- ---- demand 3
 
 -- the session after a whole list of cuts, refused ones included: it is spent exactly where no schedule keeps every valid cut of the list, and
 -- then shows the ranges that it had when opened, and holds nothing else of its cuts; otherwise its ranges are exact for the schedules that keep
 -- them all; and another list with the same valid cuts ends in an equal session
-pub record AfterList (p : Profile) (hs : List Handed) : Type 0 where
+pub record AfterList (p : Profile) (hs : List CutCall) : Type 0 where
   pub spent : (after (opened p .session) hs .spent ≡ true) ↔ ((x : List ℤ) → Kept p hs x → ⊥)
   pub as-opened : after (opened p .session) hs .spent ≡ true → after (opened p .session) hs ≡ spend (opened p .session)
   pub exact : after (opened p .session) hs .spent ≡ false → Exact p (Kept p hs) (after (opened p .session) hs)
-  pub order-free : (gs : List Handed) → ((c : Cut) → ValidIn p hs c ↔ ValidIn p gs c) → after (opened p .session) hs ≡ after (opened p .session) gs
+  pub order-free : (gs : List CutCall) → ((c : Cut) → ValidIn p hs c ↔ ValidIn p gs c) → after (opened p .session) hs ≡ after (opened p .session) gs
 
 -- for every profile that opens unrefused and every list
 abbrev pub Demand3 : Type 0
-Demand3 = (p : Profile) → opened p .refusal ≡ 0 → (hs : List Handed) → AfterList p hs
+Demand3 = (p : Profile) → opened p .refusal ≡ 0 → (hs : List CutCall) → AfterList p hs
 
 -- ---- looser cuts
 
 -- a valid cut that is looser than the present range is accepted, and changes nothing
 abbrev pub LooserCuts : Type 0
 LooserCuts =
-    (p : Profile) → opened p .refusal ≡ 0 → (hs : List Handed) (s : Session) → s ≡ after (opened p .session) hs → s .spent ≡ false
+    (p : Profile) → opened p .refusal ≡ 0 → (hs : List CutCall) (s : Session) → s ≡ after (opened p .session) hs → s .spent ≡ false
     → (c : Cut) → WellFormed p c → Looser s c → (room : ℕ) → p .days ≤ room
     → afterCut s c room ≡ record { answer = record { refusal = 0; changed = 0 }; session = s }
 
@@ -82,12 +82,12 @@ LooserCuts =
 -- 8 is said exactly where no check before it refuses and no schedule keeps every valid cut of the list and this one
 abbrev pub NoneAtCut : Type 0
 NoneAtCut =
-    (p : Profile) → opened p .refusal ≡ 0 → (hs : List Handed) (s : Session) → s ≡ after (opened p .session) hs → (h : Handed)
-    → (afterTold s (h .told) (h .room) .answer .refusal ≡ 8) ↔ (earlierTold s (h .told) (h .room) ≡ 0) × ((x : List ℤ) → Kept p (hs ++ h ∷ []) x → ⊥)
+    (p : Profile) → opened p .refusal ≡ 0 → (hs : List CutCall) (s : Session) → s ≡ after (opened p .session) hs → (h : CutCall)
+    → (afterNumbered s (h .cut) (h .room) .answer .refusal ≡ 8) ↔ (earlyNumbered s (h .cut) (h .room) ≡ 0) × ((x : List ℤ) → Kept p (hs ++ h ∷ []) x → ⊥)
 
 -- ---- numbers in bounds
 
 -- every session from opening, refused or not, and any list of cuts has its numbers in bounds, which is all that showing, cutting, writing and
 -- inspecting ask of one
-abbrev pub SaneSessions : Type 0
-SaneSessions = (p : Profile) (hs : List Handed) → Sane (after (opened p .session) hs)
+abbrev pub SessionsInBounds : Type 0
+SessionsInBounds = (p : Profile) (hs : List CutCall) → SessionInBounds (after (opened p .session) hs)

@@ -11,20 +11,20 @@ use Rattle.theory_lists.specs.Sum.{at}
 use Rattle.base_codes.specs.Code.{on}
 use Rattle.session.specs.Profile.{Profile, Schedule, Spans, total}
 use Rattle.session.specs.Showing.{floorOn, ceilingOn}
-use Rattle.session.specs.Opening.{earlier, opened}
+use Rattle.session.specs.Opening.{earlyOpening, opened}
 use Rattle.session.specs.declared.Shown.{Shown}
 use Rattle.session_cuts.specs.declared.Cut.{Cut}
-use Rattle.session_cuts.specs.declared.Told.{Told}
-use Rattle.session_cuts.specs.declared.Told.the-variants.{Known}
-use Rattle.session_cutting.specs.Cutting.{spend, earlierTold}
+use Rattle.session_cuts.specs.declared.Numbered.{Numbered}
+use Rattle.session_cuts.specs.declared.Numbered.the-variants.{Known}
+use Rattle.session_cutting.specs.Cutting.{spend, earlyNumbered}
 use Rattle.promises.specs.Cuts.{WellFormed, Looser, ValidIn, Kept}
 use Rattle.promises.specs.Demands.{Exact}
 use Rattle.base_little_endian.specs.Fields.{u16At}
 use Rattle.c_lists.specs.Lists.{pointAt, lentPoints}
-use Rattle.c_lists.specs.Profiles.{lengthRefusal, profileOf}
+use Rattle.c_lists.specs.Profiles.{byteLengthRefusal, profileOf}
 use Rattle.c_storage.specs.Layout.{encoding, decoding}
-use Rattle.c_sessions.specs.Sessions.{isSession, openRefusal, openBytes, cutAnswer, cutBytes, changedBytes, shownOver}
-use Rattle.promises.specs.InBytes.{HandedBytes, byValue, CameFrom}
+use Rattle.c_sessions.specs.Sessions.{isSession, openRefusal, bytesOpened, cutAnswer, bytesCut, changedBytes, shownOver}
+use Rattle.promises.specs.InBytes.{ByteCutCall, byValue, CameFrom}
 
 -- what reading gives of a session's bytes with the lists that are lent, and the lists afterwards (the contract of `cloverdrum_read`)
 abbrev pub readRanges : List ℕ → List ℕ → List ℕ → Shown
@@ -41,26 +41,26 @@ ceilingsRead b fs cs = lentPoints (readRanges b fs cs .refusal) (ceilingOn (deco
 -- a refused opening writes none of the session's bytes; a refused cut leaves the list, and the session's bytes too, but for 8; a refused reading leaves both
 -- lists
 pub record BytesLeft : Type 0 where
-  pub opening : (b : List ℕ) (n : ℕ) (fs cs rs : List ℕ) (lo hi : ℤ) → (openRefusal b n fs cs rs lo hi ≡ 0 → ⊥) → openBytes b n fs cs rs lo hi ≡ b
-  pub list : (b : List ℕ) (t : Told) (l : List ℕ) → (cutAnswer b t (length l) .refusal ≡ 0 → ⊥) → changedBytes b t l ≡ l
-  pub session : (b : List ℕ) (t : Told) (l : List ℕ) → (cutAnswer b t (length l) .refusal ≡ 0 → ⊥) → (cutAnswer b t (length l) .refusal ≡ 8 → ⊥)
-      → cutBytes b t (length l) ≡ b
+  pub opening : (b : List ℕ) (n : ℕ) (fs cs rs : List ℕ) (lo hi : ℤ) → (openRefusal b n fs cs rs lo hi ≡ 0 → ⊥) → bytesOpened b n fs cs rs lo hi ≡ b
+  pub list : (b : List ℕ) (t : Numbered) (l : List ℕ) → (cutAnswer b t (length l) .refusal ≡ 0 → ⊥) → changedBytes b t l ≡ l
+  pub session : (b : List ℕ) (t : Numbered) (l : List ℕ) → (cutAnswer b t (length l) .refusal ≡ 0 → ⊥) → (cutAnswer b t (length l) .refusal ≡ 8 → ⊥)
+      → bytesCut b t (length l) ≡ b
   pub reading : (b fs cs : List ℕ) → (readRanges b fs cs .refusal ≡ 0 → ⊥) → (floorsRead b fs cs ≡ fs) × (ceilingsRead b fs cs ≡ cs)
 
 -- what an accepted cut answers: the first places of the list, as many as days changed, hold exactly the days whose shown range is another than
 -- before, each one time; the rest of the list's bytes are as before
-pub record Changed (b : List ℕ) (t : Told) (l : List ℕ) : Type 0 where
+pub record Changed (b : List ℕ) (t : Numbered) (l : List ℕ) : Type 0 where
   pub listed : (k : ℕ)
       → ((i : ℕ) × (i < cutAnswer b t (length l) .changed) × (u16At (changedBytes b t l) (i * 2) ≡ k))
-      ↔ (k < decoding b .days) × ((floorOn (decoding b) k ≡ floorOn (decoding (cutBytes b t (length l))) k) × (ceilingOn (decoding b) k ≡ ceilingOn (decoding (cutBytes b t (length l))) k) → ⊥)
+      ↔ (k < decoding b .days) × ((floorOn (decoding b) k ≡ floorOn (decoding (bytesCut b t (length l))) k) × (ceilingOn (decoding b) k ≡ ceilingOn (decoding (bytesCut b t (length l))) k) → ⊥)
   pub once : (i j : ℕ) → i < j → j < cutAnswer b t (length l) .changed → u16At (changedBytes b t l) (i * 2) ≡ u16At (changedBytes b t l) (j * 2) → ⊥
   pub rest : (i : ℕ) → cutAnswer b t (length l) .changed * 2 ≤ i → at (changedBytes b t l) i ≡ at l i
   pub long : length (changedBytes b t l) ≡ length l
 
 -- a valid cut that is looser than the present range is accepted, and changes no byte
-pub record Unchanged (b : List ℕ) (t : Told) (l : List ℕ) : Type 0 where
+pub record Unchanged (b : List ℕ) (t : Numbered) (l : List ℕ) : Type 0 where
   pub answer : cutAnswer b t (length l) ≡ record { refusal = 0; changed = 0 }
-  pub session : cutBytes b t (length l) ≡ b
+  pub session : bytesCut b t (length l) ≡ b
   pub list : changedBytes b t l ≡ l
 
 -- ---- demands 2 and 3
@@ -68,11 +68,11 @@ pub record Unchanged (b : List ℕ) (t : Told) (l : List ℕ) : Type 0 where
 -- the bytes after a whole list of cuts: they are spent exactly where no schedule keeps every valid cut of the list, and then are those of the opened
 -- session, marked spent; otherwise their ranges are exact for the schedules that keep them all; and another list with the same valid cuts ends in
 -- equal bytes
-pub record AfterBytes (p : Profile) (hs : List HandedBytes) (b : List ℕ) : Type 0 where
+pub record AfterBytes (p : Profile) (hs : List ByteCutCall) (b : List ℕ) : Type 0 where
   pub spent : (decoding b .spent ≡ true) ↔ ((x : List ℤ) → Kept p (byValue hs) x → ⊥)
   pub as-opened : decoding b .spent ≡ true → b ≡ encoding (spend (opened p .session))
   pub exact : decoding b .spent ≡ false → Exact p (Kept p (byValue hs)) (decoding b)
-  pub order-free : (gs : List HandedBytes) (c : List ℕ) → CameFrom p gs c → ((e : Cut) → ValidIn p (byValue hs) e ↔ ValidIn p (byValue gs) e) → b ≡ c
+  pub order-free : (gs : List ByteCutCall) (c : List ℕ) → CameFrom p gs c → ((e : Cut) → ValidIn p (byValue hs) e ↔ ValidIn p (byValue gs) e) → b ≡ c
 
 -- the ranges that a caller finds in the lists and the lent numbers are exact for the schedules of S
 pub record Read (p : Profile) (S : List ℤ → Type 0) (b fs cs : List ℕ) : Type 0 where
@@ -81,7 +81,7 @@ pub record Read (p : Profile) (S : List ℤ → Type 0) (b fs cs : List ℕ) : T
 
 -- reading is refused exactly where a list is too short; it tells whether the session is spent, then shows the ranges that it had when opened, and
 -- otherwise those of the schedules that keep every valid cut; it leaves the lists past their first n
-pub record Reading (p : Profile) (hs : List HandedBytes) (b fs cs : List ℕ) : Type 0 where
+pub record Reading (p : Profile) (hs : List ByteCutCall) (b fs cs : List ℕ) : Type 0 where
   pub taken : (readRanges b fs cs .refusal ≡ 0) ↔ (p .days ≤ length fs / 2) × (p .days ≤ length cs / 2)
   pub spent : readRanges b fs cs .refusal ≡ 0 → (readRanges b fs cs .spent ≡ true) ↔ ((x : List ℤ) → Kept p (byValue hs) x → ⊥)
   pub present : readRanges b fs cs .refusal ≡ 0 → readRanges b fs cs .spent ≡ false → Read p (Kept p (byValue hs)) b fs cs
@@ -93,26 +93,26 @@ pub record Reading (p : Profile) (hs : List HandedBytes) (b fs cs : List ℕ) : 
 -- the first refusal of opening before 8 that applies, or 0
 abbrev pub openEarlier : List ℕ → ℕ → List ℕ → List ℕ → List ℕ → ℤ → ℤ → ℕ
 openEarlier b n fs cs rs lo hi =
-    let lengths : ℕ = lengthRefusal n (length fs) (length cs) (length rs) in
-    cond (isSession b) (cond (eqb lengths 0) (earlier (profileOf n fs cs rs lo hi)) lengths) 2
+    let lengths : ℕ = byteLengthRefusal n (length fs) (length cs) (length rs) in
+    cond (isSession b) (cond (eqb lengths 0) (earlyOpening (profileOf n fs cs rs lo hi)) lengths) 2
 
 abbrev pub NoneAtOpening : Type 0
 NoneAtOpening =
     (b : List ℕ) (n : ℕ) (fs cs rs : List ℕ) (lo hi : ℤ)
     → (openRefusal b n fs cs rs lo hi ≡ 8) ↔ (openEarlier b n fs cs rs lo hi ≡ 0) × ((x : List ℤ) → Schedule (profileOf n fs cs rs lo hi) x → ⊥)
 
-abbrev pub NoneAtCutOver : Profile → List HandedBytes → List ℕ → HandedBytes → Type 0
+abbrev pub NoneAtCutOver : Profile → List ByteCutCall → List ℕ → ByteCutCall → Type 0
 NoneAtCutOver p hs b h =
-    (cutAnswer b (h .told) (h .bytes) .refusal ≡ 8) ↔ (earlierTold (decoding b) (h .told) (h .bytes / 2) ≡ 0) × ((x : List ℤ) → Kept p (byValue (hs ++ h ∷ [])) x → ⊥)
+    (cutAnswer b (h .cut) (h .bytes) .refusal ≡ 8) ↔ (earlyNumbered (decoding b) (h .cut) (h .bytes / 2) ≡ 0) × ((x : List ℤ) → Kept p (byValue (hs ++ h ∷ [])) x → ⊥)
 
 -- ---- all of it, for every profile, whole list of cuts and bytes that came from them
 
 pub record DemandsInBytes : Type 0 where
   pub refused : BytesLeft
   pub none : NoneAtOpening
-  pub after : (p : Profile) (hs : List HandedBytes) (b : List ℕ) → CameFrom p hs b → AfterBytes p hs b
-  pub read : (p : Profile) (hs : List HandedBytes) (b : List ℕ) → CameFrom p hs b → (fs cs : List ℕ) → Reading p hs b fs cs
-  pub none-at-cut : (p : Profile) (hs : List HandedBytes) (b : List ℕ) → CameFrom p hs b → (h : HandedBytes) → NoneAtCutOver p hs b h
-  pub changed : (p : Profile) (hs : List HandedBytes) (b : List ℕ) → CameFrom p hs b → (t : Told) (l : List ℕ) → cutAnswer b t (length l) .refusal ≡ 0 → Changed b t l
-  pub looser : (p : Profile) (hs : List HandedBytes) (b : List ℕ) → CameFrom p hs b → decoding b .spent ≡ false
+  pub after : (p : Profile) (hs : List ByteCutCall) (b : List ℕ) → CameFrom p hs b → AfterBytes p hs b
+  pub read : (p : Profile) (hs : List ByteCutCall) (b : List ℕ) → CameFrom p hs b → (fs cs : List ℕ) → Reading p hs b fs cs
+  pub none-at-cut : (p : Profile) (hs : List ByteCutCall) (b : List ℕ) → CameFrom p hs b → (h : ByteCutCall) → NoneAtCutOver p hs b h
+  pub changed : (p : Profile) (hs : List ByteCutCall) (b : List ℕ) → CameFrom p hs b → (t : Numbered) (l : List ℕ) → cutAnswer b t (length l) .refusal ≡ 0 → Changed b t l
+  pub looser : (p : Profile) (hs : List ByteCutCall) (b : List ℕ) → CameFrom p hs b → decoding b .spent ≡ false
       → (c : Cut) → WellFormed p c → Looser (decoding b) c → (l : List ℕ) → p .days ≤ length l / 2 → Unchanged b (Known c) l

@@ -11,13 +11,13 @@ use Rattle.theory_chains.specs.Fit.{fitFrom}
 use Rattle.theory_method.specs.Shift.{shiftFrom}
 use Rattle.theory_method.specs.Filter.{tightened, tightCeilings, tightFloors, raised, loweredFrom, carried}
 use Rattle.base_little_endian.specs.Fields.{u16At, u32At, i16At, i32At}
-use Rattle.session.specs.Opening.{opened, earlier as earlierOpening}
-use Rattle.session_cuts.specs.Told.{told}
+use Rattle.session.specs.Opening.{opened, earlyOpening}
+use Rattle.session_cuts.specs.Numbered.{numbered}
 use Rattle.session_changed.specs.Changes.{daysWhere}
-use Rattle.session_cutting.specs.Cutting.{afterCut, earlier as earlierCut, clipped}
+use Rattle.session_cutting.specs.Cutting.{afterCut, earlyCutting, clipped}
 use Rattle.file_format.specs.Example.{doc01}
 use Rattle.file_format.specs.Format.{profileIn, cutsIn}
-use Rattle.file_format.specs.Reading.{earlier}
+use Rattle.file_format.specs.Reading.{earlyReading}
 use Rattle.base_text.specs.Numbers.{number, decimal, digits}
 use Rattle.file_printing.specs.Printing.{cutOnce, cutAll, fileOpened, totalLine, dayLine, refusedLine, rangesText, answerText, printed}
 
@@ -30,5 +30,5 @@ lines =
     ++ (100 ∷ 97 ∷ 121 ∷ 32 ∷ 50 ∷ 32 ∷ 52 ∷ 32 ∷ 52 ∷ 10 ∷ [])
 
 example : printed doc01 ≡ lines
-unfolding doc01 lines printed answerText rangesText totalLine dayLine refusedLine number decimal digits rows fileOpened cutAll cutOnce profileIn cutsIn listOf earlier u16At u32At i16At i32At told opened earlierOpening tightened tightCeilings tightFloors raised loweredFrom firstWhere carried written sumFor fitFrom shiftFrom afterCut earlierCut clipped daysWhere
+unfolding doc01 lines printed answerText rangesText totalLine dayLine refusedLine number decimal digits rows fileOpened cutAll cutOnce profileIn cutsIn listOf earlyReading u16At u32At i16At i32At numbered opened earlyOpening tightened tightCeilings tightFloors raised loweredFrom firstWhere carried written sumFor fitFrom shiftFrom afterCut earlyCutting clipped daysWhere
 example = refl

@@ -15,10 +15,10 @@ use Rattle.c_lists.specs.Lists.{lentPoints}
 use Rattle.c_lists.specs.Profiles.{profileOf}
 use Rattle.c_files.specs.declared.Contents.{Contents}
 use Rattle.c_files.specs.Reading.{readInto, cutsLent}
-use Rattle.c_files.specs.Writing.{cutsOf, writeOver, outputOver}
+use Rattle.c_files.specs.Writing.{cutsInBytes, writeOver, outputOver}
 
 -- a profile and cuts as the writer is handed them, and as a caller finds them after reading; each list is its bytes
-pub record Lists : Type 0 where
+pub record ListsInBytes : Type 0 where
   pub days : ℕ
   pub floors : List ℕ
   pub ceilings : List ℕ
@@ -30,19 +30,19 @@ pub record Lists : Type 0 where
 -- ---- writing
 
 -- what the writer gives, and its output afterwards (the contract of `cloverdrum_write_file`)
-abbrev pub write : Lists → List ℕ → WriteAnswer
+abbrev pub write : ListsInBytes → List ℕ → WriteAnswer
 write l out = writeOver (l .days) (l .floors) (l .ceilings) (l .rises) (l .lowest) (l .highest) (l .cuts) (length out)
 
-abbrev pub output : Lists → List ℕ → List ℕ
-output l out = outputOver (l .days) (l .floors) (l .ceilings) (l .rises) (l .lowest) (l .highest) (l .cuts) out
+abbrev pub outputInBytes : ListsInBytes → List ℕ → List ℕ
+outputInBytes l out = outputOver (l .days) (l .floors) (l .ceilings) (l .rises) (l .lowest) (l .highest) (l .cuts) out
 
 -- the file is as many bytes of the output as the writer says
-abbrev pub written : Lists → List ℕ → List ℕ
-written l out = take (write l out .length) (output l out)
+abbrev pub writtenInBytes : ListsInBytes → List ℕ → List ℕ
+writtenInBytes l out = take (write l out .length) (outputInBytes l out)
 
 -- the profile that the lists hold
-abbrev pub profileIn : Lists → Profile
-profileIn l = profileOf (l .days) (l .floors) (l .ceilings) (l .rises) (l .lowest) (l .highest)
+abbrev pub profileInBytes : ListsInBytes → Profile
+profileInBytes l = profileOf (l .days) (l .floors) (l .ceilings) (l .rises) (l .lowest) (l .highest)
 
 -- ---- reading
 
@@ -67,7 +67,7 @@ filledOver f t =
     }
 
 -- the lists that a caller finds in them: what lies past the data is no part of them
-abbrev pub foundIn : Contents → Lent → Lists
+abbrev pub foundIn : Contents → Lent → ListsInBytes
 foundIn r t =
     record {
       days = r .days;
@@ -79,11 +79,11 @@ foundIn r t =
       cuts = take (r .cuts * 8) (t .cuts);
     }
 
-abbrev pub readLists : List ℕ → Lent → Lists
+abbrev pub readLists : List ℕ → Lent → ListsInBytes
 readLists f t = foundIn (readOver f t) (filledOver f t)
 
 -- the lent lists are long enough
-pub record Roomy (l : Lists) (t : Lent) : Type 0 where
+pub record RoomyInBytes (l : ListsInBytes) (t : Lent) : Type 0 where
   pub floors : length (l .floors) ≤ length (t .floors)
   pub ceilings : length (l .ceilings) ≤ length (t .ceilings)
   pub rises : length (l .rises) ≤ length (t .rises)
@@ -92,25 +92,25 @@ pub record Roomy (l : Lists) (t : Lent) : Type 0 where
 -- ---- the round trips
 
 -- the reader takes f, and the same lists are found
-pub record ReadAgain (l : Lists) (f : List ℕ) (t : Lent) : Type 0 where
+pub record ReadAgainInBytes (l : ListsInBytes) (f : List ℕ) (t : Lent) : Type 0 where
   pub taken : readOver f t .refusal ≡ 0
   pub lists : readLists f t ≡ l
 
 -- the lists that the reader left are written back as f, and what lies past it in the output stays
-pub record WrittenBack (f out : List ℕ) (t : Lent) : Type 0 where
-  pub same : written (readLists f t) out ≡ f
-  pub rest : output (readLists f t) out ≡ inFront f out
+pub record WrittenBackInBytes (f out : List ℕ) (t : Lent) : Type 0 where
+  pub same : writtenInBytes (readLists f t) out ≡ f
+  pub rest : outputInBytes (readLists f t) out ≡ inFront f out
 
 -- a refusal leaves the output, and every lent list
 pub record ListsLeft : Type 0 where
-  pub writing : (l : Lists) (out : List ℕ) → (write l out .refusal ≡ 0 → ⊥) → output l out ≡ out
+  pub writing : (l : ListsInBytes) (out : List ℕ) → (write l out .refusal ≡ 0 → ⊥) → outputInBytes l out ≡ out
   pub reading : (f : List ℕ) (t : Lent) → (readOver f t .refusal ≡ 0 → ⊥) → filledOver f t ≡ t
 
 pub record FilesInBytes : Type 0 where
   pub refused : ListsLeft
-  pub again : (l : Lists) (out : List ℕ) (t : Lent) → Bytes (l .floors) → Bytes (l .ceilings) → Bytes (l .rises) → Bytes (l .cuts) → write l out .refusal ≡ 0 → Roomy l t
-      → ReadAgain l (written l out) t
-  pub back : (f out : List ℕ) (t : Lent) → Bytes f → readOver f t .refusal ≡ 0 → write (readLists f t) out .refusal ≡ 0 → WrittenBack f out t
+  pub again : (l : ListsInBytes) (out : List ℕ) (t : Lent) → Bytes (l .floors) → Bytes (l .ceilings) → Bytes (l .rises) → Bytes (l .cuts) → write l out .refusal ≡ 0 → RoomyInBytes l t
+      → ReadAgainInBytes l (writtenInBytes l out) t
+  pub back : (f out : List ℕ) (t : Lent) → Bytes f → readOver f t .refusal ≡ 0 → write (readLists f t) out .refusal ≡ 0 → WrittenBackInBytes f out t
   -- what is written is what the writer by value writes
-  pub by-value : (l : Lists) (out : List ℕ) → write l out .refusal ≡ 0
-      → (write l out ≡ ByValue.writeAnswer (profileIn l) (cutsOf (l .cuts)) (length out)) × (output l out ≡ ByValue.output (profileIn l) (cutsOf (l .cuts)) out)
+  pub by-value : (l : ListsInBytes) (out : List ℕ) → write l out .refusal ≡ 0
+      → (write l out ≡ ByValue.writeAnswer (profileInBytes l) (cutsInBytes (l .cuts)) (length out)) × (outputInBytes l out ≡ ByValue.output (profileInBytes l) (cutsInBytes (l .cuts)) out)

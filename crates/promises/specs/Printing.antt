@@ -23,4 +23,4 @@ pub record FileSchedule (b : List ℕ) (x : List ℤ) : Type 0 where
 pub record RangesPrinted (b : List ℕ) : Type 0 where
   pub exact : fileOpened b .refusal ≡ 0 → Exact (profileIn b) (FileSchedule b) (fileOpened b .session)
   pub eight : fileOpened b .refusal ≡ 8 → (x : List ℤ) → FileSchedule b x → ⊥
-  pub none : Reading.earlier b ≡ 0 → Writing.earlier (profileIn b) (cutsIn b) ≡ 0 → ((x : List ℤ) → FileSchedule b x → ⊥) → fileOpened b .refusal ≡ 8
+  pub none : Reading.earlyReading b ≡ 0 → Writing.earlyWriting (profileIn b) (cutsIn b) ≡ 0 → ((x : List ℤ) → FileSchedule b x → ⊥) → fileOpened b .refusal ≡ 8

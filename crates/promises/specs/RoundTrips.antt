@@ -36,12 +36,12 @@ filled b l =
     }
 
 -- the profile that a caller finds in them: what lies past the data is no part of it
-abbrev pub profileOf : ReadAnswer → Lists → Profile
-profileOf r l = profile (r .days) (take (r .days) (l .floors)) (take (r .days) (l .ceilings)) (take (r .days - 1) (l .rises)) (r .lowest) (r .highest)
+abbrev pub profileFound : ReadAnswer → Lists → Profile
+profileFound r l = profile (r .days) (take (r .days) (l .floors)) (take (r .days) (l .ceilings)) (take (r .days - 1) (l .rises)) (r .lowest) (r .highest)
 
 -- the bytes that the writer has put at the front of its output
-abbrev pub written : Profile → List Cut → List ℕ → List ℕ
-written p cs out = take (writeAnswer p cs (length out) .length) (output p cs out)
+abbrev pub fileWritten : Profile → List Cut → List ℕ → List ℕ
+fileWritten p cs out = take (writeAnswer p cs (length out) .length) (output p cs out)
 
 -- lists that are long enough for a profile
 pub record Roomy (p : Profile) (l : Lists) : Type 0 where
@@ -51,16 +51,16 @@ pub record Roomy (p : Profile) (l : Lists) : Type 0 where
 
 -- what the writer wrote, the reader reads as the same profile and cuts
 pub record ReadAgain (p : Profile) (cs : List Cut) (out : List ℕ) (l : Lists) : Type 0 where
-  pub taken : read (written p cs out) l .refusal ≡ 0
-  pub profile : profileOf (read (written p cs out) l) (filled (written p cs out) l) ≡ p
-  pub cuts : cutsOf (read (written p cs out) l .sheet) ≡ cs
+  pub taken : read (fileWritten p cs out) l .refusal ≡ 0
+  pub profile : profileFound (read (fileWritten p cs out) l) (filled (fileWritten p cs out) l) ≡ p
+  pub cuts : cutsOf (read (fileWritten p cs out) l .sheet) ≡ cs
 
 -- what the reader took, the writer, where it takes it, writes back byte for byte
 pub record WrittenBack (b : List ℕ) (l : Lists) (out : List ℕ) : Type 0 where
-  pub same : written (profileOf (read b l) (filled b l)) (cutsOf (read b l .sheet)) out ≡ b
-  pub rest : output (profileOf (read b l) (filled b l)) (cutsOf (read b l .sheet)) out ≡ inFront b out
+  pub same : fileWritten (profileFound (read b l) (filled b l)) (cutsOf (read b l .sheet)) out ≡ b
+  pub rest : output (profileFound (read b l) (filled b l)) (cutsOf (read b l .sheet)) out ≡ inFront b out
 
 pub record RoundTrips : Type 0 where
   pub again : (p : Profile) (cs : List Cut) (out : List ℕ) (l : Lists) → writeAnswer p cs (length out) .refusal ≡ 0 → Roomy p l → ReadAgain p cs out l
   pub back : (b : List ℕ) (l : Lists) (out : List ℕ) → Bytes b → read b l .refusal ≡ 0
-      → writeAnswer (profileOf (read b l) (filled b l)) (cutsOf (read b l .sheet)) (length out) .refusal ≡ 0 → WrittenBack b l out
+      → writeAnswer (profileFound (read b l) (filled b l)) (cutsOf (read b l .sheet)) (length out) .refusal ≡ 0 → WrittenBack b l out

@@ -13,9 +13,9 @@ use Rattle.session.specs.Profile.{Profile, Schedule, total}
 use Rattle.session.specs.Showing.{floorOn, ceilingOn, riseOn, totalFloor, totalCeiling}
 use Rattle.session.specs.Opening.{opened, profile}
 use Rattle.session.specs.declared.Session.{Session}
-use Rattle.schedule_writing.specs.Writing.{dayRefusal, totalRefusal, dayWritten, totalWritten}
+use Rattle.schedule_writing.specs.Writing.{dayWriteRefusal, totalWriteRefusal, dayWritten, totalWritten}
 use Rattle.schedule_inspection.specs.Inspecting.{Finding, refused, kept, broken, inspected}
-use Rattle.promises.specs.Cuts.{Handed, Kept, after}
+use Rattle.promises.specs.Cuts.{CutCall, Kept, after}
 
 -- the profile that a session's present ranges and rises make: a schedule of the present ranges is one of this profile
 abbrev pub presentProfile : Session → Profile
@@ -25,7 +25,7 @@ presentProfile s =
 -- for an unspent session after any list of cuts these are the schedules of its profile that keep every valid cut
 abbrev pub PresentSchedules : Type 0
 PresentSchedules =
-    (p : Profile) → opened p .refusal ≡ 0 → (hs : List Handed) (s : Session) → s ≡ after (opened p .session) hs → s .spent ≡ false
+    (p : Profile) → opened p .refusal ≡ 0 → (hs : List CutCall) (s : Session) → s ≡ after (opened p .session) hs → s .spent ≡ false
     → (x : List ℤ) → Schedule (presentProfile s) x ↔ Kept p hs x
 
 -- ---- inspecting
@@ -60,14 +60,14 @@ pub record Inspection : Type 0 where
 
 -- x is a schedule of the session's present ranges, one of the profile that keeps every valid cut, has the value, where f is the day's setpoint or the
 -- sum, and passes inspection
-pub record ScheduleFor (p : Profile) (hs : List Handed) (s : Session) (f : List ℤ → ℤ) (value : ℤ) (x : List ℤ) : Type 0 where
+pub record ScheduleFor (p : Profile) (hs : List CutCall) (s : Session) (f : List ℤ → ℤ) (value : ℤ) (x : List ℤ) : Type 0 where
   pub present : Schedule (presentProfile s) x
   pub cuts : Kept p hs x
   pub valued : f x ≡ value
   pub passes : inspected s x ≡ kept
 
 -- what writing makes of a lent list l: a refusal leaves it
-pub record Writes (p : Profile) (hs : List Handed) (s : Session) (f : List ℤ → ℤ) (value : ℤ) (refusal : ℕ) (l x : List ℤ) : Type 0 where
+pub record Writes (p : Profile) (hs : List CutCall) (s : Session) (f : List ℤ → ℤ) (value : ℤ) (refusal : ℕ) (l x : List ℤ) : Type 0 where
   pub left : (refusal ≡ 0 → ⊥) → x ≡ l
   pub schedule : refusal ≡ 0 → ScheduleFor p hs s f value x
 
@@ -78,11 +78,11 @@ pub record Ranged (refusal : ℕ) (Before : Type 0) (low value high : ℤ) : Typ
 
 -- for the session after any list of cuts
 pub record Writing : Type 0 where
-  pub day : (p : Profile) → opened p .refusal ≡ 0 → (hs : List Handed) (s : Session) → s ≡ after (opened p .session) hs → (i : ℕ) (v : ℤ) (l : List ℤ)
-      → Writes p hs s (λ x. on x i) v (dayRefusal s i v (length l)) l (dayWritten s i v l)
-  pub sum : (p : Profile) → opened p .refusal ≡ 0 → (hs : List Handed) (s : Session) → s ≡ after (opened p .session) hs → (v : ℤ) (l : List ℤ)
-      → Writes p hs s total v (totalRefusal s v (length l)) l (totalWritten s v l)
+  pub day : (p : Profile) → opened p .refusal ≡ 0 → (hs : List CutCall) (s : Session) → s ≡ after (opened p .session) hs → (i : ℕ) (v : ℤ) (l : List ℤ)
+      → Writes p hs s (λ x. on x i) v (dayWriteRefusal s i v (length l)) l (dayWritten s i v l)
+  pub sum : (p : Profile) → opened p .refusal ≡ 0 → (hs : List CutCall) (s : Session) → s ≡ after (opened p .session) hs → (v : ℤ) (l : List ℤ)
+      → Writes p hs s total v (totalWriteRefusal s v (length l)) l (totalWritten s v l)
   pub day-ranged : (s : Session) (i : ℕ) (v : ℤ) (room : ℕ)
-      → Ranged (dayRefusal s i v room) ((room ≡ s .days) × (i < s .days) × (s .spent ≡ false)) (floorOn s i) v (ceilingOn s i)
+      → Ranged (dayWriteRefusal s i v room) ((room ≡ s .days) × (i < s .days) × (s .spent ≡ false)) (floorOn s i) v (ceilingOn s i)
   pub sum-ranged : (s : Session) (v : ℤ) (room : ℕ)
-      → Ranged (totalRefusal s v room) ((room ≡ s .days) × (s .spent ≡ false)) (totalFloor s) v (totalCeiling s)
+      → Ranged (totalWriteRefusal s v room) ((room ≡ s .days) × (s .spent ≡ false)) (totalFloor s) v (totalCeiling s)

@@ -18,7 +18,7 @@ use Rattle.c_sessions.specs.Sessions.{isSession}
 use Rattle.c_schedules.specs.Schedules.{setpointFor, writeRefusal, inspectedOver}
 use Rattle.c_schedules.specs.declared.Subject.{Subject}
 use Rattle.c_schedules.specs.declared.Subject.the-variants.{Day, Total}
-use Rattle.promises.specs.InBytes.{HandedBytes, byValue, CameFrom}
+use Rattle.promises.specs.InBytes.{ByteCutCall, byValue, CameFrom}
 
 -- ---- writing
 
@@ -33,13 +33,13 @@ listWritten b subject v l = lentPoints (writeRefusal b subject v l) (setpointFor
 
 -- what writing makes of a lent list l: a refusal leaves it; otherwise its points are a schedule with the value, which keeps every valid cut and
 -- passes inspection
-pub record Written (p : Profile) (hs : List HandedBytes) (b : List ℕ) (subject : Subject) (v : ℤ) (l : List ℕ) : Type 0 where
+pub record Written (p : Profile) (hs : List ByteCutCall) (b : List ℕ) (subject : Subject) (v : ℤ) (l : List ℕ) : Type 0 where
   pub left : (writeRefusal b subject v l ≡ 0 → ⊥) → listWritten b subject v l ≡ l
   pub schedule : writeRefusal b subject v l ≡ 0 → ScheduleFor p (byValue hs) (decoding b) (valueIn subject) v (pointsIn (listWritten b subject v l) (decoding b .days))
 
 -- and a value is taken exactly where it is within the present range
 pub record WritingInBytes : Type 0 where
-  pub list : (p : Profile) (hs : List HandedBytes) (b : List ℕ) → CameFrom p hs b → (subject : Subject) (v : ℤ) (l : List ℕ) → Written p hs b subject v l
+  pub list : (p : Profile) (hs : List ByteCutCall) (b : List ℕ) → CameFrom p hs b → (subject : Subject) (v : ℤ) (l : List ℕ) → Written p hs b subject v l
   pub day-ranged : (b : List ℕ) → isSession b ≡ true → (i : ℕ) (v : ℤ) (l : List ℕ)
       → Ranged (writeRefusal b (Day i) v l) ((length l ≡ decoding b .days * 2) × (i < decoding b .days) × (decoding b .spent ≡ false)) (floorOn (decoding b) i) v (ceilingOn (decoding b) i)
   pub sum-ranged : (b : List ℕ) → isSession b ≡ true → (v : ℤ) (l : List ℕ)
@@ -52,5 +52,5 @@ pub record WritingInBytes : Type 0 where
 pub record InspectionInBytes : Type 0 where
   pub wrong-length : (b l : List ℕ) → (isSession b && isLong l (decoding b .days)) ≡ false → inspectedOver b l ≡ refused 2
   pub answer : (b l : List ℕ) → isSession b ≡ true → isLong l (decoding b .days) ≡ true → Inspects (decoding b) (pointsIn l (decoding b .days)) (inspectedOver b l)
-  pub exactly : (p : Profile) (hs : List HandedBytes) (b : List ℕ) → CameFrom p hs b → (l : List ℕ)
+  pub exactly : (p : Profile) (hs : List ByteCutCall) (b : List ℕ) → CameFrom p hs b → (l : List ℕ)
       → (inspectedOver b l ≡ kept) ↔ (length l ≡ p .days * 2) × (decoding b .spent ≡ false) × Kept p (byValue hs) (pointsIn l (p .days))

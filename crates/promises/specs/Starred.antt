@@ -6,23 +6,24 @@ use Prim.Native.Nat.{ℕ, zero, suc, _+_, _-_, min}
 use lib.IntN.{ℤ, pos, negsuc}
 use lib.Dec.{eqb, ltb}
 use lib.ListN.{length}
+use Rattle.limits.specs.Limits.{lowestPoint, lowestRise, lowestTotal}
 use Rattle.theory_lists.specs.Sum.{sumFor, at}
 use Rattle.theory_lists.specs.Written.{written}
 use Rattle.theory_lists.specs.First.{firstWhere}
-use Rattle.base_codes.specs.Code.{lowestPoint, lowestRise, lowestTotal, code}
+use Rattle.base_codes.specs.Code.{code}
 use Rattle.theory_chains.specs.Fit.{fitFrom}
 use Rattle.theory_method.specs.Shift.{shiftFrom}
 use Rattle.theory_method.specs.Filter.{tightened, tightCeilings, tightFloors, raised, loweredFrom, carried, forwarded, shifted, held}
 use Rattle.tighten_ceilings.specs.Round.{over, rounded, below}
 use Rattle.session.specs.Profile.{Profile}
 use Rattle.session.specs.Showing.{floorOn, ceilingOn, totalFloor, totalCeiling}
-use Rattle.session.specs.Opening.{opened, earlier, codes}
+use Rattle.session.specs.Opening.{opened, earlyOpening, codes}
 use Rattle.session.specs.declared.Session.{Session}
 use Rattle.session.specs.declared.Opened.{Opened}
 use Rattle.session_cuts.specs.declared.Cut.{Cut}
 use Rattle.session_cuts.specs.declared.Cut.the-variants.{DayFloor, TotalCeiling}
 use Rattle.session_changed.specs.Changes.{daysWhere}
-use Rattle.session_cutting.specs.Cutting.{afterCut, earlier as earlierCut, clipped}
+use Rattle.session_cutting.specs.Cutting.{afterCut, earlyCutting, clipped}
 use Rattle.session_cutting.specs.declared.AfterCut.{AfterCut}
 
 -- from .. to
@@ -64,8 +65,8 @@ answers s [] = []
 answers s (c ∷ cs) = let r : AfterCut = afterCut s c (s .days) in cutting r ∷ answers (r .session) cs
 
 -- a profile by its days' ranges, its rises and its total's range
-abbrev pub profile : List Range → List ℤ → Range → Profile
-profile ds rs t = record {
+abbrev pub starredProfile : List Range → List ℤ → Range → Profile
+starredProfile ds rs t = record {
   days = length ds;
   floors = map (λ (r : Range). r .from) ds;
   ceilings = map (λ (r : Range). r .to) ds;
@@ -105,7 +106,7 @@ abbrev opens : Profile → Answer → Row
 opens p a = record { given = p; cuts = []; asked = []; gives = a ∷ [] }
 
 abbrev A : Profile
-A = profile (2 ⋯ 6 ∷ 4 ⋯ 7 ∷ 4 ⋯ 7 ∷ []) (pos 0 ∷ pos 0 ∷ []) (10 ⋯ 12)
+A = starredProfile (2 ⋯ 6 ∷ 4 ⋯ 7 ∷ 4 ⋯ 7 ∷ []) (pos 0 ∷ pos 0 ∷ []) (10 ⋯ 12)
 
 abbrev A-ranges : Answer
 A-ranges = ranges (10 ⋯ 12) (2 ⋯ 4 ∷ 4 ⋯ 5 ∷ 4 ⋯ 6 ∷ [])
@@ -139,26 +140,26 @@ table =
       gives = A-ranges ∷ changed 3 (10 ⋯ 11) (2 ⋯ 3 ∷ 4 ⋯ 4 ∷ 4 ⋯ 5 ∷ []) ∷ spent 8 ∷ [];
     }
     -- E
-    ∷ opens (profile (2 ⋯ 6 ∷ 4 ⋯ 7 ∷ 4 ⋯ 7 ∷ 5 ⋯ 7 ∷ 6 ⋯ 9 ∷ 7 ⋯ 9 ∷ []) (pos 0 ∷ pos 0 ∷ pos 0 ∷ pos 0 ∷ pos 0 ∷ []) (28 ⋯ 29))
+    ∷ opens (starredProfile (2 ⋯ 6 ∷ 4 ⋯ 7 ∷ 4 ⋯ 7 ∷ 5 ⋯ 7 ∷ 6 ⋯ 9 ∷ 7 ⋯ 9 ∷ []) (pos 0 ∷ pos 0 ∷ pos 0 ∷ pos 0 ∷ pos 0 ∷ []) (28 ⋯ 29))
     (ranges (28 ⋯ 29) (2 ⋯ 3 ∷ 4 ⋯ 4 ∷ 4 ⋯ 5 ∷ 5 ⋯ 6 ∷ 6 ⋯ 7 ∷ 7 ⋯ 8 ∷ []))
     -- F: day 0 takes two rounds
     ∷ record {
-      given = profile (1 ⋯ 5 ∷ 4 ⋯ 5 ∷ 6 ⋯ 6 ∷ 6 ⋯ 7 ∷ []) (pos 0 ∷ pos 0 ∷ pos 0 ∷ []) (17 ⋯ 18);
+      given = starredProfile (1 ⋯ 5 ∷ 4 ⋯ 5 ∷ 6 ⋯ 6 ∷ 6 ⋯ 7 ∷ []) (pos 0 ∷ pos 0 ∷ pos 0 ∷ []) (17 ⋯ 18);
       cuts = [];
       asked = 0 ∷ [];
       gives = ranges (17 ⋯ 18) (1 ⋯ 2 ∷ 4 ⋯ 5 ∷ 6 ⋯ 6 ∷ 6 ⋯ 7 ∷ []) ∷ takes 0 2 ∷ [];
     }
     -- G
-    ∷ opens (profile (0 ⋯ 5 ∷ 0 ⋯ 5 ∷ []) flat (9 ⋯ 10)) (ranges (9 ⋯ 10) (4 ⋯ 5 ∷ 5 ⋯ 5 ∷ []))
+    ∷ opens (starredProfile (0 ⋯ 5 ∷ 0 ⋯ 5 ∷ []) flat (9 ⋯ 10)) (ranges (9 ⋯ 10) (4 ⋯ 5 ∷ 5 ⋯ 5 ∷ []))
     -- H
-    ∷ opens (profile (0 ⋯ 6 ∷ 1 ⋯ 7 ∷ []) (pos 1 ∷ []) (6 ⋯ 13)) (ranges (6 ⋯ 13) (0 ⋯ 6 ∷ 4 ⋯ 7 ∷ []))
+    ∷ opens (starredProfile (0 ⋯ 6 ∷ 1 ⋯ 7 ∷ []) (pos 1 ∷ []) (6 ⋯ 13)) (ranges (6 ⋯ 13) (0 ⋯ 6 ∷ 4 ⋯ 7 ∷ []))
     -- I
-    ∷ opens (profile (3 ⋯ 8 ∷ []) [] (5 ⋯ 6)) (ranges (5 ⋯ 6) (5 ⋯ 6 ∷ []))
+    ∷ opens (starredProfile (3 ⋯ 8 ∷ []) [] (5 ⋯ 6)) (ranges (5 ⋯ 6) (5 ⋯ 6 ∷ []))
     -- J, and with rise -1
-    ∷ opens (profile (5 ⋯ 9 ∷ 0 ⋯ 4 ∷ []) flat (0 ⋯ 20)) (refused 8)
-    ∷ opens (profile (5 ⋯ 9 ∷ 0 ⋯ 4 ∷ []) (negsuc 0 ∷ []) (0 ⋯ 20)) (ranges (9 ⋯ 9) (5 ⋯ 5 ∷ 4 ⋯ 4 ∷ []))
+    ∷ opens (starredProfile (5 ⋯ 9 ∷ 0 ⋯ 4 ∷ []) flat (0 ⋯ 20)) (refused 8)
+    ∷ opens (starredProfile (5 ⋯ 9 ∷ 0 ⋯ 4 ∷ []) (negsuc 0 ∷ []) (0 ⋯ 20)) (ranges (9 ⋯ 9) (5 ⋯ 5 ∷ 4 ⋯ 4 ∷ []))
     ∷ []
 
 pub starred : map (λ (r : Row). replies (r .given) (r .cuts) (r .asked)) table ≡ map (λ (r : Row). r .gives) table
-unfolding roundsFrom rounded below opened earlier tightened tightCeilings tightFloors raised loweredFrom firstWhere carried written sumFor fitFrom shiftFrom afterCut earlierCut clipped daysWhere
+unfolding roundsFrom rounded below opened earlyOpening tightened tightCeilings tightFloors raised loweredFrom firstWhere carried written sumFor fitFrom shiftFrom afterCut earlyCutting clipped daysWhere
 starred = refl

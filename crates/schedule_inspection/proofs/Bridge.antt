@@ -7,12 +7,13 @@ use native.Mathlib.Omega.{arith}
 use lib.IntN.{ℤ, _+ℤ_}
 use lib.Dec.{ltb}
 use lib.ListN.{length}
+use Rattle.limits.specs.Limits.{lowestPoint, lowestRise, lowestTotal, lowestSetpoint, highestSetpoint}
 use Rattle.theory_lists.specs.Sum.{at}
 use Rattle.theory_lists.specs.Written.{written}
 use Rattle.theory_lists.specs.First.{first-same}
 use Rattle.theory_chains.specs.Sum.{sum, all}
 use Rattle.theory_method.specs.Filter.{zeros}
-use Rattle.base_codes.specs.Code.{lowestPoint, lowestRise, lowestTotal, lowestSetpoint, highestSetpoint, within, code, decoded, on, firstOutside}
+use Rattle.base_codes.specs.Code.{within, code, decoded, on, firstOutside}
 use Rattle.base_codes.proofs.Offset.{Less, less-shift, less-add}
 use Rattle.base_codes.proofs.Laws.{point-less, rise-less, total-less, setpoint-less, decoded-less, within-less, first-before}
 use Rattle.base_codes.proofs.Order.{less-test, within-test}

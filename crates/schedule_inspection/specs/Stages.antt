@@ -4,6 +4,7 @@ use mathlib.Core.Bool.{Bool, cond, _||_}
 use mathlib.Core.List.{List}
 use Prim.Native.Nat.{ℕ, _+_, _-_, _*_}
 use lib.Dec.{ltb}
+use Rattle.limits.specs.Limits.{riseOffset, totalOffset, setpointOffset, levelToSetpoint}
 use Rattle.theory_lists.specs.Sum.{at}
 use Rattle.theory_lists.specs.First.{firstWhere}
 use Rattle.theory_chains.specs.Sum.{sum, all}
@@ -15,15 +16,15 @@ outside low high x = ltb x low || ltb high x
 
 -- the setpoint of day k is outside the day's range
 abbrev pub dayOutside : List ℕ → List ℕ → List ℕ → ℕ → Bool
-dayOutside xs fs cs k = outside (at fs k + 31768) (at cs k + 31768) (at xs k)
+dayOutside xs fs cs k = outside (at fs k + levelToSetpoint) (at cs k + levelToSetpoint) (at xs k)
 
 -- the setpoint of day k + 1 is below the least that the rise from day k allows
 abbrev pub fallen : List ℕ → List ℕ → ℕ → Bool
-fallen xs rs k = ltb (at xs (k + 1) + 2000) (at xs k + at rs k)
+fallen xs rs k = ltb (at xs (k + 1) + riseOffset) (at xs k + at rs k)
 
 -- the sum of n setpoints is outside the total's range, which is held plus 512,000
 abbrev pub totalOutside : List ℕ → ℕ → ℕ → ℕ → Bool
-totalOutside xs n least most = outside (least + 32768 * n) (most + 32768 * n) (sum all n (at xs) + 512000)
+totalOutside xs n least most = outside (least + setpointOffset * n) (most + setpointOffset * n) (sum all n (at xs) + totalOffset)
 
 -- the first broken rule
 unfoldable pub judgedCodes : List ℕ → List ℕ → List ℕ → List ℕ → ℕ → ℕ → ℕ → Finding

@@ -3,11 +3,19 @@ ghost use mathlib.Core.Path.{_≡_};
 ghost use Prim.Native.Nat.{_+_, _-_, _≤_, _<_};
 ghost use lib.Dec.{ltb};
 ghost use lib.ListN.{length};
+ghost use Rattle.limits.specs.Limits.{mostDays, riseOffset, highestTotalCode, levelToSetpoint};
 ghost use Rattle.theory_lists.specs.First.{firstWhere};
-ghost use Rattle.session.specs.Showing.{Sane};
+ghost use Rattle.session.specs.Showing.{SessionInBounds};
 ghost use Rattle.schedule_inspection.specs.Inspecting.{finding, judged, inspected};
 ghost use Rattle.schedule_inspection.specs.Stages.{outside, dayOutside, fallen, totalOutside, judgedCodes};
 use base_numbers::wide;
+use limits::HIGHEST_SETPOINT;
+use limits::LEVEL_TO_SETPOINT;
+use limits::LOWEST_SETPOINT;
+use limits::MOST_DAYS;
+use limits::RISE_OFFSET;
+use limits::SETPOINT_OFFSET;
+use limits::TOTAL_OFFSET;
 use session::Session;
 
 // What inspecting answers: that the list is not n long (2), or that the session is spent (9); or that the schedule is kept; or the first broken rule: the range
@@ -21,11 +29,6 @@ pub enum Inspection {
     BrokenTotal,
 }
 
-// Every setpoint that a list can hold.
-const LOWEST_SETPOINT: i32 = -32768;
-
-const HIGHEST_SETPOINT: i32 = 32767;
-
 fn is_outside(x: usize, low: usize, high: usize) -> bool
     ensures { λ r. ⌜ r ≡ outside low high x ⌝ }
 {
@@ -37,36 +40,40 @@ fn is_outside(x: usize, low: usize, high: usize) -> bool
 
 // Whether a setpoint, held plus 32,768, is outside a day's range.
 fn is_day_outside(setpoint: u16, floor: u16, ceiling: u16) -> bool
-    ensures { λ r. ⌜ r ≡ outside (floor + 31768) (ceiling + 31768) setpoint ⌝ }
+    ensures { λ r. ⌜ r ≡ outside (floor + levelToSetpoint) (ceiling + levelToSetpoint) setpoint ⌝ }
 {
-    is_outside(wide(setpoint), wide(floor) + 31768, wide(ceiling) + 31768)
+    is_outside(
+        wide(setpoint),
+        wide(floor) + LEVEL_TO_SETPOINT,
+        wide(ceiling) + LEVEL_TO_SETPOINT,
+    )
 }
 
 // Whether a setpoint and the next one break the rise between them.
 fn is_fallen(setpoint: u16, next: u16, rise: u16) -> bool
-    ensures { λ r. ⌜ r ≡ ltb (next + 2000) (setpoint + rise) ⌝ }
+    ensures { λ r. ⌜ r ≡ ltb (next + riseOffset) (setpoint + rise) ⌝ }
 {
-    wide(next) + 2000 < wide(setpoint) + wide(rise)
+    wide(next) + RISE_OFFSET < wide(setpoint) + wide(rise)
 }
 
 // Whether the sum of n setpoints is outside the total's range, which is held plus 512,000.
-fn is_total_outside(setpoints: &[u16; 512], n: usize, least: usize, most: usize) -> bool
-    requires { ⌜ (n ≤ 512) × (least ≤ 2560000) × (most ≤ 2560000) ⌝ }
+fn is_total_outside(setpoints: &[u16; MOST_DAYS], n: usize, least: usize, most: usize) -> bool
+    requires { ⌜ (n ≤ mostDays) × (least ≤ highestTotalCode) × (most ≤ highestTotalCode) ⌝ }
     ensures { λ r. ⌜ r ≡ totalOutside (now (setpoints .entry)) n least most ⌝ }
 {
-    let sum = base_arrays::sum(setpoints, n) + 512000;
-    let offset = 32768 * n;
+    let sum = base_arrays::sum(setpoints, n) + TOTAL_OFFSET;
+    let offset = SETPOINT_OFFSET * n;
     is_outside(sum, least + offset, most + offset)
 }
 
 // The first of n days whose setpoint is outside the day's range, or n.
 fn first_outside(
-    setpoints: &[u16; 512],
-    floors: &[u16; 512],
-    ceilings: &[u16; 512],
+    setpoints: &[u16; MOST_DAYS],
+    floors: &[u16; MOST_DAYS],
+    ceilings: &[u16; MOST_DAYS],
     n: usize,
 ) -> usize
-    requires { ⌜ n ≤ 512 ⌝ }
+    requires { ⌜ n ≤ mostDays ⌝ }
     ensures { λ r. ⌜ r ≡ firstWhere (dayOutside (now (setpoints .entry)) (now (floors .entry)) (now (ceilings .entry))) n ⌝ }
 {
     let mut day = 0;
@@ -80,8 +87,8 @@ fn first_outside(
 }
 
 // The first of the n - 1 rises that is broken, or n - 1.
-fn first_fallen(setpoints: &[u16; 512], rises: &[u16; 512], n: usize) -> usize
-    requires { ⌜ (0 < n) × (n ≤ 512) ⌝ }
+fn first_fallen(setpoints: &[u16; MOST_DAYS], rises: &[u16; MOST_DAYS], n: usize) -> usize
+    requires { ⌜ (0 < n) × (n ≤ mostDays) ⌝ }
     ensures { λ r. ⌜ r ≡ firstWhere (fallen (now (setpoints .entry)) (now (rises .entry))) (n - 1) ⌝ }
 {
     let last = n - 1;
@@ -98,15 +105,15 @@ fn first_fallen(setpoints: &[u16; 512], rises: &[u16; 512], n: usize) -> usize
 
 // The first broken rule: days in order, then rises in order, then the total.
 fn judge_codes(
-    setpoints: &[u16; 512],
-    floors: &[u16; 512],
-    ceilings: &[u16; 512],
-    rises: &[u16; 512],
+    setpoints: &[u16; MOST_DAYS],
+    floors: &[u16; MOST_DAYS],
+    ceilings: &[u16; MOST_DAYS],
+    rises: &[u16; MOST_DAYS],
     n: usize,
     least: usize,
     most: usize,
 ) -> Inspection
-    requires { ⌜ (0 < n) × (n ≤ 512) × (least ≤ 2560000) × (most ≤ 2560000) ⌝ }
+    requires { ⌜ (0 < n) × (n ≤ mostDays) × (least ≤ highestTotalCode) × (most ≤ highestTotalCode) ⌝ }
     ensures { λ r. ⌜ finding r ≡ judgedCodes (now (setpoints .entry)) (now (floors .entry)) (now (ceilings .entry)) (now (rises .entry)) n least most ⌝ }
 {
     let day = first_outside(setpoints, floors, ceilings, n);
@@ -125,14 +132,14 @@ fn judge_codes(
 
 // Judges a list that is n long by the session's present ranges and rises.
 fn judge(session: Session, list: &[i16]) -> Inspection
-    requires { ⌜ Sane session × (length (now list) ≡ session .days) ⌝ }
+    requires { ⌜ SessionInBounds session × (length (now list) ≡ session .days) ⌝ }
     ensures { λ r. ⌜ finding r ≡ judged session (now (list .entry)) ⌝ }
 {
     let rises = session.rises;
     let ranges = session.present;
     let floors = ranges.floors;
     let ceilings = ranges.ceilings;
-    let mut setpoints = [0u16; 512];
+    let mut setpoints = [0u16; MOST_DAYS];
     base_codes::code_all(list, LOWEST_SETPOINT, HIGHEST_SETPOINT, &mut setpoints);
     judge_codes(
         &setpoints,
@@ -147,7 +154,7 @@ fn judge(session: Session, list: &[i16]) -> Inspection
 
 // Judges a list of setpoints by the session's present ranges and rises. Document 01's checks 2, 9.
 pub fn inspect(session: Session, list: &[i16]) -> Inspection
-    requires { ⌜ Sane session ⌝ }
+    requires { ⌜ SessionInBounds session ⌝ }
     ensures { λ r. ⌜ finding r ≡ inspected session (now (list .entry)) ⌝ }
 {
     let n = session.days;

@@ -1,6 +1,7 @@
 -- Floors raised to a total, in levels, from the last day on. Which schedule this makes need not be believed: that it is one is `Writing` of demands.
 use mathlib.Core.List.{List}
 use Prim.Native.Nat.{ℕ, zero, suc, _+_, _-_, min, max}
+use Rattle.limits.specs.Limits.{riseOffset, freeLevel}
 use Rattle.theory_lists.specs.Sum.{at}
 use Rattle.theory_method.specs.Filter.{held}
 use Rattle.schedule_raising.specs.declared.Raised.{Raised}
@@ -9,12 +10,12 @@ use Rattle.schedule_raising.specs.declared.Raised.{Raised}
 -- to the following day allow; and what the sum lacks then
 unfoldable pub raisedDay : ℕ → ℕ → ℕ → Raised → Raised
 raisedDay floor ceiling rise next =
-    let level : ℕ = max floor (min (floor + next .rest) (min ceiling (next .level + 2000 - rise))) in
+    let level : ℕ = max floor (min (floor + next .rest) (min ceiling (next .level + riseOffset - rise))) in
     record { level = level; rest = floor + next .rest - level }
 
 -- the m-th day from the end; past the last day stands a level that limits none
 unfoldable pub raisedFrom : List ℕ → List ℕ → List ℕ → ℕ → ℕ → ℕ → Raised
-raisedFrom fs cs rs n rest zero = record { level = 7000; rest = rest }
+raisedFrom fs cs rs n rest zero = record { level = freeLevel; rest = rest }
 raisedFrom fs cs rs n rest (suc m) = raisedDay (at fs (n - suc m)) (at cs (n - suc m)) (at rs (n - suc m)) (raisedFrom fs cs rs n rest m)
 
 -- the level of day k, where the floors are raised until the held total is t

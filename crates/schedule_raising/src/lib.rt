@@ -1,14 +1,18 @@
 // Floors raised to a total: the levels of a schedule, in a closed form.
 ghost use mathlib.Core.Path.{_≡_};
 ghost use Prim.Native.Nat.{_+_, _-_, _≤_};
+ghost use Rattle.limits.specs.Limits.{mostDays, highestLevel, riseOffset, highestRiseCode, highestTotalCode, freeLevel};
 ghost use Rattle.theory_lists.specs.Sum.{at};
 ghost use Rattle.theory_lists.specs.Written.{written};
 ghost use Rattle.theory_method.specs.Filter.{InBounds, held};
 ghost use Rattle.schedule_raising.specs.Raising.{raisedDay, raisedTo};
-use base_numbers::greatest;
-use base_numbers::least;
+use base_numbers::max;
+use base_numbers::min;
 use base_numbers::narrow;
 use base_numbers::wide;
+use limits::FREE_LEVEL;
+use limits::MOST_DAYS;
+use limits::RISE_OFFSET;
 
 // A day's level, and what the sum still lacks.
 struct Raised {
@@ -18,21 +22,21 @@ struct Raised {
 
 // The greatest level that the rise to the next day's level allows, or 0 where that is below the scale. A rise code is the rise plus 2,000.
 fn most_before(next: usize, rise: usize) -> usize
-    requires { ⌜ (next ≤ 7000) × (rise ≤ 4000) ⌝ }
-    ensures { λ r. ⌜ r ≡ next + 2000 - rise ⌝ }
+    requires { ⌜ (next ≤ freeLevel) × (rise ≤ highestRiseCode) ⌝ }
+    ensures { λ r. ⌜ r ≡ next + riseOffset - rise ⌝ }
 {
-    let up = next + 2000;
+    let up = next + RISE_OFFSET;
     if up < rise { 0 } else { up - rise }
 }
 
 // The level of the day before `next`, raised as far as the sum, the ceiling and the rise allow.
 fn raise_day(floor: usize, ceiling: usize, rise: usize, next: Raised) -> Raised
-    requires { ⌜ (floor ≤ 5000) × (ceiling ≤ 5000) × (rise ≤ 4000) × (next .level ≤ 7000) × (next .rest ≤ 2560000) ⌝ }
+    requires { ⌜ (floor ≤ highestLevel) × (ceiling ≤ highestLevel) × (rise ≤ highestRiseCode) × (next .level ≤ freeLevel) × (next .rest ≤ highestTotalCode) ⌝ }
     ensures { λ r. ⌜ r ≡ raisedDay floor ceiling rise next ⌝ }
 {
     let most = floor + next.rest;
-    let limit = least(ceiling, most_before(next.level, rise));
-    let level = greatest(floor, least(most, limit));
+    let limit = min(ceiling, most_before(next.level, rise));
+    let level = max(floor, min(most, limit));
     Raised {
         level,
         rest: most - level,
@@ -40,15 +44,15 @@ fn raise_day(floor: usize, ceiling: usize, rise: usize, next: Raised) -> Raised
 }
 
 fn level_of(day: Raised) -> u16
-    requires { ⌜ day .level ≤ 5000 ⌝ }
+    requires { ⌜ day .level ≤ highestLevel ⌝ }
     ensures { λ r. ⌜ r ≡ day .level ⌝ }
 {
     narrow(day.level)
 }
 
 // What the floors' sum lacks of the total, or 0.
-fn lack(floors: &[u16; 512], n: usize, total: usize) -> usize
-    requires { ⌜ n ≤ 512 ⌝ }
+fn lack(floors: &[u16; MOST_DAYS], n: usize, total: usize) -> usize
+    requires { ⌜ n ≤ mostDays ⌝ }
     ensures { λ r. ⌜ (r ≡ total - held n (at (now (floors .entry)))) × (r ≤ total) ⌝ }
 {
     let sum = base_arrays::held_total(floors, n);
@@ -57,9 +61,9 @@ fn lack(floors: &[u16; 512], n: usize, total: usize) -> usize
 
 // Raises the floors, from the last day on, until their sum is the total.
 pub fn raise_to(
-    floors: &mut [u16; 512],
-    ceilings: &[u16; 512],
-    rises: &[u16; 512],
+    floors: &mut [u16; MOST_DAYS],
+    ceilings: &[u16; MOST_DAYS],
+    rises: &[u16; MOST_DAYS],
     n: usize,
     total: usize,
 )
@@ -67,7 +71,7 @@ pub fn raise_to(
     ensures { λ _. ⌜ now (floors .exit) ≡ written (raisedTo (now (floors .entry)) (now (ceilings .entry)) (now (rises .entry)) n total) n (now (floors .entry)) ⌝ }
 {
     let mut day = Raised {
-        level: 7000,
+        level: FREE_LEVEL,
         rest: lack(floors, n, total),
     };
     let mut k = n;

@@ -9,9 +9,10 @@ use lib.IntN.{ℤ}
 use lib.Dec.{ltb, leb}
 use lib.ListN.{length, set}
 use borrow.Author.Tests.{eq-eqb, ne-eqb, lt-ltb, le-ltb, le-leb, lt-leb}
+use Rattle.limits.specs.Limits.{lowestPoint, highestPoint, lowestTotal, highestTotal}
 use Rattle.theory_lists.specs.Sum.{at}
 use Rattle.theory_lists.specs.Written.{written, length-written, written-below, written-past, written-same}
-use Rattle.base_codes.specs.Code.{lowestPoint, highestPoint, lowestTotal, highestTotal, within, code, decoded, coded}
+use Rattle.base_codes.specs.Code.{within, code, decoded, coded}
 use Rattle.base_codes.specs.declared.Coded.{Coded}
 use Rattle.base_codes.proofs.Offset.{Less, less-le}
 use Rattle.base_codes.proofs.Laws.{point-less, total-less, code-decoded, decoded-code, decoded-less, code-most, within-yes, within-no, within-less}
@@ -20,13 +21,13 @@ use Rattle.theory_method.specs.Filter.{InBounds, carried, firstCrossed}
 use Rattle.theory_method.specs.Levels.{refit, refit-day}
 use Rattle.theory_method.specs.Stages.{crossing}
 use Rattle.tighten_carry.specs.Carriable.{Carriable}
-use Rattle.session.specs.Showing.{Sane}
+use Rattle.session.specs.Showing.{SessionInBounds}
 use Rattle.theory_lists.specs.Lent.{list-left, list-filled}
 use Rattle.session.specs.declared.Session.{Session}
 use Rattle.schedule_raising.specs.Raising.{raisedTo}
 use Rattle.schedule_raising.proofs.Laws.{raised-stands}
-use Rattle.schedule_writing.specs.Writing.{dayRefusal, totalRefusal, dayLevels, totalLevels, dayWritten, totalWritten}
-use Rattle.schedule_writing.specs.Stages.{checked}
+use Rattle.schedule_writing.specs.Writing.{dayWriteRefusal, totalWriteRefusal, dayLevels, totalLevels, dayWritten, totalWritten}
+use Rattle.schedule_writing.specs.Stages.{checkedWithin}
 use Rattle.schedule_writing.specs.declared.Checked.{Checked}
 
 -- ---- check and refusal_of
@@ -70,7 +71,7 @@ module _ (low z : ℤ) (k top floor ceiling : ℕ) (p : Less low 0 k) where
       )
 
 module _ (low z : ℤ) (k top floor ceiling : ℕ) (p : Less low 0 k) (most : ceiling ≤ top) {v : Coded} (ev : v ≡ coded low (decoded low top) z)
-    {q : Checked} (eq : q ≡ checked v floor ceiling) where
+    {q : Checked} (eq : q ≡ checkedWithin v floor ceiling) where
   within-is : q .within ≡ within (decoded low floor) (decoded low ceiling) z
   within-is = go (within low (decoded low top) z) refl
     where
@@ -102,15 +103,15 @@ DayJudged s day value = Judged lowestPoint value 5000 (at (s .present .floors) d
 abbrev pub TotalJudged : Session → ℤ → ℕ → ℕ → Type 0
 TotalJudged s value = Judged lowestTotal value 2560000 (s .present .least) (s .present .most) (s .spent)
 
-module _ (s : Session) (value : ℤ) (sane : Sane s) {v : Coded} {q : Checked} {r : ℕ} where
+module _ (s : Session) (value : ℤ) (bounds : SessionInBounds s) {v : Coded} {q : Checked} {r : ℕ} where
   pub day-judged : {day x y : ℕ} → day < s .days → x ≡ at (s .present .floors) day → y ≡ at (s .present .ceilings) day → v ≡ coded lowestPoint highestPoint value
-      → q ≡ checked v x y → r ≡ cond (s .spent) 9 (cond (not (q .within)) 10 0) → DayJudged s day value r (q .code)
+      → q ≡ checkedWithin v x y → r ≡ cond (s .spent) 9 (cond (not (q .within)) 10 0) → DayJudged s day value r (q .code)
   day-judged {day} {x} {y} known ex ey ev eq er =
-      rw (← ex, ← ey) (judged lowestPoint value 1000 5000 x y point-less (omega (arith, sane .present .ceiling day known)) ev eq (s .spent) er)
+      rw (← ex, ← ey) (judged lowestPoint value 1000 5000 x y point-less (omega (arith, bounds .present .ceiling day known)) ev eq (s .spent) er)
 
-  pub total-judged : v ≡ coded lowestTotal highestTotal value → q ≡ checked v (s .present .least) (s .present .most)
+  pub total-judged : v ≡ coded lowestTotal highestTotal value → q ≡ checkedWithin v (s .present .least) (s .present .most)
       → r ≡ cond (s .spent) 9 (cond (not (q .within)) 10 0) → TotalJudged s value r (q .code)
-  total-judged ev eq er = judged lowestTotal value 512000 2560000 (s .present .least) (s .present .most) total-less (sane .present .highest) ev eq (s .spent) er
+  total-judged ev eq er = judged lowestTotal value 512000 2560000 (s .present .least) (s .present .most) total-less (bounds .present .highest) ev eq (s .spent) er
 
 -- ---- write
 
@@ -142,10 +143,10 @@ module _ {fs cs rs : List ℕ} {n L U : ℕ} (b : InBounds fs cs rs n L U) {r : 
   carried-bounds : (t : ℕ) → t ≤ 2560000 → InBounds gs cs rs n 0 t
   carried-bounds t = refit b (ap length eg ∙ length-written (carried fs rs) r fs ∙ b .floors) (b .ceilings) carried-small (b .ceiling) (omega arith)
 
-module _ {s : Session} {day level : ℕ} (sane : Sane s) (h : day < s .days) (small : level ≤ 5000) {fs cs : List ℕ}
+module _ {s : Session} {day level : ℕ} (bounds : SessionInBounds s) (h : day < s .days) (small : level ≤ 5000) {fs cs : List ℕ}
     (ef : fs ≡ set (s .present .floors) day level) (ec : cs ≡ set (s .present .ceilings) day level) where
   set-bounds : InBounds fs cs (s .rises) (s .days) (s .present .least) (s .present .most)
-  set-bounds = rw (ef, ec) (refit-day (sane .present) day level h small)
+  set-bounds = rw (ef, ec) (refit-day (bounds .present) day level h small)
 
   pub through-carriable : Carriable cs (s .rises) (s .days)
   through-carriable = record { most = set-bounds .most; ceiling = set-bounds .ceiling; rise = set-bounds .rise }
@@ -165,25 +166,25 @@ module _ {s : Session} {day level : ℕ} (sane : Sane s) (h : day < s .days) (sm
 -- ---- write_day: the number and the list at each return
 
 abbrev DayAnswer : Session → ℕ → ℤ → List ℤ → ℕ → List ℤ → Type 0
-DayAnswer s day value l r l′ = (r ≡ dayRefusal s day value (length l)) × (l′ ≡ dayWritten s day value l)
+DayAnswer s day value l r l′ = (r ≡ dayWriteRefusal s day value (length l)) × (l′ ≡ dayWritten s day value l)
 
 module _ (s : Session) (day : ℕ) (value : ℤ) (l : List ℤ) where
-  day-left : {r : ℕ} → r ≡ dayRefusal s day value (length l) → (r ≡ 0 → ⊥) → DayAnswer s day value l r l
+  day-left : {r : ℕ} → r ≡ dayWriteRefusal s day value (length l) → (r ≡ 0 → ⊥) → DayAnswer s day value l r l
   unfolding dayWritten
   day-left e apart = (e, sym (list-left _ _ (s .days) l (λ z. apart (e ∙ z))))
 
   pub day-length : (length l ≡ s .days → ⊥) → DayAnswer s day value l 2 l
-  unfolding dayRefusal
+  unfolding dayWriteRefusal
   day-length h = day-left (rw (ne-eqb (length l) (s .days) h)) (λ z. absurd (omega arith))
 
   module _ (h : length l ≡ s .days) where
     pub day-unknown : s .days ≤ day → DayAnswer s day value l 7 l
-    unfolding dayRefusal
+    unfolding dayWriteRefusal
     day-unknown u = day-left (rw (eq-eqb (length l) (s .days) h, le-ltb day (s .days) u)) (λ z. absurd (omega arith))
 
     module _ (known : day < s .days) {r c : ℕ} (j : DayJudged s day value r c) where
-      day-refusal : r ≡ dayRefusal s day value (length l)
-      unfolding dayRefusal
+      day-refusal : r ≡ dayWriteRefusal s day value (length l)
+      unfolding dayWriteRefusal
       day-refusal = rw (eq-eqb (length l) (s .days) h, lt-ltb day (s .days) known) (j .refusal)
 
       pub day-refused : (r ≡ 0 → ⊥) → DayAnswer s day value l r l
@@ -196,23 +197,23 @@ module _ (s : Session) (day : ℕ) (value : ℤ) (l : List ℤ) where
 -- ---- write_total: the same
 
 abbrev TotalAnswer : Session → ℤ → List ℤ → ℕ → List ℤ → Type 0
-TotalAnswer s value l r l′ = (r ≡ totalRefusal s value (length l)) × (l′ ≡ totalWritten s value l)
+TotalAnswer s value l r l′ = (r ≡ totalWriteRefusal s value (length l)) × (l′ ≡ totalWritten s value l)
 
-pub total-bounds : {s : Session} {t : ℕ} → Sane s → t ≤ 2560000 → InBounds (s .present .floors) (s .present .ceilings) (s .rises) (s .days) 0 t
-total-bounds sane = let b = sane .present in refit b (b .floors) (b .ceilings) (b .floor) (b .ceiling) (omega arith)
+pub total-bounds : {s : Session} {t : ℕ} → SessionInBounds s → t ≤ 2560000 → InBounds (s .present .floors) (s .present .ceilings) (s .rises) (s .days) 0 t
+total-bounds bounds = let b = bounds .present in refit b (b .floors) (b .ceilings) (b .floor) (b .ceiling) (omega arith)
 
 module _ (s : Session) (value : ℤ) (l : List ℤ) where
-  total-left : {r : ℕ} → r ≡ totalRefusal s value (length l) → (r ≡ 0 → ⊥) → TotalAnswer s value l r l
+  total-left : {r : ℕ} → r ≡ totalWriteRefusal s value (length l) → (r ≡ 0 → ⊥) → TotalAnswer s value l r l
   unfolding totalWritten
   total-left e apart = (e, sym (list-left _ _ (s .days) l (λ z. apart (e ∙ z))))
 
   pub total-length : (length l ≡ s .days → ⊥) → TotalAnswer s value l 2 l
-  unfolding totalRefusal
+  unfolding totalWriteRefusal
   total-length h = total-left (rw (ne-eqb (length l) (s .days) h)) (λ z. absurd (omega arith))
 
   module _ (h : length l ≡ s .days) {r c : ℕ} (j : TotalJudged s value r c) where
-    total-refusal : r ≡ totalRefusal s value (length l)
-    unfolding totalRefusal
+    total-refusal : r ≡ totalWriteRefusal s value (length l)
+    unfolding totalWriteRefusal
     total-refusal = rw (eq-eqb (length l) (s .days) h) (j .refusal)
 
     pub total-refused : (r ≡ 0 → ⊥) → TotalAnswer s value l r l

@@ -10,7 +10,7 @@ use lib.Seq.{getD-set-same}
 use Rattle.theory_lists.specs.Sum.{at}
 use Rattle.theory_lists.specs.Written.{by-cell}
 use Rattle.theory_chains.specs.Sum.{all, sum-le}
-use Rattle.theory_chains.specs.Spans.{Spans}
+use Rattle.theory_chains.specs.Spans.{NatSpans}
 use Rattle.theory_method.specs.Filter.{carried, firstCrossed, forwarded, held}
 use Rattle.theory_method.specs.Levels.{Levels, refit-day, rebound}
 use Rattle.theory_method.specs.Stages.{Ready, Rising, crossing, carried-above, forwarded-at, ready}
@@ -23,8 +23,8 @@ use Rattle.schedule_raising.proofs.Levels.{raised-levels}
 
 pub record Supported (rs : List ℕ) (n : ℕ) (r : Ranges) : Type 0 where
   pub bounds : Fits rs n r
-  pub day : (k : ℕ) → k < n → Spans (Within rs n r) (λ x. x k) (at (r .floors) k) (at (r .ceilings) k)
-  pub total : Spans (Within rs n r) (held n) (r .least) (r .most)
+  pub day : (k : ℕ) → k < n → NatSpans (Within rs n r) (λ x. x k) (at (r .floors) k) (at (r .ceilings) k)
+  pub total : NatSpans (Within rs n r) (held n) (r .least) (r .most)
 
 module _ {rs : List ℕ} {n : ℕ} {r : Ranges} (s : Supported rs n r) where
   -- their floors keep the rises

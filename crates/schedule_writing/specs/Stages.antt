@@ -7,6 +7,6 @@ use Rattle.base_codes.specs.declared.Coded.the-variants.{Code, Outside}
 use Rattle.schedule_writing.specs.declared.Checked.{Checked}
 
 -- whether a value is within a range, and its code; a value outside its bounds is within none
-abbrev pub checked : Coded → ℕ → ℕ → Checked
-checked (Code c) floor ceiling = record { within = leb floor c && leb c ceiling; code = c }
-checked Outside floor ceiling = record { within = false; code = 0 }
+abbrev pub checkedWithin : Coded → ℕ → ℕ → Checked
+checkedWithin (Code c) floor ceiling = record { within = leb floor c && leb c ceiling; code = c }
+checkedWithin Outside floor ceiling = record { within = false; code = 0 }

@@ -6,8 +6,9 @@ use Prim.Native.Nat.{ℕ}
 use lib.IntN.{ℤ}
 use lib.Dec.{eqb, ltb}
 use lib.ListN.{length, set}
+use Rattle.limits.specs.Limits.{lowestPoint, lowestTotal}
 use Rattle.theory_lists.specs.Sum.{at}
-use Rattle.base_codes.specs.Code.{lowestPoint, lowestTotal, within, code, decoded}
+use Rattle.base_codes.specs.Code.{within, code, decoded}
 use Rattle.theory_method.specs.Filter.{carried, firstCrossed, forwarded}
 use Rattle.theory_lists.specs.Lent.{lentList}
 use Rattle.session.specs.Showing.{floorOn, ceilingOn, totalFloor, totalCeiling}
@@ -18,16 +19,16 @@ use Rattle.schedule_raising.specs.Raising.{raisedTo}
 
 -- the first refusal of writing for a day that applies, or 0, where the list is `room` long. 2: it is not n long; 7: a day not in the profile; 9: the
 -- session is spent; 10: the value is outside the day's present range
-unfoldable pub dayRefusal : Session → ℕ → ℤ → ℕ → ℕ
-dayRefusal s day value room =
+unfoldable pub dayWriteRefusal : Session → ℕ → ℤ → ℕ → ℕ
+dayWriteRefusal s day value room =
     cond (not (eqb room (s .days))) 2
     (cond (not (ltb day (s .days))) 7
     (cond (s .spent) 9
     (cond (not (within (floorOn s day) (ceilingOn s day) value)) 10 0)))
 
 -- the same for the total
-unfoldable pub totalRefusal : Session → ℤ → ℕ → ℕ
-totalRefusal s value room =
+unfoldable pub totalWriteRefusal : Session → ℤ → ℕ → ℕ
+totalWriteRefusal s value room =
     cond (not (eqb room (s .days))) 2
     (cond (s .spent) 9
     (cond (not (within (totalFloor s) (totalCeiling s) value)) 10 0))
@@ -48,7 +49,7 @@ dayLevels s day value =
 -- ---- the lent list afterwards: as it was beside a refusal, else the schedule
 
 unfoldable pub dayWritten : Session → ℕ → ℤ → List ℤ → List ℤ
-dayWritten s day value l = lentList (dayRefusal s day value (length l)) (λ k. decoded lowestPoint (dayLevels s day value k)) (s .days) l
+dayWritten s day value l = lentList (dayWriteRefusal s day value (length l)) (λ k. decoded lowestPoint (dayLevels s day value k)) (s .days) l
 
 unfoldable pub totalWritten : Session → ℤ → List ℤ → List ℤ
-totalWritten s value l = lentList (totalRefusal s value (length l)) (λ k. decoded lowestPoint (totalLevels s value k)) (s .days) l
+totalWritten s value l = lentList (totalWriteRefusal s value (length l)) (λ k. decoded lowestPoint (totalLevels s value k)) (s .days) l

@@ -3,16 +3,18 @@ ghost use mathlib.Core.Bool.{cond, not};
 ghost use mathlib.Core.Path.{_≡_};
 ghost use Prim.Native.Nat.{_≤_, _<_};
 ghost use lib.ListN.{length, set};
+ghost use Rattle.limits.specs.Limits.{mostDays, lowestPoint, highestLevel};
 ghost use Rattle.theory_lists.specs.Written.{written};
-ghost use Rattle.base_codes.specs.Code.{lowestPoint, decoded};
+ghost use Rattle.base_codes.specs.Code.{decoded};
 ghost use Rattle.theory_method.specs.Filter.{InBounds};
-ghost use Rattle.session.specs.Showing.{Sane};
+ghost use Rattle.session.specs.Showing.{SessionInBounds};
 ghost use Rattle.schedule_raising.specs.Raising.{raisedTo};
-ghost use Rattle.schedule_writing.specs.Writing.{dayRefusal, totalRefusal, dayLevels, dayWritten, totalWritten};
-ghost use Rattle.schedule_writing.specs.Stages.{checked};
+ghost use Rattle.schedule_writing.specs.Writing.{dayWriteRefusal, totalWriteRefusal, dayLevels, dayWritten, totalWritten};
+ghost use Rattle.schedule_writing.specs.Stages.{checkedWithin};
 use base_codes::Coded;
 use base_numbers::narrow;
 use base_numbers::wide;
+use limits::MOST_DAYS;
 use session::Session;
 
 // Whether a value is within its range, and its code.
@@ -23,9 +25,9 @@ struct Checked {
 
 // Raises the floors to the total and stores the points.
 fn write(
-    floors: [u16; 512],
-    ceilings: &[u16; 512],
-    rises: &[u16; 512],
+    floors: [u16; MOST_DAYS],
+    ceilings: &[u16; MOST_DAYS],
+    rises: &[u16; MOST_DAYS],
     n: usize,
     total: usize,
     list: &mut [i16],
@@ -40,7 +42,7 @@ fn write(
 
 // A value outside its bounds is within no range.
 fn check(value: Coded, floor: usize, ceiling: usize) -> Checked
-    ensures { λ r. ⌜ r ≡ checked value floor ceiling ⌝ }
+    ensures { λ r. ⌜ r ≡ checkedWithin value floor ceiling ⌝ }
 {
     let Coded::Code(code) = value else {
         return Checked {
@@ -67,8 +69,8 @@ fn refusal_of(spent: bool, within: bool) -> u8
     0
 }
 
-fn set_level(levels: &mut [u16; 512], day: usize, level: usize)
-    requires { ⌜ (day < 512) × (level ≤ 5000) ⌝ }
+fn set_level(levels: &mut [u16; MOST_DAYS], day: usize, level: usize)
+    requires { ⌜ (day < mostDays) × (level ≤ highestLevel) ⌝ }
     ensures { λ _. ⌜ now (levels .exit) ≡ set (now (levels .entry)) day level ⌝ }
 {
     levels[day] = narrow(level);
@@ -76,7 +78,7 @@ fn set_level(levels: &mut [u16; 512], day: usize, level: usize)
 
 // Writes the schedule with this level on this day.
 fn write_through(session: Session, day: usize, level: usize, list: &mut [i16])
-    requires { ⌜ Sane session × (day < session .days) × (level ≤ 5000) × (session .days ≤ length (now list)) ⌝ }
+    requires { ⌜ SessionInBounds session × (day < session .days) × (level ≤ highestLevel) × (session .days ≤ length (now list)) ⌝ }
     ensures { λ _. ⌜ now (list .exit) ≡ written (λ k. decoded lowestPoint (dayLevels session day (decoded lowestPoint level) k)) (session .days) (now (list .entry)) ⌝ }
 {
     let n = session.days;
@@ -92,8 +94,8 @@ fn write_through(session: Session, day: usize, level: usize, list: &mut [i16])
 
 // Writes a schedule with this value on this day. Document 01's checks 2, 7, 9, 10.
 pub fn write_day(session: Session, day: usize, value: i32, list: &mut [i16]) -> u8
-    requires { ⌜ Sane session ⌝ }
-    ensures { λ r. ⌜ r ≡ dayRefusal session day value (length (now (list .entry))) ⌝ }
+    requires { ⌜ SessionInBounds session ⌝ }
+    ensures { λ r. ⌜ r ≡ dayWriteRefusal session day value (length (now (list .entry))) ⌝ }
     ensures { λ r. ⌜ now (list .exit) ≡ dayWritten session day value (now (list .entry)) ⌝ }
 {
     let n = session.days;
@@ -118,8 +120,8 @@ pub fn write_day(session: Session, day: usize, value: i32, list: &mut [i16]) -> 
 
 // Writes a schedule with this sum. Document 01's checks 2, 9, 10.
 pub fn write_total(session: Session, value: i32, list: &mut [i16]) -> u8
-    requires { ⌜ Sane session ⌝ }
-    ensures { λ r. ⌜ r ≡ totalRefusal session value (length (now (list .entry))) ⌝ }
+    requires { ⌜ SessionInBounds session ⌝ }
+    ensures { λ r. ⌜ r ≡ totalWriteRefusal session value (length (now (list .entry))) ⌝ }
     ensures { λ r. ⌜ now (list .exit) ≡ totalWritten session value (now (list .entry)) ⌝ }
 {
     let n = session.days;

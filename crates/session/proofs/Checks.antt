@@ -10,14 +10,15 @@ use lib.Dec.{eqb, ltb}
 use lib.ListN.{length}
 use lib.Signed.{ltZ}
 use borrow.Author.Tests.{ne-eqb, lt-ltb, le-ltb}
+use Rattle.limits.specs.Limits.{lowestPoint, highestPoint, lowestRise, highestRise, lowestTotal, highestTotal}
 use Rattle.theory_lists.specs.Sum.{at}
 use Rattle.theory_lists.specs.Written.{written}
-use Rattle.base_codes.specs.Code.{lowestPoint, highestPoint, lowestRise, highestRise, lowestTotal, highestTotal, within, code, on, firstOutside}
+use Rattle.base_codes.specs.Code.{within, code, on, firstOutside}
 use Rattle.base_codes.proofs.Laws.{first-most, first-before, first-here}
 use Rattle.theory_method.specs.Filter.{InBounds, firstCrossed, zeros}
 use Rattle.theory_method.specs.Stages.{Crossing, crossing}
 use Rattle.session.specs.Profile.{Profile}
-use Rattle.session.specs.Opening.{narrowed, openedWith, every, crossed, earlier, opened, refusedWith, codes, badCount, badLength, badPoint, badRise, badTotal, badRange}
+use Rattle.session.specs.Opening.{narrowed, openedWith, every, crossed, earlyOpening, opened, refusedWith, codes, badCount, badLength, badPoint, badRise, badTotal, badRange}
 use Rattle.session.specs.Stages.{openedCodes, lengthRefusal}
 use Rattle.base_codes.proofs.Order.{less-test}
 use Rattle.session.proofs.Entered.{Entered, every-on, Sized, sized, passed, codes-bounds, or-true, floor-less, ceiling-less, lowest-less, highest-less}
@@ -78,12 +79,12 @@ abbrev pub lengths : Profile → ℕ
 lengths p = lengthRefusal (p .days) (length (p .floors)) (length (p .ceilings)) (length (p .rises))
 
 module _ (p : Profile) where
-  refused-by : (m : ℕ) → earlier p ≡ suc m → refusedWith (suc m) ≡ opened p
+  refused-by : (m : ℕ) → earlyOpening p ≡ suc m → refusedWith (suc m) ≡ opened p
   unfolding opened
-  refused-by m e = let z : eqb (earlier p) 0 ≡ false = ne-eqb (earlier p) 0 (λ q. absurd (omega arith)) in rw (z, e)
+  refused-by m e = let z : eqb (earlyOpening p) 0 ≡ false = ne-eqb (earlyOpening p) 0 (λ q. absurd (omega arith)) in rw (z, e)
 
   pub lengths-refused : (r : ℕ) → r ≡ lengths p → (r ≡ 0 → ⊥) → refusedWith r ≡ opened p
-  unfolding earlier
+  unfolding earlyOpening
   lengths-refused r e apart = go (badCount p) (badLength p) refl refl e
     where
       go : (a b : Bool) → badCount p ≡ a → badLength p ≡ b → r ≡ cond a 1 (cond b 2 0) → refusedWith r ≡ opened p
@@ -102,17 +103,17 @@ module _ (p : Profile) where
 
   module _ (e : lengths p ≡ 0) where
     pub points-refused : badPoint p ≡ true → refusedWith 3 ≡ opened p
-    unfolding earlier
+    unfolding earlyOpening
     points-refused h = refused-by 2 (rw (whole e .0, whole e .1, h))
 
     module _ (points : badPoint p ≡ false) where
       pub rises-refused : badRise p ≡ true → refusedWith 4 ≡ opened p
-      unfolding earlier
+      unfolding earlyOpening
       rises-refused h = refused-by 3 (rw (whole e .0, whole e .1, points, h))
 
       module _ (rises : badRise p ≡ false) where
         pub totals-refused : badTotal p ≡ true → refusedWith 5 ≡ opened p
-        unfolding earlier
+        unfolding earlyOpening
         totals-refused h = refused-by 4 (rw (whole e .0, whole e .1, points, rises, h))
 
         module _ (totals : badTotal p ≡ false) where
@@ -121,7 +122,7 @@ module _ (p : Profile) where
 
           pub codes-opened : openedCodes (p .days) (codes lowestPoint (p .floors) (p .days)) (codes lowestPoint (p .ceilings) (p .days))
               (codes lowestRise (p .rises) (p .days - 1)) (code lowestTotal (p .lowest)) (code lowestTotal (p .highest)) ≡ opened p
-          unfolding openedCodes opened earlier
+          unfolding openedCodes opened earlyOpening
           codes-opened =
               rw (whole e .0, whole e .1, points, rises, totals, sym (range-test p passes))
               (go (badRange p))

@@ -9,15 +9,16 @@ use lib.IntN.{ℤ}
 use lib.Dec.{eqb}
 use lib.ListN.{length, length-replicate, getD-replicate}
 use borrow.Author.Tests.{not-false, ltb-false, eqb-true, eqb-false}
+use Rattle.limits.specs.Limits.{lowestPoint, highestPoint, lowestRise, highestRise, lowestTotal, highestTotal}
 use Rattle.theory_lists.specs.Checks.{cond-zero, or-false}
 use Rattle.theory_lists.specs.Sum.{at}
 use Rattle.theory_lists.specs.Written.{written-below, written-past, length-written}
-use Rattle.base_codes.specs.Code.{lowestPoint, highestPoint, lowestRise, highestRise, lowestTotal, highestTotal, within, code, on}
+use Rattle.base_codes.specs.Code.{within, code, on}
 use Rattle.base_codes.proofs.Offset.{Less}
 use Rattle.base_codes.proofs.Laws.{point-less, rise-less, total-less, within-less, point-most, rise-most, total-most}
 use Rattle.theory_method.specs.Filter.{InBounds, zeros}
 use Rattle.session.specs.Profile.{Profile}
-use Rattle.session.specs.Opening.{earlier, every, badCount, badLength, badPoint, badRise, badTotal, codes}
+use Rattle.session.specs.Opening.{earlyOpening, every, badCount, badLength, badPoint, badRise, badTotal, codes}
 
 pub or-true : (a b : Bool) → b ≡ true → (a || b) ≡ true
 or-true true b e = refl
@@ -77,8 +78,8 @@ passed p c1 c2 c3 c4 c5 =
       highest = totals .1;
     }
 
-pub entered : (p : Profile) → earlier p ≡ 0 → Entered p
-unfolding earlier
+pub entered : (p : Profile) → earlyOpening p ≡ 0 → Entered p
+unfolding earlyOpening
 entered p e =
     let c1 = cond-zero (badCount p) 0 _ e in
     let c2 = cond-zero (badLength p) 1 _ (c1 .1) in

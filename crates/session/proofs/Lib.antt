@@ -4,5 +4,5 @@ pub mod Shows
 pub mod Entered
 pub mod Lengths
 pub mod Lists
-pub mod Sanity
+pub mod SessionBounds
 pub mod Within

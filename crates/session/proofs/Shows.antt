@@ -8,7 +8,8 @@ use lib.IntN.{ℤ}
 use mir.Syntax.{w32}
 use mir.Val.{toZ, ofZ}
 use mir.Facts.{toZ-ofZ}
-use Rattle.base_codes.specs.Code.{lowestTotal, decoded}
+use Rattle.limits.specs.Limits.{lowestTotal}
+use Rattle.base_codes.specs.Code.{decoded}
 use Rattle.base_codes.proofs.Laws.{decoded-less, total-less}
 use Rattle.base_codes.proofs.Casts.{less-fits}
 use lib.Dec.{ltb}

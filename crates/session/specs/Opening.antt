@@ -6,8 +6,9 @@ use lib.IntN.{ℤ, pos}
 use lib.Dec.{eqb, ltb}
 use lib.ListN.{length}
 use lib.Signed.{ltZ}
+use Rattle.limits.specs.Limits.{mostDays, lowestPoint, highestPoint, lowestRise, highestRise, lowestTotal, highestTotal}
 use Rattle.theory_lists.specs.Written.{written}
-use Rattle.base_codes.specs.Code.{lowestPoint, highestPoint, lowestRise, highestRise, lowestTotal, highestTotal, within, code, on}
+use Rattle.base_codes.specs.Code.{within, code, on}
 use Rattle.theory_method.specs.Filter.{Tight, tightened, zeros}
 use Rattle.session.specs.Profile.{Profile}
 use Rattle.session.specs.declared.Ranges.{Ranges}
@@ -32,7 +33,7 @@ crossed (f ∷ fs) [] = false
 
 -- 1: the day count is 0 or over 512
 abbrev pub badCount : Profile → Bool
-badCount p = eqb (p .days) 0 || ltb 512 (p .days)
+badCount p = eqb (p .days) 0 || ltb mostDays (p .days)
 
 -- 2: floors or ceilings not n long, or rises not n - 1 long
 abbrev pub badLength : Profile → Bool
@@ -55,8 +56,8 @@ abbrev pub badRange : Profile → Bool
 badRange p = crossed (p .floors) (p .ceilings) || ltZ (p .highest) (p .lowest)
 
 -- the first refusal of opening before 8 that applies, or 0
-unfoldable pub earlier : Profile → ℕ
-earlier p =
+unfoldable pub earlyOpening : Profile → ℕ
+earlyOpening p =
     cond (badCount p) 1
     (cond (badLength p) 2
     (cond (badPoint p) 3
@@ -102,4 +103,4 @@ openedWith n rs t = cond (t .found) (record { refusal = 0; session = fresh n rs 
 
 unfoldable pub opened : Profile → Opened
 opened p =
-    cond (eqb (earlier p) 0) (openedWith (p .days) (codes lowestRise (p .rises) (p .days - 1)) (narrowed p)) (refusedWith (earlier p))
+    cond (eqb (earlyOpening p) 0) (openedWith (p .days) (codes lowestRise (p .rises) (p .days - 1)) (narrowed p)) (refusedWith (earlyOpening p))

@@ -4,8 +4,9 @@ use mathlib.Core.List.{List}
 use Prim.Native.Nat.{ℕ}
 use lib.IntN.{ℤ, pos}
 use lib.Dec.{ltb}
+use Rattle.limits.specs.Limits.{lowestPoint, lowestRise, lowestTotal}
 use Rattle.theory_lists.specs.Sum.{at}
-use Rattle.base_codes.specs.Code.{lowestPoint, lowestRise, lowestTotal, decoded}
+use Rattle.base_codes.specs.Code.{decoded}
 use Rattle.theory_method.specs.Filter.{InBounds}
 use Rattle.session.specs.declared.Ranges.{Ranges}
 use Rattle.session.specs.declared.Session.{Session}
@@ -43,6 +44,6 @@ abbrev pub Fits : List ℕ → ℕ → Ranges → Type 0
 Fits rs n r = InBounds (r .floors) (r .ceilings) rs n (r .least) (r .most)
 
 -- the numbers of a session are in bounds
-pub record Sane (s : Session) : Type 0 where
+pub record SessionInBounds (s : Session) : Type 0 where
   pub opened : Fits (s .rises) (s .days) (s .opened)
   pub present : Fits (s .rises) (s .days) (s .present)

@@ -3,6 +3,7 @@ use mathlib.Core.Bool.{cond, not, _&&_, _||_}
 use mathlib.Core.List.{List}
 use Prim.Native.Nat.{ℕ, _-_}
 use lib.Dec.{eqb, ltb}
+use Rattle.limits.specs.Limits.{mostDays}
 use Rattle.theory_lists.specs.Sum.{at}
 use Rattle.theory_method.specs.Filter.{tightened, firstCrossed}
 use Rattle.session.specs.Opening.{openedWith, refusedWith}
@@ -11,7 +12,7 @@ use Rattle.session.specs.declared.Opened.{Opened}
 -- 1 and 2
 abbrev pub lengthRefusal : ℕ → ℕ → ℕ → ℕ → ℕ
 lengthRefusal days floors ceilings rises =
-    cond (eqb days 0 || ltb 512 days) 1
+    cond (eqb days 0 || ltb mostDays days) 1
     (cond (not (eqb floors days && eqb ceilings days && eqb rises (days - 1))) 2 0)
 
 -- 6 and 8, over codes

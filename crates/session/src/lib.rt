@@ -5,13 +5,15 @@ ghost use Rattle.theory_lists.specs.Lent.{lentList};
 ghost use Rattle.theory_method.specs.Filter.{InBounds};
 ghost use Rattle.session.specs.Opening.{opened, refusedWith, profile};
 ghost use Rattle.session.specs.Stages.{openedCodes, lengthRefusal};
-ghost use Rattle.session.specs.Showing.{Sane, shown, listTooShort, floorOn, ceilingOn};
+ghost use Rattle.session.specs.Showing.{SessionInBounds, shown, listTooShort, floorOn, ceilingOn};
 use base_codes::Coded;
+use limits::MOST_DAYS;
+use limits::TOTAL_OFFSET;
 
 // The range of each day as levels, a point plus 1,000, and of the total, held plus 512,000.
 pub struct Ranges {
-    pub floors: [u16; 512],
-    pub ceilings: [u16; 512],
+    pub floors: [u16; MOST_DAYS],
+    pub ceilings: [u16; MOST_DAYS],
     pub least: usize,
     pub most: usize,
 }
@@ -19,7 +21,7 @@ pub struct Ranges {
 // Rises are held plus 2,000. Cells past the last day are 0.
 pub struct Session {
     pub days: usize,
-    pub rises: [u16; 512],
+    pub rises: [u16; MOST_DAYS],
     pub opened: Ranges,
     pub present: Ranges,
     pub spent: bool,
@@ -39,23 +41,26 @@ pub struct Shown {
     pub spent: bool,
 }
 
+// The level of 0 points.
+const ZERO_LEVEL: u16 = limits::LEVEL_OFFSET as u16;
+
 // Beside a refusal stands a spent session of one day with all values 0.
 fn refused(number: u8) -> Opened
     ensures { λ r. ⌜ r ≡ refusedWith number ⌝ }
 {
-    let mut floors = [0u16; 512];
-    floors[0] = 1000;
+    let mut floors = [0u16; MOST_DAYS];
+    floors[0] = ZERO_LEVEL;
     let zero = Ranges {
         floors,
         ceilings: floors,
-        least: 512000,
-        most: 512000,
+        least: TOTAL_OFFSET,
+        most: TOTAL_OFFSET,
     };
     Opened {
         refusal: number,
         session: Session {
             days: 1,
-            rises: [0u16; 512],
+            rises: [0u16; MOST_DAYS],
             opened: zero,
             present: zero,
             spent: true,
@@ -88,9 +93,9 @@ fn length_refusal(days: usize, floors: usize, ceilings: usize, rises: usize) -> 
 // Opens what has passed the checks on lengths and bounds: 6, then 8.
 fn open_codes(
     days: usize,
-    floors: [u16; 512],
-    ceilings: [u16; 512],
-    rises: [u16; 512],
+    floors: [u16; MOST_DAYS],
+    ceilings: [u16; MOST_DAYS],
+    rises: [u16; MOST_DAYS],
     least: usize,
     most: usize,
 ) -> Opened
@@ -140,19 +145,19 @@ fn too_short() -> Shown
 
 impl Session {
     // Document 01's bounds of an entry.
-    pub const MOST_DAYS: usize = 512;
+    pub const MOST_DAYS: usize = limits::MOST_DAYS;
 
-    pub const LOWEST_POINT: i32 = -1000;
+    pub const LOWEST_POINT: i32 = limits::LOWEST_POINT;
 
-    pub const HIGHEST_POINT: i32 = 4000;
+    pub const HIGHEST_POINT: i32 = limits::HIGHEST_POINT;
 
-    pub const LOWEST_RISE: i32 = -2000;
+    pub const LOWEST_RISE: i32 = limits::LOWEST_RISE;
 
-    pub const HIGHEST_RISE: i32 = 2000;
+    pub const HIGHEST_RISE: i32 = limits::HIGHEST_RISE;
 
-    pub const LOWEST_TOTAL: i32 = -512000;
+    pub const LOWEST_TOTAL: i32 = limits::LOWEST_TOTAL;
 
-    pub const HIGHEST_TOTAL: i32 = 2048000;
+    pub const HIGHEST_TOTAL: i32 = limits::HIGHEST_TOTAL;
 
     // Opens a profile: document 01's checks 1, 2, 3, 4, 5, 6, then 8.
     pub fn open(
@@ -169,9 +174,9 @@ impl Session {
         if refusal != 0 {
             return refused(refusal);
         }
-        let mut low = [0u16; 512];
-        let mut high = [0u16; 512];
-        let mut steps = [0u16; 512];
+        let mut low = [0u16; MOST_DAYS];
+        let mut high = [0u16; MOST_DAYS];
+        let mut steps = [0u16; MOST_DAYS];
         let inside = base_codes::code_all(
             floors,
             Self::LOWEST_POINT,
@@ -207,7 +212,7 @@ impl Session {
 
     // Fills both lists with the present range of each day, or, where either is too short, neither (2).
     pub fn show(self, floors: &mut [i16], ceilings: &mut [i16]) -> Shown
-        requires { ⌜ Sane self ⌝ }
+        requires { ⌜ SessionInBounds self ⌝ }
         ensures { λ r. ⌜ r ≡ shown self (length (now (floors .entry))) (length (now (ceilings .entry))) ⌝ }
         ensures { λ r. ⌜ now (floors .exit) ≡ lentList (r .refusal) (floorOn self) (self .days) (now (floors .entry)) ⌝ }
         ensures { λ r. ⌜ now (ceilings .exit) ≡ lentList (r .refusal) (ceilingOn self) (self .days) (now (ceilings .entry)) ⌝ }

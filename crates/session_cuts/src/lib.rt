@@ -1,7 +1,8 @@
 // Document 01's cuts, and how numbers tell them.
 ghost use mathlib.Core.Path.{_≡_};
 ghost use Rattle.session_cuts.specs.declared.Cut.the-variants.{TotalFloor, TotalCeiling};
-ghost use Rattle.session_cuts.specs.Told.{told};
+ghost use Rattle.session_cuts.specs.Numbered.{numbered};
+use limits::MOST_CUTS;
 
 // A floor or a ceiling for a day or for the total: the day, 0 for the total, and the value in points.
 pub enum Cut {
@@ -11,8 +12,8 @@ pub enum Cut {
     TotalCeiling(usize, i32),
 }
 
-// A cut told by numbers, or that its kind is unknown (12).
-pub enum Told {
+// A cut given by numbers, or that its kind is unknown (12).
+pub enum Numbered {
     Known(Cut),
     Unknown,
 }
@@ -25,20 +26,20 @@ pub struct Entry {
 // The first `count` entries are a batch's cuts, in their order.
 pub struct Sheet {
     pub count: usize,
-    pub entries: [Entry; 512],
+    pub entries: [Entry; MOST_CUTS],
 }
 
 impl Cut {
     // Kinds: 0 a day's floor, 1 a day's ceiling, 2 the total's floor, 3 the total's ceiling.
-    pub fn told(kind: usize, day: usize, value: i32) -> Told
-        ensures { λ r. ⌜ r ≡ told kind day value ⌝ }
+    pub fn numbered(kind: usize, day: usize, value: i32) -> Numbered
+        ensures { λ r. ⌜ r ≡ numbered kind day value ⌝ }
     {
         match kind {
-            0 => Told::Known(Cut::DayFloor(day, value)),
-            1 => Told::Known(Cut::DayCeiling(day, value)),
-            2 => Told::Known(Cut::TotalFloor(day, value)),
-            3 => Told::Known(Cut::TotalCeiling(day, value)),
-            _ => Told::Unknown,
+            0 => Numbered::Known(Cut::DayFloor(day, value)),
+            1 => Numbered::Known(Cut::DayCeiling(day, value)),
+            2 => Numbered::Known(Cut::TotalFloor(day, value)),
+            3 => Numbered::Known(Cut::TotalCeiling(day, value)),
+            _ => Numbered::Unknown,
         }
     }
 

@@ -8,23 +8,24 @@ use lib.IntN.{ℤ}
 use lib.Dec.{eqb, ltb}
 use lib.ListN.{length, length-set}
 use borrow.Author.Tests.{eqb-true, eqb-false, eq-eqb, ne-eqb, ltb-true, ltb-false}
+use Rattle.limits.specs.Limits.{lowestPoint, highestPoint, lowestTotal, highestTotal}
 use Rattle.theory_lists.specs.Sum.{at}
 use Rattle.theory_lists.specs.Written.{by-cell}
-use Rattle.base_codes.specs.Code.{lowestPoint, highestPoint, lowestTotal, highestTotal, within, code}
+use Rattle.base_codes.specs.Code.{within, code}
 use Rattle.base_codes.proofs.Laws.{point-most, total-most}
 use Rattle.theory_method.specs.Levels.{refit}
 use Rattle.theory_method.proofs.Exact.{exact, exact-in-bounds}
-use Rattle.session.specs.Showing.{Fits, Sane}
+use Rattle.session.specs.Showing.{Fits, SessionInBounds}
 use Rattle.session.specs.declared.Ranges.{Ranges}
 use Rattle.session.specs.declared.Session.{Session}
 use Rattle.session_cuts.specs.declared.Cut.{Cut}
 use Rattle.session_cuts.specs.declared.Cut.the-variants.{DayFloor, DayCeiling, TotalFloor, TotalCeiling}
-use Rattle.session_cuts.specs.declared.Told.{Told}
-use Rattle.session_cuts.specs.declared.Told.the-variants.{Known, Unknown}
+use Rattle.session_cuts.specs.declared.Numbered.{Numbered}
+use Rattle.session_cuts.specs.declared.Numbered.the-variants.{Known, Unknown}
 use Rattle.session_cuts.specs.Sheet.{dayOf}
 use Rattle.theory_lists.specs.Front.{inFront}
 use Rattle.session_changed.proofs.Days.{days-few}
-use Rattle.session_cutting.specs.Cutting.{dayRefusal, totalRefusal, malformed, earlier, clipped, retightened, tightenedTo, refusing, changedDays, afterCut, afterTold, listAfter}
+use Rattle.session_cutting.specs.Cutting.{dayCutRefusal, totalCutRefusal, malformed, earlyCutting, clipped, retightened, tightenedTo, refusing, changedDays, afterCut, afterNumbered, listAfter}
 use Rattle.session_cutting.specs.declared.AfterCut.{AfterCut}
 
 -- ---- what the checks let pass
@@ -34,10 +35,10 @@ placed-within true true m k e = (refl, refl)
 placed-within true false m k e = absurd (omega arith)
 placed-within false in-bounds m k e = absurd (omega arith)
 
-pub day-formed : (n day : ℕ) (value : ℤ) → dayRefusal n day value ≡ 0 → (day < n) × (within lowestPoint highestPoint value ≡ true)
+pub day-formed : (n day : ℕ) (value : ℤ) → dayCutRefusal n day value ≡ 0 → (day < n) × (within lowestPoint highestPoint value ≡ true)
 day-formed n day value e = let f = placed-within (ltb day n) (within lowestPoint highestPoint value) 2 6 e in (ltb-true day n (f .0), f .1)
 
-pub total-formed : (day : ℕ) (value : ℤ) → totalRefusal day value ≡ 0 → (day ≡ 0) × (within lowestTotal highestTotal value ≡ true)
+pub total-formed : (day : ℕ) (value : ℤ) → totalCutRefusal day value ≡ 0 → (day ≡ 0) × (within lowestTotal highestTotal value ≡ true)
 total-formed day value e = let f = placed-within (eqb day 0) (within lowestTotal highestTotal value) 4 11 e in (eqb-true day 0 (f .0), f .1)
 
 -- its day is one of the profile's, or 0
@@ -48,8 +49,8 @@ formed-day n (TotalFloor day value) e some = omega (arith, total-formed day valu
 formed-day n (TotalCeiling day value) e some = omega (arith, total-formed day value e .0)
 
 -- no check before 8 refuses where the cut is well-formed, the list long enough and the session not spent
-pub earlier-none : (s : Session) (c : Cut) (room : ℕ) → malformed (s .days) c ≡ 0 → ltb room (s .days) ≡ false → s .spent ≡ false → eqb (earlier s c room) 0 ≡ true
-unfolding earlier
+pub earlier-none : (s : Session) (c : Cut) (room : ℕ) → malformed (s .days) c ≡ 0 → ltb room (s .days) ≡ false → s .spent ≡ false → eqb (earlyCutting s c room) 0 ≡ true
+unfolding earlyCutting
 earlier-none s c room e l a = rw (e, l, a) refl
 
 -- and what is known where none refuses
@@ -58,8 +59,8 @@ pub record Passed (s : Session) (c : Cut) (room : ℕ) : Type 0 where
   pub roomy : ltb room (s .days) ≡ false
   pub unspent : s .spent ≡ false
 
-pub passed : (s : Session) (c : Cut) (room : ℕ) → eqb (earlier s c room) 0 ≡ true → Passed s c room
-unfolding earlier
+pub passed : (s : Session) (c : Cut) (room : ℕ) → eqb (earlyCutting s c room) 0 ≡ true → Passed s c room
+unfolding earlyCutting
 passed s c room = go (eqb (malformed (s .days) c) 0) (ltb room (s .days)) (s .spent) refl refl refl
   where
     go : (a b d : Bool) → eqb (malformed (s .days) c) 0 ≡ a → ltb room (s .days) ≡ b → s .spent ≡ d
@@ -70,11 +71,11 @@ passed s c room = go (eqb (malformed (s .days) c) 0) (ltb room (s .days)) (s .sp
     go false b d p q r e = absurd (eqb-false (malformed (s .days) c) 0 p (eqb-true (malformed (s .days) c) 0 e))
 
 -- a refusal before 8 leaves the session
-pub refused-same : (s : Session) (c : Cut) (room : ℕ) → eqb (earlier s c room) 0 ≡ false → afterCut s c room ≡ refusing (earlier s c room) s
+pub refused-same : (s : Session) (c : Cut) (room : ℕ) → eqb (earlyCutting s c room) 0 ≡ false → afterCut s c room ≡ refusing (earlyCutting s c room) s
 unfolding afterCut
 refused-same s c room e = rw e refl
 
-pub accepted : (s : Session) (c : Cut) (room : ℕ) → eqb (earlier s c room) 0 ≡ true → afterCut s c room ≡ tightenedTo s (retightened s (clipped (s .present) c))
+pub accepted : (s : Session) (c : Cut) (room : ℕ) → eqb (earlyCutting s c room) 0 ≡ true → afterCut s c room ≡ tightenedTo s (retightened s (clipped (s .present) c))
 unfolding afterCut
 accepted s c room e = rw e refl
 
@@ -94,18 +95,18 @@ pub record Accepted (s : Session) (room : ℕ) (r : AfterCut) : Type 0 where
   pub few : r .answer .changed ≤ s .days
 
 cut-accepted : (s : Session) (c : Cut) (room : ℕ) → afterCut s c room .answer .refusal ≡ 0 → Accepted s room (afterCut s c room)
-cut-accepted s c room = go (eqb (earlier s c room) 0) (retightened s (clipped (s .present) c) .found) refl refl
+cut-accepted s c room = go (eqb (earlyCutting s c room) 0) (retightened s (clipped (s .present) c) .found) refl refl
   where
-    go : (early found : Bool) → eqb (earlier s c room) 0 ≡ early → retightened s (clipped (s .present) c) .found ≡ found
+    go : (early found : Bool) → eqb (earlyCutting s c room) 0 ≡ early → retightened s (clipped (s .present) c) .found ≡ found
         → afterCut s c room .answer .refusal ≡ 0 → Accepted s room (afterCut s c room)
     go true true e f z = rw (accepted s c room e, f) (record { roomy = ltb-false room (s .days) (passed s c room e .roomy); counted = refl; few = days-few _ (s .days) })
     go true false e f z = absurd (omega (arith, rw (accepted s c room e, f) at z))
-    go false found e f z = absurd (eqb-false (earlier s c room) 0 e (rw (refused-same s c room e) at z))
+    go false found e f z = absurd (eqb-false (earlyCutting s c room) 0 e (rw (refused-same s c room e) at z))
 
-pub told-accepted : (s : Session) (t : Told) (room : ℕ) → afterTold s t room .answer .refusal ≡ 0 → Accepted s room (afterTold s t room)
-unfolding afterTold
-told-accepted s (Known c) room = cut-accepted s c room
-told-accepted s Unknown room = λ z. absurd (omega arith)
+pub numbered-accepted : (s : Session) (t : Numbered) (room : ℕ) → afterNumbered s t room .answer .refusal ≡ 0 → Accepted s room (afterNumbered s t room)
+unfolding afterNumbered
+numbered-accepted s (Known c) room = cut-accepted s c room
+numbered-accepted s Unknown room = λ z. absurd (omega arith)
 
 -- ---- in bounds
 
@@ -127,17 +128,17 @@ clipped-in-bounds rs n r (TotalFloor day value) b e =
     refit b (b .floors) (b .ceilings) (b .floor) (b .ceiling) (omega (arith, b .lowest, total-most value (total-formed day value e .1))) (b .highest)
 clipped-in-bounds rs n r (TotalCeiling day value) b e = refit b (b .floors) (b .ceilings) (b .floor) (b .ceiling) (b .lowest) (omega (arith, b .highest))
 
-pub cut-sane : (s : Session) (c : Cut) (room : ℕ) → Sane s → Sane (afterCut s c room .session)
-cut-sane s c room b = go (eqb (earlier s c room) 0) (retightened s (clipped (s .present) c) .found) refl refl
+pub cut-in-bounds : (s : Session) (c : Cut) (room : ℕ) → SessionInBounds s → SessionInBounds (afterCut s c room .session)
+cut-in-bounds s c room b = go (eqb (earlyCutting s c room) 0) (retightened s (clipped (s .present) c) .found) refl refl
   where
-    go : (early found : Bool) → eqb (earlier s c room) 0 ≡ early → retightened s (clipped (s .present) c) .found ≡ found → Sane (afterCut s c room .session)
+    go : (early found : Bool) → eqb (earlyCutting s c room) 0 ≡ early → retightened s (clipped (s .present) c) .found ≡ found → SessionInBounds (afterCut s c room .session)
     go true true e f =
         let fits = clipped-in-bounds (s .rises) (s .days) (s .present) c (b .present) (passed s c room e .formed) in
         rw (accepted s c room e, f) (record { opened = b .opened; present = exact-in-bounds (exact fits f) fits })
     go true false e f = rw (accepted s c room e, f) (record { opened = b .opened; present = b .opened })
     go false found e f = rw (refused-same s c room e) b
 
-pub told-sane : (s : Session) (t : Told) (room : ℕ) → Sane s → Sane (afterTold s t room .session)
-unfolding afterTold
-told-sane s (Known c) room b = cut-sane s c room b
-told-sane s Unknown room b = b
+pub numbered-in-bounds : (s : Session) (t : Numbered) (room : ℕ) → SessionInBounds s → SessionInBounds (afterNumbered s t room .session)
+unfolding afterNumbered
+numbered-in-bounds s (Known c) room b = cut-in-bounds s c room b
+numbered-in-bounds s Unknown room b = b

@@ -5,16 +5,17 @@ use Prim.Native.Nat.{ℕ, min, max}
 use lib.IntN.{ℤ}
 use lib.Dec.{eqb, ltb}
 use lib.ListN.{length, set}
+use Rattle.limits.specs.Limits.{lowestPoint, highestPoint, lowestTotal, highestTotal}
 use Rattle.theory_lists.specs.Sum.{at}
-use Rattle.base_codes.specs.Code.{lowestPoint, highestPoint, lowestTotal, highestTotal, within, code}
+use Rattle.base_codes.specs.Code.{within, code}
 use Rattle.theory_method.specs.Filter.{Tight, tightened}
 use Rattle.session.specs.Opening.{rangesOf}
 use Rattle.session.specs.declared.Ranges.{Ranges}
 use Rattle.session.specs.declared.Session.{Session}
 use Rattle.session_cuts.specs.declared.Cut.{Cut}
 use Rattle.session_cuts.specs.declared.Cut.the-variants.{DayFloor, DayCeiling, TotalFloor, TotalCeiling}
-use Rattle.session_cuts.specs.declared.Told.{Told}
-use Rattle.session_cuts.specs.declared.Told.the-variants.{Known, Unknown}
+use Rattle.session_cuts.specs.declared.Numbered.{Numbered}
+use Rattle.session_cuts.specs.declared.Numbered.the-variants.{Known, Unknown}
 use Rattle.theory_lists.specs.Front.{inFront}
 use Rattle.session_changed.specs.Changes.{differs, daysWhere}
 use Rattle.session_cutting.specs.declared.AfterCut.{AfterCut}
@@ -22,23 +23,23 @@ use Rattle.session_cutting.specs.declared.AfterCut.{AfterCut}
 -- ---- the refusals
 
 -- 7: a day not in the profile; 3: a point outside its bounds
-abbrev pub dayRefusal : ℕ → ℕ → ℤ → ℕ
-dayRefusal n day value = cond (ltb day n) (cond (within lowestPoint highestPoint value) 0 3) 7
+abbrev pub dayCutRefusal : ℕ → ℕ → ℤ → ℕ
+dayCutRefusal n day value = cond (ltb day n) (cond (within lowestPoint highestPoint value) 0 3) 7
 
 -- 12: a total cut whose day is not 0; 5: a total bound outside its bounds
-abbrev pub totalRefusal : ℕ → ℤ → ℕ
-totalRefusal day value = cond (eqb day 0) (cond (within lowestTotal highestTotal value) 0 5) 12
+abbrev pub totalCutRefusal : ℕ → ℤ → ℕ
+totalCutRefusal day value = cond (eqb day 0) (cond (within lowestTotal highestTotal value) 0 5) 12
 
 -- the refusal of a cut of n days that is not well-formed, or 0
 abbrev pub malformed : ℕ → Cut → ℕ
-malformed n (DayFloor day value) = dayRefusal n day value
-malformed n (DayCeiling day value) = dayRefusal n day value
-malformed n (TotalFloor day value) = totalRefusal day value
-malformed n (TotalCeiling day value) = totalRefusal day value
+malformed n (DayFloor day value) = dayCutRefusal n day value
+malformed n (DayCeiling day value) = dayCutRefusal n day value
+malformed n (TotalFloor day value) = totalCutRefusal day value
+malformed n (TotalCeiling day value) = totalCutRefusal day value
 
 -- the first refusal of a cut before 8 that applies, or 0, where the list for changed days is that long
-unfoldable pub earlier : Session → Cut → ℕ → ℕ
-earlier s c room =
+unfoldable pub earlyCutting : Session → Cut → ℕ → ℕ
+earlyCutting s c room =
     cond (eqb (malformed (s .days) c) 0) (cond (ltb room (s .days)) 2 (cond (s .spent) 9 0))
     (malformed (s .days) c)
 
@@ -80,16 +81,16 @@ tightenedTo s t =
 
 -- what a cut gives, where the list for changed days is that long
 unfoldable pub afterCut : Session → Cut → ℕ → AfterCut
-afterCut s c room = cond (eqb (earlier s c room) 0) (tightenedTo s (retightened s (clipped (s .present) c))) (refusing (earlier s c room) s)
+afterCut s c room = cond (eqb (earlyCutting s c room) 0) (tightenedTo s (retightened s (clipped (s .present) c))) (refusing (earlyCutting s c room) s)
 
--- the same for a cut told by numbers: an unknown kind is 12
-abbrev pub earlierTold : Session → Told → ℕ → ℕ
-earlierTold s (Known c) room = earlier s c room
-earlierTold s Unknown room = 12
+-- the same for a cut given by numbers: an unknown kind is 12
+abbrev pub earlyNumbered : Session → Numbered → ℕ → ℕ
+earlyNumbered s (Known c) room = earlyCutting s c room
+earlyNumbered s Unknown room = 12
 
-unfoldable pub afterTold : Session → Told → ℕ → AfterCut
-afterTold s (Known c) room = afterCut s c room
-afterTold s Unknown room = refusing 12 s
+unfoldable pub afterNumbered : Session → Numbered → ℕ → AfterCut
+afterNumbered s (Known c) room = afterCut s c room
+afterNumbered s Unknown room = refusing 12 s
 
 -- the lent list afterwards: as it was beside a refusal, else with the changed days at its front
 unfoldable pub listAfter : Session → AfterCut → List ℕ → List ℕ

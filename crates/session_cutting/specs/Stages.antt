@@ -1,10 +1,11 @@
--- A cut by stages, as the code takes them. A reader may pass this page over: the contracts of `cut` and `cut_told` do not cite it.
+-- A cut by stages, as the code takes them. A reader may pass this page over: the contracts of `cut` and `cut_numbered` do not cite it.
 use mathlib.Core.Path.{_≡_}
 use mathlib.Core.Bool.{Bool, true, false}
 use Prim.Native.Nat.{ℕ, _≤_, _<_}
 use lib.IntN.{ℤ}
 use lib.Dec.{eqb, ltb}
-use Rattle.base_codes.specs.Code.{lowestPoint, highestPoint, lowestTotal, highestTotal, code, coded}
+use Rattle.limits.specs.Limits.{mostDays, lowestPoint, highestPoint, lowestTotal, highestTotal, highestLevel}
+use Rattle.base_codes.specs.Code.{code, coded}
 use Rattle.base_codes.specs.declared.Coded.{Coded}
 use Rattle.base_codes.specs.declared.Coded.the-variants.{Code, Outside}
 use Rattle.session_cuts.specs.declared.Cut.{Cut}
@@ -17,15 +18,15 @@ checkedValue true otherwise (Code value) outside = record { refusal = 0; value =
 checkedValue true otherwise Outside outside = record { refusal = outside; value = 0 }
 checkedValue false otherwise value outside = record { refusal = otherwise; value = 0 }
 
-unfoldable pub checked : ℕ → Cut → Checked
-checked n (DayFloor day value) = checkedValue (ltb day n) 7 (coded lowestPoint highestPoint value) 3
-checked n (DayCeiling day value) = checkedValue (ltb day n) 7 (coded lowestPoint highestPoint value) 3
-checked n (TotalFloor day value) = checkedValue (eqb day 0) 12 (coded lowestTotal highestTotal value) 5
-checked n (TotalCeiling day value) = checkedValue (eqb day 0) 12 (coded lowestTotal highestTotal value) 5
+unfoldable pub checkedCut : ℕ → Cut → Checked
+checkedCut n (DayFloor day value) = checkedValue (ltb day n) 7 (coded lowestPoint highestPoint value) 3
+checkedCut n (DayCeiling day value) = checkedValue (ltb day n) 7 (coded lowestPoint highestPoint value) 3
+checkedCut n (TotalFloor day value) = checkedValue (eqb day 0) 12 (coded lowestTotal highestTotal value) 5
+checkedCut n (TotalCeiling day value) = checkedValue (eqb day 0) 12 (coded lowestTotal highestTotal value) 5
 
 -- v is a day cut's value as a level, and the arrays have that day
 abbrev pub DayClips : ℕ → ℤ → ℕ → Type 0
-DayClips day value v = (day < 512) × (v ≡ code lowestPoint value) × (v ≤ 5000)
+DayClips day value v = (day < mostDays) × (v ≡ code lowestPoint value) × (v ≤ highestLevel)
 
 -- what clipping asks of a cut, with its value as it is held
 abbrev pub Clips : Cut → ℕ → Type 0

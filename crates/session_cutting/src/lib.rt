@@ -2,19 +2,21 @@
 ghost use mathlib.Core.Path.{_≡_};
 ghost use Prim.Native.Nat.{_≤_, _<_};
 ghost use lib.ListN.{length};
-ghost use Rattle.session_cuts.specs.Told.{told};
-ghost use Rattle.base_codes.specs.Code.{lowestPoint, highestPoint, lowestTotal, highestTotal, coded};
-ghost use Rattle.session.specs.Showing.{Sane};
-ghost use Rattle.session_cutting.specs.Cutting.{malformed, clipped, retightened, spend, withPresent, refusing, tightenedTo, afterCut, afterTold, listAfter};
-ghost use Rattle.session_cutting.specs.Stages.{checkedValue, checked, Clips};
+ghost use Rattle.limits.specs.Limits.{lowestPoint, highestPoint, lowestTotal, highestTotal};
+ghost use Rattle.session_cuts.specs.Numbered.{numbered};
+ghost use Rattle.base_codes.specs.Code.{coded};
+ghost use Rattle.session.specs.Showing.{SessionInBounds};
+ghost use Rattle.session_cutting.specs.Cutting.{malformed, clipped, retightened, spend, withPresent, refusing, tightenedTo, afterCut, afterNumbered, listAfter};
+ghost use Rattle.session_cutting.specs.Stages.{checkedValue, checkedCut, Clips};
 use base_codes::Coded;
-use base_numbers::greatest;
-use base_numbers::least;
+use base_numbers::max;
+use base_numbers::min;
 use base_numbers::wide;
+use limits::MOST_DAYS;
 use session::Ranges;
 use session::Session;
 use session_cuts::Cut;
-use session_cuts::Told;
+use session_cuts::Numbered;
 
 // The refusal's number, 0 for none, and the number of days whose range changed.
 pub struct CutAnswer {
@@ -78,7 +80,7 @@ fn check_total(placed: bool, value: i32) -> Checked
 }
 
 fn check(cut: Cut, days: usize) -> Checked
-    ensures { λ r. ⌜ r ≡ checked days cut ⌝ }
+    ensures { λ r. ⌜ r ≡ checkedCut days cut ⌝ }
 {
     match cut {
         Cut::DayFloor(day, value) => check_day(day < days, value),
@@ -100,8 +102,8 @@ pub fn malformed(cut: Cut, days: usize) -> u8
 fn clip(
     cut: Cut,
     value: usize,
-    floors: &mut [u16; 512],
-    ceilings: &mut [u16; 512],
+    floors: &mut [u16; MOST_DAYS],
+    ceilings: &mut [u16; MOST_DAYS],
     lowest: usize,
     highest: usize,
 ) -> Total
@@ -110,26 +112,26 @@ fn clip(
 {
     match cut {
         Cut::DayFloor(day, _) => {
-            floors[day] = greatest(wide(floors[day]), value) as u16;
+            floors[day] = max(wide(floors[day]), value) as u16;
             Total {
                 least: lowest,
                 most: highest,
             }
         }
         Cut::DayCeiling(day, _) => {
-            ceilings[day] = least(wide(ceilings[day]), value) as u16;
+            ceilings[day] = min(wide(ceilings[day]), value) as u16;
             Total {
                 least: lowest,
                 most: highest,
             }
         }
         Cut::TotalFloor(_, _) => Total {
-            least: greatest(lowest, value),
+            least: max(lowest, value),
             most: highest,
         },
         Cut::TotalCeiling(_, _) => Total {
             least: lowest,
-            most: least(highest, value),
+            most: min(highest, value),
         },
     }
 }
@@ -173,7 +175,7 @@ fn accept(session: Session, ranges: Ranges, changed: usize) -> AfterCut
 
 // Clips by a well-formed cut and tightens everything again: 8, or the days that changed.
 fn tighten_again(session: Session, cut: Cut, value: usize, changed: &mut [u16]) -> AfterCut
-    requires { ⌜ Sane session × (malformed (session .days) cut ≡ 0) × Clips cut value × (session .days ≤ length (now changed)) ⌝ }
+    requires { ⌜ SessionInBounds session × (malformed (session .days) cut ≡ 0) × Clips cut value × (session .days ≤ length (now changed)) ⌝ }
     ensures { λ r. ⌜ r ≡ tightenedTo session (retightened session (clipped (session .present) cut)) ⌝ }
     ensures { λ r. ⌜ now (changed .exit) ≡ listAfter session r (now (changed .entry)) ⌝ }
 {
@@ -202,7 +204,7 @@ fn tighten_again(session: Session, cut: Cut, value: usize, changed: &mut [u16]) 
 
 // Clips the session's ranges and tightens everything again; document 01's checks 12, 7, 3 or 5, 2, 9, then 8.
 pub fn cut(session: Session, cut: Cut, changed: &mut [u16]) -> AfterCut
-    requires { ⌜ Sane session ⌝ }
+    requires { ⌜ SessionInBounds session ⌝ }
     ensures { λ r. ⌜ r ≡ afterCut session cut (length (now (changed .entry))) ⌝ }
     ensures { λ r. ⌜ now (changed .exit) ≡ listAfter session r (now (changed .entry)) ⌝ }
 {
@@ -220,19 +222,19 @@ pub fn cut(session: Session, cut: Cut, changed: &mut [u16]) -> AfterCut
     tighten_again(session, cut, checked.value, changed)
 }
 
-// The same for a cut told by numbers; an unknown kind is 12.
-pub fn cut_told(
+// The same for a cut given by numbers; an unknown kind is 12.
+pub fn cut_numbered(
     session: Session,
     kind: usize,
     day: usize,
     value: i32,
     changed: &mut [u16],
 ) -> AfterCut
-    requires { ⌜ Sane session ⌝ }
-    ensures { λ r. ⌜ r ≡ afterTold session (told kind day value) (length (now (changed .entry))) ⌝ }
+    requires { ⌜ SessionInBounds session ⌝ }
+    ensures { λ r. ⌜ r ≡ afterNumbered session (numbered kind day value) (length (now (changed .entry))) ⌝ }
     ensures { λ r. ⌜ now (changed .exit) ≡ listAfter session r (now (changed .entry)) ⌝ }
 {
-    let Told::Known(c) = Cut::told(kind, day, value) else {
+    let Numbered::Known(c) = Cut::numbered(kind, day, value) else {
         return refuse(session, 12);
     };
     cut(session, c, changed)

@@ -1,7 +1,7 @@
 // A batch's session, lent for each cut.
 ghost use mathlib.Core.Path.{_≡_};
 ghost use lib.ListN.{length};
-ghost use Rattle.session.specs.Showing.{Sane};
+ghost use Rattle.session.specs.Showing.{SessionInBounds};
 ghost use Rattle.session_cutting.specs.Cutting.{afterCut, listAfter};
 use session::Session;
 use session_cuts::Cut;
@@ -10,7 +10,7 @@ use session_cutting::CutAnswer;
 
 // The panel holds one session for a whole batch, and each cut changes that session.
 pub fn cut(session: &mut Session, cut: Cut, changed: &mut [u16]) -> CutAnswer
-    requires { ⌜ Sane (now session) ⌝ }
+    requires { ⌜ SessionInBounds (now session) ⌝ }
     ensures { λ r. ⌜ now (session .exit) ≡ afterCut (now (session .entry)) cut (length (now (changed .entry))) .session ⌝ }
     ensures { λ r. ⌜ now (changed .exit) ≡ listAfter (now (session .entry)) (afterCut (now (session .entry)) cut (length (now (changed .entry)))) (now (changed .entry)) ⌝ }
     ensures { λ r. ⌜ r ≡ afterCut (now (session .entry)) cut (length (now (changed .entry))) .answer ⌝ }
@@ -22,7 +22,7 @@ pub fn cut(session: &mut Session, cut: Cut, changed: &mut [u16]) -> CutAnswer
 
 // The same for callers that hold the session by value.
 pub fn cut_held(session: Session, cut: Cut, changed: &mut [u16]) -> AfterCut
-    requires { ⌜ Sane session ⌝ }
+    requires { ⌜ SessionInBounds session ⌝ }
     ensures { λ r. ⌜ r ≡ afterCut session cut (length (now (changed .entry))) ⌝ }
     ensures { λ r. ⌜ now (changed .exit) ≡ listAfter session r (now (changed .entry)) ⌝ }
 {

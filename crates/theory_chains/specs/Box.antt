@@ -10,7 +10,7 @@ use Rattle.theory_chains.specs.Ceilings.{ceiling, best}
 use Rattle.theory_chains.specs.Floors.{floorOf}
 use Rattle.theory_chains.specs.Exact.{Sched, total-taken, ceil-bounds, floor-bounds, day-taken}
 use Rattle.theory_chains.specs.Settle.{Greatest, settled, capped, settled-least, settled-above, settled-chain, capped-greatest}
-use Rattle.theory_chains.specs.Spans.{Spans}
+use Rattle.theory_chains.specs.Spans.{NatSpans}
 
 -- the exact ceilings and floors of the days
 abbrev pub high : (w : ℕ → Bool) (n : ℕ) (g a₀ b₀ : ℕ → ℕ) (U top k : ℕ) → ℕ
@@ -21,8 +21,8 @@ low w n g a₀ b₀ L U top = floorOf w n g (settled n g a₀) (high w n g a₀ 
 
 -- the exact ranges of the days and of the total
 pub record Ranges (w : ℕ → Bool) (n : ℕ) (g a b : ℕ → ℕ) (L U : ℕ) (lo hi : ℕ → ℕ) (least most : ℕ) : Type 0 where
-  pub day : (k : ℕ) → k < n → Spans (Sched w n g a b L U) (λ y. y k) (lo k) (hi k)
-  pub total : Spans (Sched w n g a b L U) (sum w n) least most
+  pub day : (k : ℕ) → k < n → NatSpans (Sched w n g a b L U) (λ y. y k) (lo k) (hi k)
+  pub total : NatSpans (Sched w n g a b L U) (sum w n) least most
 
 module _ (w : ℕ → Bool) (n : ℕ) (g a₀ b₀ : ℕ → ℕ) (L U top : ℕ) (cap : Below n b₀ (λ _. top)) where
   abbrev a : ℕ → ℕ
@@ -83,7 +83,7 @@ module _ (w : ℕ → Bool) (n : ℕ) (g a₀ b₀ : ℕ → ℕ) (L U top : ℕ
         omega (arith, sum-le w n (t .at) hi up, t .adds, sum-le w n hi b (λ k h. best n g w a b ca cb ab U room k h .most))
 
     module _ (order : L ≤ U) (reachable : L ≤ sum w n (capped n top g b₀)) where
-      totals : Spans (Sched w n g a₀ b₀ L U) (sum w n) (max L (sum w n a)) (min U (sum w n b))
+      totals : NatSpans (Sched w n g a₀ b₀ L U) (sum w n) (max L (sum w n a)) (min U (sum w n b))
       totals =
           record {
             some = omega (arith, ab-sum);
@@ -107,7 +107,7 @@ module _ (w : ℕ → Bool) (n : ℕ) (g a₀ b₀ : ℕ → ℕ) (L U top : ℕ
           (max L (sum w n (settled n g a₀))) (min U (sum w n (capped n top g b₀)))
       sufficient = record { day = days; total = totals }
         where
-          days : (k : ℕ) → k < n → Spans (Sched w n g a₀ b₀ L U) (λ y. y k) (lo k) (hi k)
+          days : (k : ℕ) → k < n → NatSpans (Sched w n g a₀ b₀ L U) (λ y. y k) (lo k) (hi k)
           days k h =
               let one = totals .taken (max L (sum w n a)) (le-refl (max L (sum w n a))) (totals .some) in
               record {

@@ -9,7 +9,7 @@ use Rattle.theory_chains.specs.Chain.{Chain, Below}
 use Rattle.theory_chains.specs.Fit.{Fitted}
 use Rattle.theory_chains.specs.Ceilings.{through, cost, ceiling, best, ceiling-bounds, ceiling-chain, through-chain, through-above, through-at, chain-up}
 use Rattle.theory_chains.specs.Settle.{Greatest}
-use Rattle.theory_chains.specs.Rounds.{free, overload, cost-overload, reach-free}
+use Rattle.theory_chains.specs.Rounds.{free, overloadFrom, cost-overload, reach-free}
 
 module _ (w : ℕ → Bool) (n : ℕ) (a b₀ b : ℕ → ℕ) (small : Below n b₀ free) (ca : Chain n free a) (bs : Greatest n free b₀ b)
     (fits : Below n a b₀) (U : ℕ) (room : sum w n a ≤ U) where
@@ -43,10 +43,10 @@ module _ (w : ℕ → Bool) (n : ℕ) (a b₀ b : ℕ → ℕ) (small : Below n 
 
     -- so day i's ceiling is the greatest level up to those two whose overload is within the margin; m is the next day's, and past the last day its own
     pub next-ceiling : (v m : ℕ) → (suc i < n → m ≡ ceiling w n free a b U (suc i)) → (suc i ≡ n → m ≡ b₀ i)
-        → Fitted (overload w n a i) (U - sum w n a) (a i) (min m (b₀ i)) v → v ≡ ceiling w n free a b U i
+        → Fitted (overloadFrom w n a i) (U - sum w n a) (a i) (min m (b₀ i)) v → v ≡ ceiling w n free a b U i
     next-ceiling v m next last f = go (decLt (hi i) v) (decLt v (hi i))
       where
-        load : (u : ℕ) → u ≤ b₀ i → cost w n free a i u ≡ sum w n a + overload w n a i u
+        load : (u : ℕ) → u ≤ b₀ i → cost w n free a i u ≡ sum w n a + overloadFrom w n a i u
         load u l = cost-overload a w i u (omega (arith, small i h)) n
 
         within : Dec (suc i < n) → hi i ≤ min m (b₀ i)

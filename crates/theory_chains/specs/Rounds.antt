@@ -37,8 +37,8 @@ module _ (w : ℕ → Bool) (i k v : ℕ) where
       go (no l) = refl
 
 -- what day i at v puts on the days from i on, over their floors
-abbrev pub overload : (w : ℕ → Bool) (n : ℕ) (a : ℕ → ℕ) (i v : ℕ) → ℕ
-overload w n a i v = sum (from i w) n (λ k. v - a k)
+abbrev pub overloadFrom : (w : ℕ → Bool) (n : ℕ) (a : ℕ → ℕ) (i v : ℕ) → ℕ
+overloadFrom w n a i v = sum (from i w) n (λ k. v - a k)
 
 pub reach-free : (k : ℕ) → reach free k ≡ k * 16777216
 reach-free zero = omega arith
@@ -56,7 +56,7 @@ module _ (a : ℕ → ℕ) (w : ℕ → Bool) (i v : ℕ) (small : v ≤ 1677721
       go (no h) false = refl
 
   -- the cost is the sum of the floors and the overload
-  pub cost-overload : (n : ℕ) → cost w n free a i v ≡ sum w n a + overload w n a i v
+  pub cost-overload : (n : ℕ) → cost w n free a i v ≡ sum w n a + overloadFrom w n a i v
   cost-overload zero = refl
   cost-overload (suc n) = omega (arith, cost-overload n, one-day n)
 

@@ -15,7 +15,7 @@ use Rattle.theory_chains.specs.Ceilings.{ceiling-chain}
 use Rattle.theory_chains.specs.Settle.{Greatest, settled, capped, settled-chain, settled-same, capped-greatest}
 use Rattle.theory_chains.specs.Rounds.{free}
 use Rattle.theory_chains.specs.Box.{high, low, Ranges, inward, total-kept, sufficient}
-use Rattle.theory_chains.specs.Spans.{Spans, spans-same}
+use Rattle.theory_chains.specs.Spans.{NatSpans, spans-same}
 use Rattle.theory_method.specs.Shift.{shift}
 use Rattle.theory_method.specs.Filter as Filter
 use Rattle.theory_method.specs.Filter.{InBounds, Tight, held, shifted, lowered, carried, firstCrossed, forwarded, loweredAll, raised, tightFloors, tightCeilings, tightened}
@@ -25,8 +25,8 @@ use Rattle.theory_method.proofs.Passes.{scale, within-scale, ceilings-a
 
 -- the ranges of t are the values that levels within the bounds take, and no others; past the last day nothing has changed
 pub record Exact (fs cs rs : List ℕ) (n L U : ℕ) (t : Tight) : Type 0 where
-  pub day : (k : ℕ) → k < n → Spans (Levels fs cs rs n L U) (λ x. x k) (at (t .floors) k) (at (t .ceilings) k)
-  pub total : Spans (Levels fs cs rs n L U) (held n) (t .least) (t .most)
+  pub day : (k : ℕ) → k < n → NatSpans (Levels fs cs rs n L U) (λ x. x k) (at (t .floors) k) (at (t .ceilings) k)
+  pub total : NatSpans (Levels fs cs rs n L U) (held n) (t .least) (t .most)
   pub floors : length (t .floors) ≡ 512
   pub ceilings : length (t .ceilings) ≡ 512
   pub floors-past : (k : ℕ) → n ≤ k → at (t .floors) k ≡ at fs k

@@ -38,7 +38,7 @@ from-sum f i (suc n) = go (decLe i n) (from-sum f i n)
 module _ {fs cs rs : List ℕ} {n : ℕ} (r : Ready fs cs rs n) (a b₀ b : ℕ → ℕ) (a-is : (k : ℕ) → k < n → a k ≡ shifted fs rs n k)
     (b-is : (k : ℕ) → k < n → b₀ k ≡ shifted cs rs n k) (ca : Chain n free a) (bs : Greatest n free b₀ b) (U margin : ℕ)
     (room : sum all n a ≤ U) (m-is : margin ≡ U - sum all n a) where
-  load : (i v : ℕ) → overload fs rs n i v ≡ Rounds.overload all n a i v
+  load : (i v : ℕ) → overload fs rs n i v ≡ Rounds.overloadFrom all n a i v
   load i v = sym (from-sum (above (shifted fs rs n) v) i n) ∙ sum-eq (from i all) n (above (shifted fs rs n) v) (λ k. v - a k) (λ k h. omega (arith, a-is k h))
 
   ceiling-from : (d k : ℕ) → k < n → n - k ≤ d → loweredFrom fs cs rs n margin (n - k) ≡ ceiling all n free a b U k

@@ -5,6 +5,7 @@ use mathlib.Core.Bool.{Bool, true, false, cond}
 use mathlib.Core.List.{List}
 use lib.Dec.{ltb}
 use lib.ListN.{length, replicate}
+use Rattle.limits.specs.Limits.{mostDays, levelOffset, highestLevel, riseOffset, highestRiseCode, highestTotalCode}
 use Rattle.theory_lists.specs.Sum.{sumFor, at, above}
 use Rattle.theory_lists.specs.Written.{written}
 use Rattle.theory_lists.specs.First.{firstWhere}
@@ -15,22 +16,22 @@ use Rattle.theory_method.specs.Shift.{shift}
 -- n days of levels up to 5,000 and rise codes up to 4,000, and totals up to 2,560,000, held plus 512,000
 pub record InBounds (fs cs rs : List ℕ) (n L U : ℕ) : Type 0 where
   pub some : 0 < n
-  pub most : n ≤ 512
-  pub floors : length fs ≡ 512
-  pub ceilings : length cs ≡ 512
-  pub rises : length rs ≡ 512
-  pub floor : (k : ℕ) → k < n → at fs k ≤ 5000
-  pub ceiling : (k : ℕ) → k < n → at cs k ≤ 5000
-  pub rise : (k : ℕ) → k < n → at rs k ≤ 4000
-  pub lowest : L ≤ 2560000
-  pub highest : U ≤ 2560000
+  pub most : n ≤ mostDays
+  pub floors : length fs ≡ mostDays
+  pub ceilings : length cs ≡ mostDays
+  pub rises : length rs ≡ mostDays
+  pub floor : (k : ℕ) → k < n → at fs k ≤ highestLevel
+  pub ceiling : (k : ℕ) → k < n → at cs k ≤ highestLevel
+  pub rise : (k : ℕ) → k < n → at rs k ≤ highestRiseCode
+  pub lowest : L ≤ highestTotalCode
+  pub highest : U ≤ highestTotalCode
 
 -- ---- carrying
 
 -- the floor of day k, carried forward: at least the one before plus the rise between them
 unfoldable pub carried : List ℕ → List ℕ → ℕ → ℕ
 carried fs rs zero = at fs 0
-carried fs rs (suc k) = max (at fs (suc k)) (carried fs rs k + at rs k - 2000)
+carried fs rs (suc k) = max (at fs (suc k)) (carried fs rs k + at rs k - riseOffset)
 
 -- the first of n days at which a is above b, or n
 abbrev pub firstCrossed : (ℕ → ℕ) → (ℕ → ℕ) → ℕ → ℕ
@@ -60,14 +61,14 @@ lowered fs cs rs n margin k = loweredFrom fs cs rs n margin (n - k) - shift (at 
 -- ---- floors, as the mirror: days from the other end, levels from the other end of the scale
 
 abbrev pub mirrored : List ℕ → ℕ → ℕ → ℕ
-mirrored l n k = 5000 - at l (n - (k + 1))
+mirrored l n k = highestLevel - at l (n - (k + 1))
 
 -- the rise from day k to the next, of the days from the other end
 abbrev pub reversed : List ℕ → ℕ → ℕ → ℕ
 reversed rs n k = at rs (n - (k + 2))
 
 abbrev pub zeros : List ℕ
-zeros = replicate 512 0
+zeros = replicate mostDays 0
 
 unfoldable pub raised : List ℕ → List ℕ → List ℕ → ℕ → ℕ → List ℕ
 raised fs cs rs n margin =
@@ -80,7 +81,7 @@ raised fs cs rs n margin =
 
 -- a held total is the sum of the levels plus 1,000 for each day that the profile has less than 512
 abbrev pub held : ℕ → (ℕ → ℕ) → ℕ
-held n x = sum all n x + 1000 * (512 - n)
+held n x = sum all n x + levelOffset * (mostDays - n)
 
 -- what tightening gives: whether there is a schedule, the ranges of the days, and the total's
 pub record Tight : Type 0 where

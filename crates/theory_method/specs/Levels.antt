@@ -5,6 +5,7 @@ use mathlib.Core.List.{List}
 use native.Mathlib.Numerals.{add-one}
 use native.Mathlib.Omega.{arith}
 use lib.ListN.{length, set, length-set}
+use Rattle.limits.specs.Limits.{mostDays, levelOffset, highestLevel, riseOffset, highestTotalCode}
 use Rattle.theory_lists.specs.Sum.{at}
 use Rattle.theory_lists.specs.Written.{by-cell}
 use Rattle.theory_chains.specs.Sum.{sum, all, sum-eq}
@@ -12,7 +13,7 @@ use Rattle.theory_chains.specs.Chain.{Below}
 use Rattle.theory_chains.specs.Mirror.{sum-add}
 use Rattle.theory_chains.specs.Exact.{Sched}
 use Rattle.theory_chains.specs.Rounds.{free}
-use Rattle.theory_chains.specs.Spans.{Spans, spans-moved}
+use Rattle.theory_chains.specs.Spans.{NatSpans, spans-moved}
 use Rattle.theory_method.specs.Shift.{shift, shift-low}
 use Rattle.theory_method.specs.Filter.{InBounds, shifted, held}
 use Rattle.theory_method.specs.Stages.{Ready, shifted-rise, shift-most}
@@ -21,13 +22,13 @@ use Rattle.theory_method.specs.Stages.{Ready, shifted-rise, shift-most}
 pub record Levels (fs cs rs : List ℕ) (n L U : ℕ) (x : ℕ → ℕ) : Type 0 where
   pub floor : (k : ℕ) → k < n → at fs k ≤ x k
   pub ceiling : (k : ℕ) → k < n → x k ≤ at cs k
-  pub rise : (k : ℕ) → k + 1 < n → x k + at rs k ≤ x (k + 1) + 2000
+  pub rise : (k : ℕ) → k + 1 < n → x k + at rs k ≤ x (k + 1) + riseOffset
   pub least : L ≤ held n x
   pub most : held n x ≤ U
 
 -- other ranges in bounds, the same rises
-pub refit : {fs gs cs ds rs : List ℕ} {n L L′ U U′ : ℕ} → InBounds fs cs rs n L U → length gs ≡ 512 → length ds ≡ 512 → ((k : ℕ) → k < n → at gs k ≤ 5000)
-    → ((k : ℕ) → k < n → at ds k ≤ 5000) → L′ ≤ 2560000 → U′ ≤ 2560000 → InBounds gs ds rs n L′ U′
+pub refit : {fs gs cs ds rs : List ℕ} {n L L′ U U′ : ℕ} → InBounds fs cs rs n L U → length gs ≡ mostDays → length ds ≡ mostDays → ((k : ℕ) → k < n → at gs k ≤ highestLevel)
+    → ((k : ℕ) → k < n → at ds k ≤ highestLevel) → L′ ≤ highestTotalCode → U′ ≤ highestTotalCode → InBounds gs ds rs n L′ U′
 refit b floors ceilings floor ceiling lowest highest = record {
   some = b .some;
   most = b .most;
@@ -42,11 +43,11 @@ refit b floors ceilings floor ceiling lowest highest = record {
 }
 
 -- the range of one day set to one level
-pub refit-day : {fs cs rs : List ℕ} {n L U : ℕ} → InBounds fs cs rs n L U → (d v : ℕ) → d < n → v ≤ 5000 → InBounds (set fs d v) (set cs d v) rs n L U
+pub refit-day : {fs cs rs : List ℕ} {n L U : ℕ} → InBounds fs cs rs n L U → (d v : ℕ) → d < n → v ≤ highestLevel → InBounds (set fs d v) (set cs d v) rs n L U
 refit-day {fs} {cs} b d v h small =
     refit b (length-set fs d v ∙ b .floors) (length-set cs d v ∙ b .ceilings)
-    (λ k l. by-cell (λ _ a. a ≤ 5000) 0 fs d v (omega (arith, b .floors, b .most)) small k (b .floor k l))
-    (λ k l. by-cell (λ _ a. a ≤ 5000) 0 cs d v (omega (arith, b .ceilings, b .most)) small k (b .ceiling k l)) (b .lowest) (b .highest)
+    (λ k l. by-cell (λ _ a. a ≤ highestLevel) 0 fs d v (omega (arith, b .floors, b .most)) small k (b .floor k l))
+    (λ k l. by-cell (λ _ a. a ≤ highestLevel) 0 cs d v (omega (arith, b .ceilings, b .most)) small k (b .ceiling k l)) (b .lowest) (b .highest)
 
 -- levels within other bounds, the same rises
 pub rebound : {fs gs cs ds rs : List ℕ} {n L L′ U U′ : ℕ} {x : ℕ → ℕ} → Levels fs cs rs n L U x → ((k : ℕ) → k < n → at gs k ≤ x k) → ((k : ℕ) → k < n → x k ≤ at ds k)
@@ -55,7 +56,7 @@ rebound l floor ceiling least most = record { floor = floor; ceiling = ceiling; 
 
 -- a held total as the total of the shifted levels
 abbrev pub shiftedTotal : List ℕ → ℕ → ℕ → ℕ
-shiftedTotal rs n t = t + sum all n (shift (at rs) n) - 1000 * (512 - n)
+shiftedTotal rs n t = t + sum all n (shift (at rs) n) - levelOffset * (mostDays - n)
 
 sum-last : (n : ℕ) (y : ℕ → ℕ) → 0 < n → y (n - 1) ≤ sum all n y
 sum-last zero y h = absurd (omega arith)
@@ -66,7 +67,7 @@ module _ {fs cs rs : List ℕ} {n : ℕ} (r : Ready fs cs rs n) where
   sh = shift (at rs) n
 
   -- the shifts are more than what is held for the days that the profile has less
-  pub shifts-low : 1000 * (512 - n) ≤ sum all n (shift (at rs) n)
+  pub shifts-low : levelOffset * (mostDays - n) ≤ sum all n (shift (at rs) n)
   shifts-low = omega (arith, r .some, sum-last n sh (r .some), shift-low (at rs) n (r .most) (r .rise) (n - (n - 1)) (omega arith))
 
   pub shifted-sum : (x : ℕ → ℕ) → sum all n (λ k. x k + shift (at rs) n k) ≡ sum all n x + sum all n (shift (at rs) n)
@@ -113,16 +114,16 @@ module _ {fs cs rs : List ℕ} {n : ℕ} (r : Ready fs cs rs n) where
 
     -- the ranges of the shifted schedules, moved back
     pub day-spans : (k : ℕ) → k < n → {lo hi : ℕ} (floor ceiling : ℕ)
-        → Spans (Sched all n free (shifted fs rs n) (shifted cs rs n) (shiftedTotal rs n L) (shiftedTotal rs n U)) (λ y. y k) lo hi
-        → floor + shift (at rs) n k ≡ lo → ceiling + shift (at rs) n k ≡ hi → Spans (Levels fs cs rs n L U) (λ x. x k) floor ceiling
+        → NatSpans (Sched all n free (shifted fs rs n) (shifted cs rs n) (shiftedTotal rs n L) (shiftedTotal rs n U)) (λ y. y k) lo hi
+        → floor + shift (at rs) n k ≡ lo → ceiling + shift (at rs) n k ≡ hi → NatSpans (Levels fs cs rs n L U) (λ x. x k) floor ceiling
     day-spans k h floor ceiling s low high =
         spans-moved (sh k) 0 s (λ x l. ((λ j. x j + sh j), shifted-sched x l, omega arith)) (λ y l. ((λ j. y j - sh j), unshifted y l, omega (arith, over y l k h)))
         (omega arith) (omega arith)
 
     pub total-spans : {lo hi : ℕ} (least most : ℕ)
-        → Spans (Sched all n free (shifted fs rs n) (shifted cs rs n) (shiftedTotal rs n L) (shiftedTotal rs n U)) (sum all n) lo hi
-        → least + sum all n (shift (at rs) n) ≡ lo + 1000 * (512 - n) → most + sum all n (shift (at rs) n) ≡ hi + 1000 * (512 - n)
-        → Spans (Levels fs cs rs n L U) (held n) least most
+        → NatSpans (Sched all n free (shifted fs rs n) (shifted cs rs n) (shiftedTotal rs n L) (shiftedTotal rs n U)) (sum all n) lo hi
+        → least + sum all n (shift (at rs) n) ≡ lo + levelOffset * (mostDays - n) → most + sum all n (shift (at rs) n) ≡ hi + levelOffset * (mostDays - n)
+        → NatSpans (Levels fs cs rs n L U) (held n) least most
     total-spans least most s =
-        spans-moved (sum all n sh) (1000 * (512 - n)) s (λ x l. ((λ j. x j + sh j), shifted-sched x l, omega (arith, shifted-sum x)))
+        spans-moved (sum all n sh) (levelOffset * (mostDays - n)) s (λ x l. ((λ j. x j + sh j), shifted-sched x l, omega (arith, shifted-sum x)))
         (λ y l. ((λ j. y j - sh j), unshifted y l, omega (arith, unshifted-sum y (over y l))))

@@ -11,6 +11,7 @@ use native.Mathlib.Decide.{decLt}
 use lib.Dec.{ltb}
 use lib.ListN.{length, length-replicate, getD-replicate}
 use borrow.Author.Tests.{ltb-true, ltb-false}
+use Rattle.limits.specs.Limits.{mostDays, highestLevel, riseOffset, highestRiseCode, highestShift}
 use Rattle.theory_lists.specs.Sum.{at, above, sum-most}
 use Rattle.theory_lists.specs.First.{first}
 use Rattle.theory_lists.specs.Written.{written, length-written, written-below, written-past}
@@ -23,18 +24,18 @@ use Rattle.theory_method.specs.Filter.{InBounds, carried, firstCrossed, 
 
 -- levels that obey the least rises
 abbrev pub Rising : List ℕ → List ℕ → ℕ → Type 0
-Rising l rs n = (k : ℕ) → k + 1 < n → at l k + at rs k ≤ at l (k + 1) + 2000
+Rising l rs n = (k : ℕ) → k + 1 < n → at l k + at rs k ≤ at l (k + 1) + riseOffset
 
 -- what the pass over the ceilings asks: floors below ceilings, and carried
 pub record Ready (fs cs rs : List ℕ) (n : ℕ) : Type 0 where
   pub some : 0 < n
-  pub most : n ≤ 512
-  pub floors : length fs ≡ 512
-  pub ceilings : length cs ≡ 512
-  pub rises : length rs ≡ 512
+  pub most : n ≤ mostDays
+  pub floors : length fs ≡ mostDays
+  pub ceilings : length cs ≡ mostDays
+  pub rises : length rs ≡ mostDays
   pub fits : (k : ℕ) → k < n → at fs k ≤ at cs k
-  pub ceiling : (k : ℕ) → k < n → at cs k ≤ 5000
-  pub rise : (k : ℕ) → k < n → at rs k ≤ 4000
+  pub ceiling : (k : ℕ) → k < n → at cs k ≤ highestLevel
+  pub rise : (k : ℕ) → k < n → at rs k ≤ highestRiseCode
   pub rising : Rising fs rs n
 
 -- ---- carrying
@@ -68,7 +69,7 @@ module _ (fs rs : List ℕ) where
   carried-above zero = le-refl (at fs 0)
   carried-above (suc k) = omega arith
 
-  pub carried-rise : (k : ℕ) → carried fs rs k + at rs k ≤ carried fs rs (k + 1) + 2000
+  pub carried-rise : (k : ℕ) → carried fs rs k + at rs k ≤ carried fs rs (k + 1) + riseOffset
   unfolding carried
   carried-rise k = rw add-one (omega arith)
 
@@ -95,10 +96,10 @@ module _ {fs cs rs : List ℕ} {n L U : ℕ} (b : InBounds fs cs rs n L U) (uncr
 
 module _ {fs cs rs : List ℕ} {n : ℕ} (r : Ready fs cs rs n) where
   -- a least rise, shifted
-  pub shifted-rise : (u v k : ℕ) → k + 1 < n → (u + at rs k ≤ v + 2000) ↔ (u + shift (at rs) n k ≤ v + shift (at rs) n (k + 1))
+  pub shifted-rise : (u v k : ℕ) → k + 1 < n → (u + at rs k ≤ v + riseOffset) ↔ (u + shift (at rs) n k ≤ v + shift (at rs) n (k + 1))
   shifted-rise u v k h = omega (arith, shift-step (at rs) n (r .most) (r .rise) k (omega arith))
 
-  pub shift-most : (k : ℕ) → shift (at rs) n k ≤ 2048000
+  pub shift-most : (k : ℕ) → shift (at rs) n k ≤ highestShift
   shift-most k = omega (arith, r .most, shift-high (at rs) n (r .most) (r .rise) (n - k) (omega arith))
 
   pub floors-chain : Chain n free (shifted fs rs n)
@@ -199,18 +200,18 @@ mirroredAll l n = written (mirrored l n) n zeros
 abbrev pub reversedAll : List ℕ → ℕ → List ℕ
 reversedAll rs n = written (reversed rs n) (n - 1) zeros
 
-zeros-length : length zeros ≡ 512
-zeros-length = length-replicate {A = ℕ} 512 0
+zeros-length : length zeros ≡ mostDays
+zeros-length = length-replicate {A = ℕ} mostDays 0
 
-module _ (n : ℕ) (few : n ≤ 512) where
+module _ (n : ℕ) (few : n ≤ mostDays) where
   pub mirrored-at : (l : List ℕ) (k : ℕ) → k < n → at (mirroredAll l n) k ≡ mirrored l n k
   mirrored-at l k h = written-below (mirrored l n) 0 n zeros k h (omega (arith, zeros-length))
 
   pub reversed-at : (rs : List ℕ) (k : ℕ) → k + 1 < n → at (reversedAll rs n) k ≡ reversed rs n k
   reversed-at rs k h = written-below (reversed rs n) 0 (n - 1) zeros k (omega arith) (omega (arith, zeros-length))
 
-  pub reversed-last : (rs : List ℕ) (k : ℕ) → n ≤ k + 1 → k < 512 → at (reversedAll rs n) k ≡ 0
-  reversed-last rs k h l = written-past (reversed rs n) 0 (n - 1) zeros k (omega arith) ∙ getD-replicate 512 k 0 0 l
+  pub reversed-last : (rs : List ℕ) (k : ℕ) → n ≤ k + 1 → k < mostDays → at (reversedAll rs n) k ≡ 0
+  reversed-last rs k h l = written-past (reversed rs n) 0 (n - 1) zeros k (omega arith) ∙ getD-replicate mostDays k 0 0 l
 
 -- (iii) the mirror of floors and ceilings that both obey the least rises can go through the same pass
 pub mirrored-ready : {fs cs rs : List ℕ} {n : ℕ} → Ready fs cs rs n → Rising cs rs n → Ready (mirroredAll cs n) (mirroredAll fs n) (reversedAll rs n) n
@@ -227,7 +228,7 @@ mirrored-ready {fs} {cs} {rs} {n} r down =
       rising = rising;
     }
   where
-    rise : (k : ℕ) → k < n → Dec (k + 1 < n) → at (reversedAll rs n) k ≤ 4000
+    rise : (k : ℕ) → k < n → Dec (k + 1 < n) → at (reversedAll rs n) k ≤ highestRiseCode
     rise k h (yes l) = omega (arith, reversed-at n (r .most) rs k l, r .rise (n - (k + 2)) (omega arith))
     rise k h (no l) = omega (arith, reversed-last n (r .most) rs k (omega arith) (omega (arith, r .most)))
 

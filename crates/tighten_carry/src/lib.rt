@@ -1,25 +1,37 @@
 // Floors carried forward, and the first day at which a floor is above its ceiling.
 ghost use mathlib.Core.Path.{_≡_};
 ghost use Prim.Native.Nat.{_+_, _-_, _≤_};
+ghost use Rattle.limits.specs.Limits.{mostDays, highestLevel, riseOffset, highestRiseCode};
 ghost use Rattle.theory_lists.specs.Sum.{at};
 ghost use Rattle.theory_lists.specs.Written.{written};
 ghost use Rattle.theory_method.specs.Filter.{carried, firstCrossed};
 ghost use Rattle.tighten_carry.specs.Carriable.{Carriable};
-use base_numbers::greatest;
+use base_numbers::max;
 use base_numbers::narrow;
 use base_numbers::wide;
+use limits::MOST_DAYS;
+use limits::RISE_OFFSET;
 
 // The least level of the next day, or 0 where that is below the scale. A rise code is the rise plus 2,000.
 fn risen(level: usize, rise: usize) -> usize
-    requires { ⌜ (level ≤ 5000) × (rise ≤ 4000) ⌝ }
-    ensures { λ r. ⌜ r ≡ level + rise - 2000 ⌝ }
+    requires { ⌜ (level ≤ highestLevel) × (rise ≤ highestRiseCode) ⌝ }
+    ensures { λ r. ⌜ r ≡ level + rise - riseOffset ⌝ }
 {
     let up = level + rise;
-    if up < 2000 { 0 } else { up - 2000 }
+    if up < RISE_OFFSET {
+        0
+    } else {
+        up - RISE_OFFSET
+    }
 }
 
 // Carries the floors forward, up to the first day whose carried floor is above its ceiling: the result, or n.
-pub fn carry(floors: &mut [u16; 512], ceilings: &[u16; 512], rises: &[u16; 512], n: usize) -> usize
+pub fn carry(
+    floors: &mut [u16; MOST_DAYS],
+    ceilings: &[u16; MOST_DAYS],
+    rises: &[u16; MOST_DAYS],
+    n: usize,
+) -> usize
     requires { ⌜ Carriable (now ceilings) (now rises) n ⌝ }
     ensures { λ r. ⌜ r ≡ firstCrossed (carried (now (floors .entry)) (now (rises .entry))) (at (now (ceilings .entry))) n ⌝ }
     ensures { λ r. ⌜ now (floors .exit) ≡ written (carried (now (floors .entry)) (now (rises .entry))) r (now (floors .entry)) ⌝ }
@@ -27,7 +39,7 @@ pub fn carry(floors: &mut [u16; 512], ceilings: &[u16; 512], rises: &[u16; 512],
     let mut low = 0;
     let mut i = 0;
     while i < n {
-        let floor = greatest(wide(floors[i]), low);
+        let floor = max(wide(floors[i]), low);
         if wide(ceilings[i]) < floor {
             return i;
         }
@@ -39,8 +51,8 @@ pub fn carry(floors: &mut [u16; 512], ceilings: &[u16; 512], rises: &[u16; 512],
 }
 
 // The first day whose floor is above its ceiling, or n.
-pub fn first_crossed(floors: &[u16; 512], ceilings: &[u16; 512], n: usize) -> usize
-    requires { ⌜ n ≤ 512 ⌝ }
+pub fn first_crossed(floors: &[u16; MOST_DAYS], ceilings: &[u16; MOST_DAYS], n: usize) -> usize
+    requires { ⌜ n ≤ mostDays ⌝ }
     ensures { λ r. ⌜ r ≡ firstCrossed (at (now (floors .entry))) (at (now (ceilings .entry))) n ⌝ }
 {
     let mut i = 0;

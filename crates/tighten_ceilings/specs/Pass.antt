@@ -2,6 +2,7 @@
 use Prim.Native.Nat.{ℕ, _+_, _-_, _≤_, _<_, min}
 use mathlib.Core.Path.{_≡_}
 use mathlib.Core.List.{List}
+use Rattle.limits.specs.Limits.{mostDays, highestLevel, riseOffset, highestRiseCode, highestShift}
 use Rattle.theory_lists.specs.Sum.{sumFor, at}
 use Rattle.theory_chains.specs.Fit.{Fitted}
 use Rattle.theory_method.specs.Shift.{shift}
@@ -10,10 +11,10 @@ use Rattle.tighten_ceilings.specs.Round.{over, window, rounded}
 
 -- n days of floors, carried forward
 pub record Carried (fs rs : List ℕ) (n : ℕ) : Type 0 where
-  pub most : n ≤ 512
-  pub floor : (k : ℕ) → k < n → at fs k ≤ 5000
-  pub rise : (k : ℕ) → k < n → at rs k ≤ 4000
-  pub climb : (k : ℕ) → k + 1 < n → at fs k + at rs k ≤ at fs (k + 1) + 2000
+  pub most : n ≤ mostDays
+  pub floor : (k : ℕ) → k < n → at fs k ≤ highestLevel
+  pub rise : (k : ℕ) → k < n → at rs k ≤ highestRiseCode
+  pub climb : (k : ℕ) → k + 1 < n → at fs k + at rs k ≤ at fs (k + 1) + riseOffset
 
 -- c days from day i on, their sum s, and the shift e of the last
 pub record Run (a z : ℕ → ℕ) (n i c s e : ℕ) : Type 0 where
@@ -68,6 +69,6 @@ pub record Entering (fs rs : List ℕ) (n i ceiling here v c s e : ℕ) : Type 0
   pub days : DaysIn fs rs n i (min v (ceiling + here)) (c + 1) (s + (at fs i + here)) e
   pub low : min v (ceiling + here) ≤ 16777216
   pub base : shifted fs rs n i ≤ min v (ceiling + here)
-  pub shift-most : here ≤ 2048000
+  pub shift-most : here ≤ highestShift
   pub level : ceiling < 65536
   pub small : s ≤ 8589934592

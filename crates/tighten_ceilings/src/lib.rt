@@ -1,14 +1,18 @@
 // Document 01's pass over the ceilings, on levels as shown. A shifted level is a level plus its day's shift.
 ghost use mathlib.Core.Path.{_≡_};
 ghost use Prim.Native.Nat.{_+_, _-_, _*_, _≤_, _<_, min};
+ghost use Rattle.limits.specs.Limits.{mostDays, highestLevel, riseOffset, highestShift};
 ghost use Rattle.theory_lists.specs.Written.{written};
 ghost use Rattle.theory_method.specs.Filter.{shifted, lowered};
 ghost use Rattle.tighten_ceilings.specs.Round.{step};
 ghost use Rattle.theory_method.specs.Stages.{Ready};
 ghost use Rattle.tighten_ceilings.specs.Pass.{Carried, DaysIn, FoundIn, RoundedIn, LowestIn, Overloaded, Entering};
-use base_numbers::least;
+use base_numbers::min;
 use base_numbers::narrow;
 use base_numbers::wide;
+use limits::LAST_SHIFT;
+use limits::MOST_DAYS;
+use limits::RISE_OFFSET;
 
 // A shifted level v of a day, and its window: the days from that day on to the last whose shifted floor is below v. They are
 // count days, sum is that of their shifted floors, and end is the shift of the last.
@@ -21,15 +25,15 @@ struct Level {
 
 // The shift of a day, from that of the next day and the rise code between them.
 fn shift_before(next: usize, rise: usize) -> usize
-    requires { ⌜ (next ≤ 2048000) × (rise < 65536) × (2000 ≤ next + rise) ⌝ }
-    ensures { λ r. ⌜ r ≡ next + rise - 2000 ⌝ }
+    requires { ⌜ (next ≤ highestShift) × (rise < 65536) × (riseOffset ≤ next + rise) ⌝ }
+    ensures { λ r. ⌜ r ≡ next + rise - riseOffset ⌝ }
 {
-    next + rise - 2000
+    next + rise - RISE_OFFSET
 }
 
 // By how much v is above the floors of its window: v counts once for each day.
 fn overload_of(day: Level) -> usize
-    requires { ⌜ (day .count ≤ 512) × (day .v ≤ 16777216) × (day .sum ≤ day .count * day .v) ⌝ }
+    requires { ⌜ (day .count ≤ mostDays) × (day .v ≤ 16777216) × (day .sum ≤ day .count * day .v) ⌝ }
     ensures { λ r. ⌜ r + day .sum ≡ day .count * day .v ⌝ }
 {
     day.count * day.v - day.sum
@@ -37,17 +41,17 @@ fn overload_of(day: Level) -> usize
 
 // How far a round lowers a level.
 fn step_of(excess: usize, count: usize, room: usize) -> usize
-    requires { ⌜ (0 < count) × (count ≤ 512) × (excess ≤ 8589934592) ⌝ }
+    requires { ⌜ (0 < count) × (count ≤ mostDays) × (excess ≤ 8589934592) ⌝ }
     ensures { λ r. ⌜ r ≡ step excess count room ⌝ }
 {
-    least((excess + count - 1) / count, room)
+    min((excess + count - 1) / count, room)
 }
 
 // The level v with its window, from a window that may be too long: days whose shifted floor is not below v are dropped from the
 // end, but for day i.
 fn settle(
-    floors: &[u16; 512],
-    rises: &[u16; 512],
+    floors: &[u16; MOST_DAYS],
+    rises: &[u16; MOST_DAYS],
     n: usize,
     i: usize,
     v: usize,
@@ -86,8 +90,8 @@ fn settle(
 
 // One round for day i: the level falls by the step, and its window is found again.
 fn round(
-    floors: &[u16; 512],
-    rises: &[u16; 512],
+    floors: &[u16; MOST_DAYS],
+    rises: &[u16; MOST_DAYS],
     n: usize,
     i: usize,
     margin: usize,
@@ -105,8 +109,8 @@ fn round(
 
 // Lowers day i's shifted ceiling by rounds, from cap, until its overload is within the margin.
 fn lower(
-    floors: &[u16; 512],
-    rises: &[u16; 512],
+    floors: &[u16; MOST_DAYS],
+    rises: &[u16; MOST_DAYS],
     n: usize,
     i: usize,
     margin: usize,
@@ -129,8 +133,8 @@ fn lower(
 
 // Lowers the ceiling of day i, whose shift is here, after that of the next day.
 fn lower_day(
-    floors: &[u16; 512],
-    rises: &[u16; 512],
+    floors: &[u16; MOST_DAYS],
+    rises: &[u16; MOST_DAYS],
     n: usize,
     i: usize,
     margin: usize,
@@ -142,7 +146,7 @@ fn lower_day(
     requires { ⌜ Entering (now floors) (now rises) n i ceiling here (next .v) (next .count) (next .sum) (next .end) ⌝ }
     ensures { λ r. ⌜ LowestIn (now (floors .entry)) (now (rises .entry)) n i margin (min (next .v) (ceiling + here)) (r .v) (r .count) (r .sum) (r .end) ⌝ }
 {
-    let cap = least(next.v, ceiling + here);
+    let cap = min(next.v, ceiling + here);
     let floor = wide(floors[i]) + here;
     lower(
         floors,
@@ -159,7 +163,7 @@ fn lower_day(
 
 // The level as shown.
 fn shown(day: Level, here: usize) -> u16
-    requires { ⌜ (here ≤ day .v) × (day .v - here ≤ 5000) ⌝ }
+    requires { ⌜ (here ≤ day .v) × (day .v - here ≤ highestLevel) ⌝ }
     ensures { λ r. ⌜ r ≡ day .v - here ⌝ }
 {
     narrow(day.v - here)
@@ -167,16 +171,16 @@ fn shown(day: Level, here: usize) -> u16
 
 // Lowers the ceilings of n days, from the last to the first. `here` is the shift of day i.
 pub fn lower_ceilings(
-    floors: &[u16; 512],
-    ceilings: &mut [u16; 512],
-    rises: &[u16; 512],
+    floors: &[u16; MOST_DAYS],
+    ceilings: &mut [u16; MOST_DAYS],
+    rises: &[u16; MOST_DAYS],
     n: usize,
     margin: usize,
 )
     requires { ⌜ Ready (now floors) (now ceilings) (now rises) n ⌝ }
     ensures { λ _. ⌜ now (ceilings .exit) ≡ written (lowered (now (floors .entry)) (now (ceilings .entry)) (now (rises .entry)) n margin) n (now (ceilings .entry)) ⌝ }
 {
-    let mut here = 1024000;
+    let mut here = LAST_SHIFT;
     let end = shift_before(here, wide(rises[n - 1]));
     let v = wide(ceilings[n - 1]) + end;
     let mut day = Level {

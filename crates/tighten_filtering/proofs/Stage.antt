@@ -10,11 +10,11 @@ use Rattle.theory_lists.specs.Sum.{at}
 use Rattle.theory_lists.specs.Written.{written}
 use Rattle.theory_method.specs.Filter.{InBounds, carried, firstCrossed, forwarded, lowered, mirrored, reversed, zeros, raised, held, none, tightFloors, tightCeilings, tightened}
 use Rattle.theory_method.specs.Stages.{Ready, ready, crossing, lowered-ready, lowered-rising, mirrored-ready, raised-is}
-use Rattle.tighten_filtering.specs.Raisable.{Raisable}
+use Rattle.tighten_filtering.specs.FloorsReady.{FloorsReady}
 
 -- ---- raise_floors
 
-module _ {fs cs rs : List ℕ} {n : ℕ} (h : Raisable fs cs rs n) where
+module _ {fs cs rs : List ℕ} {n : ℕ} (h : FloorsReady fs cs rs n) where
   pub floor-small : (k : ℕ) → k < n → at fs k ≤ 5000
   floor-small k l = omega (arith, h .ready .fits k l, h .ready .ceiling k l)
 
@@ -66,7 +66,7 @@ module _ {fs cs rs : List ℕ} {n L U : ℕ} (h : InBounds fs cs rs n L U) {r : 
           sym z ∙ after-carrying
 
       module _ (under : bottom ≤ U) {cs′ : List ℕ} (ec : cs′ ≡ written (lowered fs′ cs rs n (U - bottom)) n cs) where
-        pub lowered-raisable : Raisable fs′ cs′ rs n
+        pub lowered-raisable : FloorsReady fs′ cs′ rs n
         lowered-raisable = rw ec (record { ready = lowered-ready carried-ready (U - bottom); rising = lowered-rising carried-ready (U - bottom) })
 
         after-lowering : tightFloors fs′ cs′ rs n L U ≡ tightened fs cs rs n L U

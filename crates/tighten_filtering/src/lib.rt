@@ -2,12 +2,13 @@
 ghost use mathlib.Core.Path.{_≡_};
 ghost use mathlib.Core.Bool.{false};
 ghost use Rattle.theory_method.specs.Filter.{InBounds, raised, tightened};
-ghost use Rattle.tighten_filtering.specs.Raisable.{Raisable};
+ghost use Rattle.tighten_filtering.specs.FloorsReady.{FloorsReady};
 use base_arrays::held_total;
 use base_arrays::mirror;
 use base_arrays::reverse;
-use base_numbers::greatest;
-use base_numbers::least;
+use base_numbers::max;
+use base_numbers::min;
+use limits::MOST_DAYS;
 use tighten_carry::carry;
 use tighten_ceilings::lower_ceilings;
 
@@ -20,18 +21,18 @@ pub struct Totals {
 
 // Raises the floors as the mirror of lowering the ceilings.
 fn raise_floors(
-    floors: &mut [u16; 512],
-    ceilings: &[u16; 512],
-    rises: &[u16; 512],
+    floors: &mut [u16; MOST_DAYS],
+    ceilings: &[u16; MOST_DAYS],
+    rises: &[u16; MOST_DAYS],
     n: usize,
     margin: usize,
 )
-    requires { ⌜ Raisable (now floors) (now ceilings) (now rises) n ⌝ }
+    requires { ⌜ FloorsReady (now floors) (now ceilings) (now rises) n ⌝ }
     ensures { λ _. ⌜ now (floors .exit) ≡ raised (now (floors .entry)) (now (ceilings .entry)) (now (rises .entry)) n margin ⌝ }
 {
-    let mut low = [0u16; 512];
-    let mut high = [0u16; 512];
-    let mut back = [0u16; 512];
+    let mut low = [0u16; MOST_DAYS];
+    let mut high = [0u16; MOST_DAYS];
+    let mut back = [0u16; MOST_DAYS];
     mirror(ceilings, n, &mut low);
     mirror(floors, n, &mut high);
     reverse(rises, n, &mut back);
@@ -53,9 +54,9 @@ fn none() -> Totals
 // Tightens the ranges of n days and of the total, whose bounds are lowest and highest as held. Where there is no schedule the
 // arrays are left carried or lowered, as far as `tightened` says.
 pub fn tighten(
-    floors: &mut [u16; 512],
-    ceilings: &mut [u16; 512],
-    rises: &[u16; 512],
+    floors: &mut [u16; MOST_DAYS],
+    ceilings: &mut [u16; MOST_DAYS],
+    rises: &[u16; MOST_DAYS],
     n: usize,
     lowest: usize,
     highest: usize,
@@ -72,8 +73,8 @@ pub fn tighten(
     }
     lower_ceilings(floors, ceilings, rises, n, highest - bottom);
     let top = held_total(ceilings, n);
-    let low = greatest(lowest, bottom);
-    let high = least(highest, top);
+    let low = max(lowest, bottom);
+    let high = min(highest, top);
     if high < low {
         return none();
     }

@@ -4,7 +4,7 @@ use native.Mathlib.Omega.{arith}
 use lib.ListN.{length}
 use mir.Facts.{toZ-ofZ}
 use borrow.Author.Needs.{needs}
-use Rattle.session.specs.Opening.{earlier}
+use Rattle.session.specs.Opening.{earlyOpening}
 use Rattle.c_lists.specs.Profiles.{profileOf}
 use Rattle.c_lists.proofs.Laws.{Held, held}
 use Rattle.c_files.proofs.Writing.{Sized, sized, Checked, bad-lengths, bad-profile, bad-cut, too-short, written}
@@ -26,7 +26,7 @@ steps : (c : tie.After-points3) → Held (c .before .before .before .before .bef
 steps c = held _ _ (omega (arith, sizes (c .before .before .before .before .before .before) .lists .few)) (c .points3 .ensures)
 
 -- what is checked as opening does
-by-opening : (c : tie.After-profile-refusal) → c .profile-refusal .result ≡ earlier (profileOf (c .before .before .before .before .before .before .before .before .before .before .before .before .before .before .before .before .before .args .days) (c .before .before .before .before .before .before .before .before .before .before .before .before .before .before .before .before .before .args .floors .now) (c .before .before .before .before .before .before .before .before .before .before .before .before .before .before .before .before .before .args .ceilings .now) (c .before .before .before .before .before .before .before .before .before .before .before .before .before .before .before .before .before .args .rises .now) (c .before .before .before .before .before .before .before .before .before .before .before .before .before .before .before .before .before .args .lowest) (c .before .before .before .before .before .before .before .before .before .before .before .before .before .before .before .before .before .args .highest))
+by-opening : (c : tie.After-profile-refusal) → c .profile-refusal .result ≡ earlyOpening (profileOf (c .before .before .before .before .before .before .before .before .before .before .before .before .before .before .before .before .before .args .days) (c .before .before .before .before .before .before .before .before .before .before .before .before .before .before .before .before .before .args .floors .now) (c .before .before .before .before .before .before .before .before .before .before .before .before .before .before .before .before .before .args .ceilings .now) (c .before .before .before .before .before .before .before .before .before .before .before .before .before .before .before .before .before .args .rises .now) (c .before .before .before .before .before .before .before .before .before .before .before .before .before .before .before .before .before .args .lowest) (c .before .before .before .before .before .before .before .before .before .before .before .before .before .before .before .before .before .args .highest))
 by-opening c = rw (toZ-ofZ (c .before .before .before .before .before .before .before .before .before .before .before .before .before .before .before .before .before .fits .lowest), toZ-ofZ (c .before .before .before .before .before .before .before .before .before .before .before .before .before .before .before .before .before .fits .highest), low (c .before .before .before .before .before .before .before .before) .same, high (c .before .before .before .before .before .before) .same, steps (c .before .before .before .before) .same) at (c .profile-refusal .ensures)
 
 -- past the checks of the lists, the profile and the cuts

@@ -1,5 +1,5 @@
 use Rattle.c_lists.proofs.Laws.{held}
-use Rattle.c_sessions.proofs.Held.{held-sane, held-few}
+use Rattle.c_sessions.proofs.Held.{held-in-bounds, held-few}
 use Rattle.c_schedules.proofs.Laws.{no-session, no-list, session-and-list, inspect-unread, inspect-all}
 use native.Mathlib.Omega.{arith}
 use borrow.Author.Needs.{needs}
@@ -25,7 +25,7 @@ slice-aggregate-inspect : tie.Need-slice-aggregate-inspect
 slice-aggregate-inspect c = held _ _ (held-few _ (c .before .before .before .before .decode .ensures)) (c .before .points .ensures) .long
 
 inspect-requires : tie.Need-inspect-requires
-inspect-requires c κs = held-sane _ (c .before .before .before .before .decode .ensures)
+inspect-requires c κs = held-in-bounds _ (c .before .before .before .before .decode .ensures)
 
 returns-3 : tie.Need-returns-3
 returns-3 c = inspect-all _ _ (c .before .before .before .before .before .decode .ensures) (session-and-list _ _ (c .before .before .before .before .before .before .if1 .left) (c .before .before .before .before .before .decode .ensures) (c .before .before .before .before .if2 .left)) (c .before .before .points .ensures) (c .inspect .ensures)

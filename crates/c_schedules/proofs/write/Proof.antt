@@ -1,7 +1,7 @@
 use mathlib.Core.Path.{sym}
 use lib.Seq.{length-take-le}
 use mir.Facts.{toZ-ofZ}
-use Rattle.c_sessions.proofs.Held.{held-sane, held-few}
+use Rattle.c_sessions.proofs.Held.{held-in-bounds, held-few}
 use Rattle.c_schedules.proofs.Laws.{no-session, no-list, session-and-list, write-unread, write-refused, write-all}
 use native.Mathlib.Omega.{arith}
 use borrow.Author.Needs.{needs}
@@ -24,7 +24,7 @@ slice-aggregate-write-for : tie.Need-slice-aggregate-write-for
 slice-aggregate-write-for c = sym (length-take-le _ _ (held-few _ (c .before .before .decode .ensures)))
 
 write-for-requires : tie.Need-write-for-requires
-write-for-requires c κs = (held-sane _ (c .before .before .decode .ensures), length-take-le _ _ (held-few _ (c .before .before .decode .ensures)))
+write-for-requires c κs = (held-in-bounds _ (c .before .before .decode .ensures), length-take-le _ _ (held-few _ (c .before .before .decode .ensures)))
 
 returns-3 : tie.Need-returns-3
 returns-3 c = write-refused _ _ _ _ (c .before .before .before .before .before .decode .ensures) (session-and-list _ _ (c .before .before .before .before .before .before .if1 .left) (c .before .before .before .before .before .decode .ensures) (c .before .before .before .before .if2 .left)) (rw (toZ-ofZ (c .before .before .before .before .before .before .before .before .before .fits .value)) at (c .before .before .write-for .ensures .0)) (c .if3 .taken)

@@ -3,27 +3,27 @@ use Prim.Native.Nat.{_/_}
 use lib.ListN.{length}
 use lib.Seq.{length-take-le}
 use mir.Facts.{toZ-ofZ}
-use Rattle.session_cuts.specs.Told.{told}
-use Rattle.session_cutting.specs.Cutting.{afterTold}
+use Rattle.session_cuts.specs.Numbered.{numbered}
+use Rattle.session_cutting.specs.Cutting.{afterNumbered}
 use Rattle.c_storage.specs.Layout.{decoding}
-use Rattle.c_sessions.proofs.Held.{held-sane}
+use Rattle.c_sessions.proofs.Held.{held-in-bounds}
 use Rattle.c_sessions.proofs.Laws.{cut-room, cut-unread, cut-refused, cut-spent, cut-keeps, cut-fits, cut-listed}
 use borrow.Author.Needs.{needs}
 use Rattle.c_sessions.proofs.cut.Statement.{statement}
 use Rattle.c_sessions.proofs.cut.Tie as tie
 
 -- what is given, with all of the list as room
-after : (c : tie.After-cut-told) → c .cut-told .result ≡ afterTold (decoding (c .before .before .before .before .before .before .before .before .args .session .now)) (told (c .before .before .before .before .before .before .before .before .args .kind) (c .before .before .before .before .before .before .before .before .args .day) (c .before .before .before .before .before .before .before .before .args .value)) (length (c .before .before .before .before .before .before .before .before .args .changed .now) / 2)
-after c = cut-room _ _ _ (c .before .before .decode .ensures) (c .before .before .before .before .least .ensures) (rw (toZ-ofZ (c .before .before .before .before .before .before .before .before .fits .value)) at (c .cut-told .ensures .0))
+after : (c : tie.After-cut-numbered) → c .cut-numbered .result ≡ afterNumbered (decoding (c .before .before .before .before .before .before .before .before .args .session .now)) (numbered (c .before .before .before .before .before .before .before .before .args .kind) (c .before .before .before .before .before .before .before .before .args .day) (c .before .before .before .before .before .before .before .before .args .value)) (length (c .before .before .before .before .before .before .before .before .args .changed .now) / 2)
+after c = cut-room _ _ _ (c .before .before .decode .ensures) (c .before .before .before .before .min .ensures) (rw (toZ-ofZ (c .before .before .before .before .before .before .before .before .fits .value)) at (c .cut-numbered .ensures .0))
 
 returns : tie.Need-returns
 returns c = cut-unread _ _ _ (c .if1 .taken)
 
-slice-aggregate-cut-told : tie.Need-slice-aggregate-cut-told
-slice-aggregate-cut-told c = sym (length-take-le _ _ (search needs))
+slice-aggregate-cut-numbered : tie.Need-slice-aggregate-cut-numbered
+slice-aggregate-cut-numbered c = sym (length-take-le _ _ (search needs))
 
-cut-told-requires : tie.Need-cut-told-requires
-cut-told-requires c κs = held-sane _ (c .before .decode .ensures)
+cut-numbered-requires : tie.Need-cut-numbered-requires
+cut-numbered-requires c κs = held-in-bounds _ (c .before .decode .ensures)
 
 put-cells-requires : tie.Need-put-cells-requires
 put-cells-requires c κs = cut-fits _ _ _ (after (c .before .before .before .before .before .before)) (c .before .before .if2 .taken)
@@ -32,7 +32,7 @@ encode-requires : tie.Need-encode-requires
 encode-requires c κs = (cut-keeps _ _ _ (after (c .before .before .before .before .before .before .before .before .before .before)), search needs)
 
 returns-2 : tie.Need-returns-2
-returns-2 c = cut-listed _ _ _ (c .before .before .before .before .before .before .before .before .before .before .before .before .before .before .before .before .before .before .if1 .left) (after (c .before .before .before .before .before .before .before .before .before .before .before .before .before)) _ _ (c .before .before .before .before .before .before .before .before .before .if2 .taken) (c .before .before .before .before .before .before .before .before .before .before .before .before .before .before .before .decode .ensures) (c .before .before .before .before .before .before .before .before .before .before .before .before .before .cut-told .ensures .1) (c .before .before .before .before .before .before .put-cells .ensures) (c .before .before .encode .ensures)
+returns-2 c = cut-listed _ _ _ (c .before .before .before .before .before .before .before .before .before .before .before .before .before .before .before .before .before .before .if1 .left) (after (c .before .before .before .before .before .before .before .before .before .before .before .before .before)) _ _ (c .before .before .before .before .before .before .before .before .before .if2 .taken) (c .before .before .before .before .before .before .before .before .before .before .before .before .before .before .before .decode .ensures) (c .before .before .before .before .before .before .before .before .before .before .before .before .before .cut-numbered .ensures .1) (c .before .before .before .before .before .before .put-cells .ensures) (c .before .before .encode .ensures)
 
 encode-requires-2 : tie.Need-encode-requires-2
 encode-requires-2 c κs = (cut-keeps _ _ _ (after (c .before .before .before .before .before .before .before)), search needs)
@@ -51,8 +51,8 @@ cut-spec =
     (λ c. search needs)
     (λ c. search needs)
     (λ c. search needs)
-    slice-aggregate-cut-told
-    cut-told-requires
+    slice-aggregate-cut-numbered
+    cut-numbered-requires
     put-cells-requires
     encode-requires
     (λ c. search needs)

@@ -4,7 +4,7 @@ use lib.ListN.{length}
 use lib.Seq.{length-take-le}
 use Rattle.session.specs.Showing.{shown}
 use Rattle.c_storage.specs.Layout.{decoding}
-use Rattle.c_sessions.proofs.Held.{held-sane}
+use Rattle.c_sessions.proofs.Held.{held-in-bounds}
 use Rattle.c_sessions.proofs.Laws.{show-room, show-fits, show-unread, show-refused, show-all}
 use borrow.Author.Needs.{needs}
 use Rattle.c_sessions.proofs.show.Statement.{statement}
@@ -12,7 +12,7 @@ use Rattle.c_sessions.proofs.show.Tie as tie
 
 -- what is given, with all of the lists as room
 after : (c : tie.After-show) → c .show .result ≡ shown (decoding (c .before .before .before .before .before .before .before .before .before .before .args .session .now)) (length (c .before .before .before .before .before .before .before .before .before .before .args .floors .now) / 2) (length (c .before .before .before .before .before .before .before .before .before .before .args .ceilings .now) / 2)
-after c = show-room _ _ _ (c .before .before .before .before .before .decode .ensures) (c .before .before .before .before .least .ensures) (c .before .before .before .least2 .ensures) (c .show .ensures .0)
+after c = show-room _ _ _ (c .before .before .before .before .before .decode .ensures) (c .before .before .before .before .min .ensures) (c .before .before .before .min2 .ensures) (c .show .ensures .0)
 
 returns : tie.Need-returns
 returns c = show-unread _ _ _ (c .if1 .taken)
@@ -24,7 +24,7 @@ slice-aggregate-show-2 : tie.Need-slice-aggregate-show-2
 slice-aggregate-show-2 c = sym (length-take-le _ _ (search needs))
 
 show-requires : tie.Need-show-requires
-show-requires c κs = held-sane _ (c .before .before .before .before .decode .ensures)
+show-requires c κs = held-in-bounds _ (c .before .before .before .before .decode .ensures)
 
 returns-2 : tie.Need-returns-2
 returns-2 c = show-refused _ _ _ (after (c .before .before .before .before)) (c .before .before .before .before .before .before .before .before .before .before .if1 .left) (c .if2 .taken)
@@ -36,7 +36,7 @@ put-points-requires-2 : tie.Need-put-points-requires-2
 put-points-requires-2 c κs = let f = show-fits _ _ _ (c .before .before .before .before .before .before .before .before .before .before .before .before .before .before .before .before .decode .ensures) (after (c .before .before .before .before .before .before .before .before .before .before .before)) (c .before .before .before .before .before .before .before .if2 .left) in (f .0, f .1 .1)
 
 returns-3 : tie.Need-returns-3
-returns-3 c = show-all _ _ _ (after (c .before .before .before .before .before .before .before .before .before .before .before .before .before .before)) (c .before .before .before .before .before .before .before .before .before .before .before .before .before .before .before .before .before .before .before .before .if1 .left) (c .before .before .before .before .before .before .before .before .before .before .if2 .left) (c .before .before .before .before .before .before .before .before .before .before .before .before .before .before .before .before .before .before .before .decode .ensures) (c .before .before .before .before .before .before .before .before .before .before .before .before .before .before .before .before .before .before .least .ensures) (c .before .before .before .before .before .before .before .before .before .before .before .before .before .before .before .before .before .least2 .ensures) _ _ (c .before .before .before .before .before .before .before .before .before .before .before .before .before .before .show .ensures .1 .0) (c .before .before .before .before .before .before .before .before .before .before .before .before .before .before .show .ensures .1 .1) (c .before .before .before .before .before .before .before .put-points .ensures) (c .before .before .put-points2 .ensures)
+returns-3 c = show-all _ _ _ (after (c .before .before .before .before .before .before .before .before .before .before .before .before .before .before)) (c .before .before .before .before .before .before .before .before .before .before .before .before .before .before .before .before .before .before .before .before .if1 .left) (c .before .before .before .before .before .before .before .before .before .before .if2 .left) (c .before .before .before .before .before .before .before .before .before .before .before .before .before .before .before .before .before .before .before .decode .ensures) (c .before .before .before .before .before .before .before .before .before .before .before .before .before .before .before .before .before .before .min .ensures) (c .before .before .before .before .before .before .before .before .before .before .before .before .before .before .before .before .before .min2 .ensures) _ _ (c .before .before .before .before .before .before .before .before .before .before .before .before .before .before .show .ensures .1 .0) (c .before .before .before .before .before .before .before .before .before .before .before .before .before .before .show .ensures .1 .1) (c .before .before .before .before .before .before .before .put-points .ensures) (c .before .before .put-points2 .ensures)
 
 pub show-spec : {M : Type 1} → statement M
 show-spec =

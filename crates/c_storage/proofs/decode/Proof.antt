@@ -21,7 +21,7 @@ decoded-as b {d} ed er eo ep ex =
     (λ i. held d (er i) (eo i) (ep i) (ex i)) ∙ ap (λ m. held m (cellsAt b m 4000 20) (rangesAt b m 4 1044) (rangesAt b m 12 3092) (u16At b 2)) ed
 
 returns : tie.Need-returns
-returns c = decoded-as (c .before .before .before .before .before .before .before .before .before .before .args .bytes .now) (c .before .before .before .before .before .greatest .ensures ∙ ap (max 1) (c .before .before .before .before .before .before .least .ensures ∙ ap (min 512) (c .before .before .before .before .before .before .before .wide .ensures .0 ∙ c .before .before .before .before .before .before .before .before .u16-at .ensures))) (c .before .before .before .cells .ensures) (c .before .before .ranges .ensures) (c .before .ranges2 .ensures) (c .u16-at2 .ensures)
+returns c = decoded-as (c .before .before .before .before .before .before .before .before .before .before .args .bytes .now) (c .before .before .before .before .before .max .ensures ∙ ap (max 1) (c .before .before .before .before .before .before .min .ensures ∙ ap (min 512) (c .before .before .before .before .before .before .before .wide .ensures .0 ∙ c .before .before .before .before .before .before .before .before .u16-at .ensures))) (c .before .before .before .cells .ensures) (c .before .before .ranges .ensures) (c .before .ranges2 .ensures) (c .u16-at2 .ensures)
 
 pub decode-spec : {M : Type 1} → statement M
 decode-spec =

@@ -1,6 +1,7 @@
 use mir.Facts.{toZ-ofZ}
 use mir.Syntax.{w32}
-use Rattle.base_codes.specs.Code.{lowestTotal, decoded}
+use Rattle.limits.specs.Limits.{lowestTotal}
+use Rattle.base_codes.specs.Code.{decoded}
 use Rattle.base_little_endian.specs.Fields.{i32Bytes}
 use Rattle.base_little_endian.proofs.Laws.{i32-length}
 use Rattle.c_storage.specs.Layout.{totalBytes}

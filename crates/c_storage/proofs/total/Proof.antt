@@ -1,6 +1,7 @@
 use lib.IntN.{ℤ}
 use mathlib.Core.Path.{_≡_, ap, _∙_}
-use Rattle.base_codes.specs.Code.{lowestTotal, highestTotal, coded}
+use Rattle.limits.specs.Limits.{lowestTotal, highestTotal}
+use Rattle.base_codes.specs.Code.{coded}
 use Rattle.base_codes.proofs.Laws.{coded-code, coded-outside}
 use Rattle.base_codes.proofs.Casts.{coded-seen}
 use Rattle.base_little_endian.specs.Fields.{i32At}

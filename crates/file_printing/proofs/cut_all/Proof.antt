@@ -17,7 +17,7 @@ loop-holds : tie.Need-loop-holds Inv-loop μ-loop
 loop-holds c = applied-none (c .pre .0)
 
 cut-once-requires : tie.Need-cut-once-requires Inv-loop μ-loop
-cut-once-requires c κs = c .before .before .loop .inv .sane
+cut-once-requires c κs = c .before .before .loop .inv .bounds
 
 loop-again : tie.Need-loop-again Inv-loop μ-loop
 loop-again c = applied-more (c .before .before .before .loop .inv) (c .before .before .loop-test .taken) (c .cut-once .ensures)

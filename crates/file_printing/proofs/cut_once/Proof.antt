@@ -1,6 +1,6 @@
 -- `report::cut_once` meets its contract: no cut after a refusal, else the cut. Assumes nothing.
 use mathlib.Core.Path.{ap, sym, _∙_}
-use Rattle.session_cutting.proofs.Laws.{cut-sane}
+use Rattle.session_cutting.proofs.Laws.{cut-in-bounds}
 use Rattle.file_printing.specs.Printing.{afterEntry}
 use Rattle.file_printing.proofs.Lines.{once-refused, once-applied}
 use Rattle.file_printing.proofs.Laws.{stage-passed, stage-refused}
@@ -23,7 +23,7 @@ returns-2 c =
     let a = s .before .args in
     let e = cut .cut-held .ensures .0 in
     let none = stage-passed (a .opened .refusal) (s .stage-of .ensures) (p .enum-told .given .1) in
-    (ap afterEntry e ∙ sym (once-applied (a .opened) (a .entry .cut) none), rw e (cut-sane (a .opened .session) (a .entry .cut) 512 (s .before .pre)))
+    (ap afterEntry e ∙ sym (once-applied (a .opened) (a .entry .cut) none), rw e (cut-in-bounds (a .opened .session) (a .entry .cut) 512 (s .before .pre)))
 
 pub cut-once-spec : {M : Type 1} → statement M
 cut-once-spec =

@@ -8,7 +8,7 @@ use mir.Facts.{toZ-ofZ}
 use borrow.Author.Needs.{sfits-of}
 use Rattle.session.specs.Opening.{opened}
 use Rattle.session.specs.declared.Opened.{Opened}
-use Rattle.session.proofs.Sanity.{opened-sane}
+use Rattle.session.proofs.SessionBounds.{opened-in-bounds}
 use Rattle.file_format.specs.Format.{profileIn}
 use Rattle.file_reading.proofs.Laws.{read-number}
 use Rattle.file_printing.specs.Printing.{printed, answerText, refusedLine}
@@ -100,7 +100,7 @@ returns-2 c =
 cut-all-requires : tie.Need-cut-all-requires
 cut-all-requires c κs =
     let o = c .before .before .before .before .before in
-    (rw (opens o) (opened-sane (profileIn (opened-bytes o))), got-file (at-passed o) .fewCuts)
+    (rw (opens o) (opened-in-bounds (profileIn (opened-bytes o))), got-file (at-passed o) .fewCuts)
 
 returns-3 : tie.Need-returns-3
 returns-3 c =

@@ -6,7 +6,7 @@ use mir.Syntax.{w32}
 use mir.Facts.{toZ-ofZ}
 use borrow.Author.Needs.{sfits-of, needs}
 use Rattle.session_cuts.specs.declared.Sheet.{Sheet}
-use Rattle.file_format.specs.Format.{dayOffset, dayCount, cutCount, totalFloor, totalCeiling}
+use Rattle.file_format.specs.Format.{dayOffset, dayCount, cutCount, totalFloorAt, totalCeilingAt}
 use Rattle.file_reading.specs.declared.ReadAnswer.{ReadAnswer}
 use Rattle.file_reading.specs.Reading.{contents, sheetFrom}
 use Rattle.file_reading.proofs.read_contents.Statement.{statement}
@@ -15,7 +15,7 @@ use Rattle.file_reading.proofs.read_contents.Tie as tie
 abbrev answer : ℕ → ℤ → ℤ → Sheet → ReadAnswer
 answer d l h s = record { refusal = 0; days = d; lowest = l; highest = h; sheet = s }
 
-contents-as : (b : List ℕ) {d m : ℕ} {l h : ℤ} {s : Sheet} → d ≡ dayCount b → m ≡ cutCount b → l ≡ totalFloor b → h ≡ totalCeiling b
+contents-as : (b : List ℕ) {d m : ℕ} {l h : ℤ} {s : Sheet} → d ≡ dayCount b → m ≡ cutCount b → l ≡ totalFloorAt b → h ≡ totalCeilingAt b
     → s ≡ sheetFrom b (dayOffset d) m → answer d l h s ≡ contents b
 unfolding contents
 contents-as b ed em el eh es i = answer (ed i) (el i) (eh i) ((es ∙ (λ j. sheetFrom b (dayOffset (ed j)) (em j))) i)

@@ -2,13 +2,13 @@
 use Prim.Native.Nat.{_+_, _-_, _*_}
 use borrow.Author.Needs.{needs}
 use Rattle.theory_lists.specs.Filled.{Filled, filled-none, filled-more, filled-all}
-use Rattle.file_format.specs.Format.{toldAt, known}
+use Rattle.file_format.specs.Format.{numberedAt, known}
 use Rattle.file_reading.specs.Reading.{sheetFrom}
 use Rattle.file_reading.proofs.read_sheet.Statement.{statement}
 use Rattle.file_reading.proofs.read_sheet.Tie as tie
 
 abbrev Inv-loop : tie.InvT-loop
-Inv-loop bytes from count entries₀ j₀ entries j = Filled (λ i. record { cut = known (toldAt bytes (from + i * 8)) }) count j entries₀ entries
+Inv-loop bytes from count entries₀ j₀ entries j = Filled (λ i. record { cut = known (numberedAt bytes (from + i * 8)) }) count j entries₀ entries
 
 abbrev μ-loop : tie.MeasureT-loop
 μ-loop bytes from count entries₀ j₀ entries j = count - j

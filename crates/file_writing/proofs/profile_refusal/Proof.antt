@@ -1,6 +1,6 @@
 use mathlib.Core.Path.{ap, sym, _∙_}
 use mir.Facts.{toZ-ofZ}
-use Rattle.session.proofs.Sanity.{opened-refusal}
+use Rattle.session.proofs.SessionBounds.{opened-refusal}
 use Rattle.session.specs.declared.Opened.{Opened}
 use borrow.Author.Needs.{needs}
 use Rattle.file_writing.proofs.profile_refusal.Statement.{statement}

@@ -2,7 +2,7 @@ use mathlib.Core.Path.{_≡_, sym, _∙_}
 use native.Mathlib.Omega.{arith}
 use mir.Facts.{toZ-ofZ}
 use Rattle.session.specs.Profile.{Profile}
-use Rattle.session.specs.Opening.{profile, earlier}
+use Rattle.session.specs.Opening.{profile, earlyOpening}
 use Rattle.session.proofs.Entered.{Sized, entered}
 use Rattle.file_writing.proofs.Answers.{Checked, too-many, bad-profile, bad-cut, too-short, entry-day, written}
 use borrow.Author.Needs.{needs}
@@ -14,7 +14,7 @@ abbrev given : tie.Start → Profile
 given c = let a = c .args in profile (a .days) (a .floors .now) (a .ceilings .now) (a .rises .now) (a .lowest) (a .highest)
 
 -- what is checked as opening does
-by-opening : (c : tie.After-profile-refusal) → c .profile-refusal .result ≡ earlier (given (c .before .before .before .before))
+by-opening : (c : tie.After-profile-refusal) → c .profile-refusal .result ≡ earlyOpening (given (c .before .before .before .before))
 by-opening c = let f = c .before .before .before .before .fits in rw (toZ-ofZ (f .lowest), toZ-ofZ (f .highest)) at (c .profile-refusal .ensures)
 
 returns : tie.Need-returns

@@ -1,6 +1,6 @@
 -- `judge` meets its contract: every number of the list has a code, so the codes stored are those of the whole list.
 use mathlib.Core.Path.{sym, _∙_}
-use Rattle.base_codes.specs.Code.{lowestSetpoint, highestSetpoint}
+use Rattle.limits.specs.Limits.{lowestSetpoint, highestSetpoint}
 use Rattle.base_codes.proofs.Laws.{none-outside}
 use Rattle.schedule_inspection.proofs.Bridge.{judged-codes}
 use borrow.Author.Needs.{needs}

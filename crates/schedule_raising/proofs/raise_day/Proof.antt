@@ -5,7 +5,7 @@ use Rattle.schedule_raising.proofs.raise_day.Statement.{statement}
 use Rattle.schedule_raising.proofs.raise_day.Tie as tie
 
 returns : tie.Need-returns
-returns c = day-is _ _ _ _ (c .before .before .before .most-before .ensures) (c .before .before .least .ensures) (c .before .least2 .ensures) (c .greatest .ensures)
+returns c = day-is _ _ _ _ (c .before .before .before .most-before .ensures) (c .before .before .min .ensures) (c .before .min2 .ensures) (c .max .ensures)
 
 pub raise-day-spec : {M : Type 1} → statement M
 raise-day-spec =

@@ -1,5 +1,5 @@
 -- `write_day` meets its contract: a law for each return.
-use Rattle.base_codes.specs.Code.{lowestPoint, highestPoint}
+use Rattle.limits.specs.Limits.{lowestPoint, highestPoint}
 use Rattle.base_codes.proofs.Casts.{coded-seen}
 use Rattle.schedule_writing.proofs.Stages.{day-judged, day-length, day-unknown, day-refused, day-written}
 use borrow.Author.Needs.{needs}

@@ -1,5 +1,5 @@
 -- `write_total` meets its contract: a law for each return.
-use Rattle.base_codes.specs.Code.{lowestTotal, highestTotal}
+use Rattle.limits.specs.Limits.{lowestTotal, highestTotal}
 use Rattle.base_codes.proofs.Casts.{coded-seen}
 use Rattle.schedule_writing.proofs.Stages.{total-judged, total-bounds, total-length, total-refused, total-written}
 use borrow.Author.Needs.{needs}

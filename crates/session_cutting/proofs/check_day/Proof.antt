@@ -1,4 +1,4 @@
-use Rattle.base_codes.specs.Code.{lowestPoint, highestPoint}
+use Rattle.limits.specs.Limits.{lowestPoint, highestPoint}
 use Rattle.session_cutting.proofs.Stages.{value-checked}
 use borrow.Author.Needs.{needs}
 use Rattle.session_cutting.proofs.check_day.Statement.{statement}

@@ -1,4 +1,4 @@
-use Rattle.base_codes.specs.Code.{lowestTotal, highestTotal}
+use Rattle.limits.specs.Limits.{lowestTotal, highestTotal}
 use Rattle.session_cutting.proofs.Stages.{value-checked}
 use borrow.Author.Needs.{needs}
 use Rattle.session_cutting.proofs.check_total.Statement.{statement}

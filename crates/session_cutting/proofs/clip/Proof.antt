@@ -37,19 +37,19 @@ element-write-ceilings c = let p = rw (c .before .before .before .before .cut2 .
 
 returns : tie.Need-returns
 unfolding clipped
-returns c = let p = rw (c .before .before .before .before .cut .given .1) at (c .before .before .before .before .before .before .pre) in rw (c .before .before .before .before .cut .given .1, c .greatest .ensures, c .before .wide .ensures .0, p .1)
+returns c = let p = rw (c .before .before .before .before .cut .given .1) at (c .before .before .before .before .before .before .pre) in rw (c .before .before .before .before .cut .given .1, c .max .ensures, c .before .wide .ensures .0, p .1)
 
 returns-2 : tie.Need-returns-2
 unfolding clipped
-returns-2 c = let p = rw (c .before .before .before .before .cut2 .given .1) at (c .before .before .before .before .before .before .pre) in rw (c .before .before .before .before .cut2 .given .1, c .least .ensures, c .before .wide2 .ensures .0, p .1)
+returns-2 c = let p = rw (c .before .before .before .before .cut2 .given .1) at (c .before .before .before .before .before .before .pre) in rw (c .before .before .before .before .cut2 .given .1, c .min .ensures, c .before .wide2 .ensures .0, p .1)
 
 returns-3 : tie.Need-returns-3
 unfolding clipped
-returns-3 c = let p = rw (c .before .enum-told .given .1) at (c .before .before .before .pre) in rw (c .before .enum-told .given .1, c .greatest2 .ensures, p) refl
+returns-3 c = let p = rw (c .before .enum-told .given .1) at (c .before .before .before .pre) in rw (c .before .enum-told .given .1, c .max2 .ensures, p) refl
 
 returns-4 : tie.Need-returns-4
 unfolding clipped
-returns-4 c = let p = rw (c .before .enum-told2 .given .1) at (c .before .before .before .pre) in rw (c .before .enum-told2 .given .1, c .least2 .ensures, p)
+returns-4 c = let p = rw (c .before .enum-told2 .given .1) at (c .before .before .before .pre) in rw (c .before .enum-told2 .given .1, c .min2 .ensures, p)
 
 pub clip-spec : {M : Type 1} → statement M
 clip-spec =

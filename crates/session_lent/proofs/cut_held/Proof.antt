@@ -43,7 +43,7 @@ use denote.Triple.Clauses.{ensured, lasts}
 use denote.Triple.Table.{entered, cited}
 use denote.Triple.Walked.{says, needs, Stays, stay-none, gave-slice, walkOf, goes-none, goes-gave-slice, Walks, ends-at, walked, walk-meets}
 use denote.Exit.{yes}
-use Rattle.session.specs.Showing.{Sane}
+use Rattle.session.specs.Showing.{SessionInBounds}
 use Rattle.session.specs.declared.Session.{Session}
 use Rattle.session.proofs.Session as S
 use Rattle.session.proofs.Session.Laws as S′
@@ -99,7 +99,7 @@ module _ {M : Type 1} (𝓤 : URA M) (H : Heap 𝓤) (A : Atoms 𝓤) (W : Given
       qed W (‵ (partAt S.the-row fullShare h l 0) ∷ []) ∵ fpick ! (λ vs. fsplit ! $ spelt ! S.the-row (Is S.the-row) (shows 𝓤 H A S.the-row) (LL.vals S.the-type S′.the-laws) (LL.tells S.the-type S′.the-laws) fullShare h vs l 0 $
       move ! (1 ∷ []) $ peeks ! S.the-row (Is S.the-row) (shows 𝓤 H A S.the-row) h (sval h ∷ []) (λ g. drop ! $ use1 W (‵ (fat fullShare S′.mir l 0 (sval h))) (W .laws .raw-at fullShare S′.mir l 0 (sval h)) $ check ! g $ done !))
 
-module _ {M : Type 1} (𝓤 : URA M) (H : Heap 𝓤) (A : Atoms 𝓤) (W : Given 𝓤 H A) (at-mem : Memory → SProp 𝓤) (run : Routine → Fun 𝓤) (κ : Lft) (q : Share) (h : Session) (c : Cut) (b′ o′ : ℕ) (γ′ : GName) (ys : List ℕ) (gs : Is S.the-row h (sval h ∷ [])) (gc : Is C.the-row c (cval c ∷ [])) (room : Room u16 (length ys)) (sane : Sane h) where
+module _ {M : Type 1} (𝓤 : URA M) (H : Heap 𝓤) (A : Atoms 𝓤) (W : Given 𝓤 H A) (at-mem : Memory → SProp 𝓤) (run : Routine → Fun 𝓤) (κ : Lft) (q : Share) (h : Session) (c : Cut) (b′ o′ : ℕ) (γ′ : GName) (ys : List ℕ) (gs : Is S.the-row h (sval h ∷ [])) (gc : Is C.the-row c (cval c ∷ [])) (room : Room u16 (length ys)) (bounds : SessionInBounds h) where
   -- the list that is passed on, and its machine value
   abbrev w : RefT (List ℕ)
   w = record { ptr = (b′, o′); name = γ′; now = ys }
@@ -128,7 +128,7 @@ module _ {M : Type 1} (𝓤 : URA M) (H : Heap 𝓤) (A : Atoms 𝓤) (W : Given
 
   goes : (ν l : ℕ) (δ : GName) → ent 𝓤 (⋆ 𝓤 H A ((‵ (flft (ν ∷ []) fullShare) ⊛ ‵ (flft κ q) ⊛ ‵ ftrue) ∷ ‵ (MutRef (named 0) (ν ∷ []) S.the-row .own (y l δ) (vptr l 0 ∷ [])) ∷ ‵ (MutSlice (named 0) κ u16 .own w (sv ∷ [])) ∷ [])) (Callee 𝓤 H A at-mem run .pre (to ν l δ))
   goes ν l δ =
-      qed W ((‵ (flft (ν ∷ []) fullShare) ⊛ ‵ (flft κ q) ⊛ ‵ ftrue) ∷ ‵ (MutRef (named 0) (ν ∷ []) S.the-row .own (y l δ) (vptr l 0 ∷ [])) ∷ ‵ (MutSlice (named 0) κ u16 .own w (sv ∷ [])) ∷ []) ∵ says ! sane $ frame ! $
+      qed W ((‵ (flft (ν ∷ []) fullShare) ⊛ ‵ (flft κ q) ⊛ ‵ ftrue) ∷ ‵ (MutRef (named 0) (ν ∷ []) S.the-row .own (y l δ) (vptr l 0 ∷ [])) ∷ ‵ (MutSlice (named 0) κ u16 .own w (sv ∷ [])) ∷ []) ∵ says ! bounds $ frame ! $
       nothing ! $ move ! (2 ∷ 0 ∷ []) $ fjoin ! $ owned ! C.the-row (Is C.the-row) (EL.makes C.the-type C′.the-plain 𝓤 H A) c _ gc $ fjoin ! $ move ! (1 ∷ 0 ∷ []) $ fjoin ! $ done !
 
   -- what the cut gives, and that the result is that
@@ -184,8 +184,8 @@ module _ {M : Type 1} (𝓤 : URA M) (H : Heap 𝓤) (A : Atoms 𝓤) (W : Given
 module _ {M : Type 1} (𝓤 : URA M) (H : Heap 𝓤) (A : Atoms 𝓤) (W : Given 𝓤 H A) (at-mem : Memory → SProp 𝓤) (run : Routine → Fun 𝓤) where
   walks : (Cs : Calls 𝓤 H) (Λ : Loops 𝓤 H) → FmC 𝓤 H (W .laws) Cs → Triple 𝓤 (Cs #session-lent·cut) (Callee 𝓤 H A at-mem run) → Walks 𝓤 H A self.ended stayed (WpFn 𝓤 H Cs Λ code.function) (self.clauses 𝓤 H A at-mem run)
   walks Cs Λ fm known = walked 𝓤 H A self.ended stayed (self.clauses 𝓤 H A at-mem run) (WpFn 𝓤 H Cs Λ code.function) (λ κs. (LL.vals S.the-type S′.the-laws, (EL.vals C.the-type C′.the-laws, (slice-vals, tt)))) (λ κs. (LL.tells S.the-type S′.the-laws, (EL.tells C.the-type C′.the-laws, (mut-slice-tells (named 0) (κs .0) u16, tt))))
-      (λ κs qs bounds a _ are. needs 𝓤 (Sane (a .0)) _ (λ sane.
-      walk 𝓤 H A W at-mem run (κs .0) (qs .0) (a .0) (a .1 .0) (a .1 .1 .0 .ptr .0) (a .1 .1 .0 .ptr .1) (a .1 .1 .0 .name) (a .1 .1 .0 .now) (are .0) (are .1 .0) (are .1 .1 .0 .0 .1) sane Cs Λ fm known))
+      (λ κs qs bounds a _ are. needs 𝓤 (SessionInBounds (a .0)) _ (λ bounds.
+      walk 𝓤 H A W at-mem run (κs .0) (qs .0) (a .0) (a .1 .0) (a .1 .1 .0 .ptr .0) (a .1 .1 .0 .ptr .1) (a .1 .1 .0 .name) (a .1 .1 .0 .now) (are .0) (are .1 .0) (are .1 .1 .0 .0 .1) bounds Cs Λ fm known))
 
 meets : {M : Type 1} (𝓤 : URA M) (H : Heap 𝓤) (A : Atoms 𝓤) (W : Given 𝓤 H A) (at-mem : Memory → SProp 𝓤) (run : Routine → Fun 𝓤) (𝓣 : Tables 𝓤 H) → Triple 𝓤 (𝓣 .C #session-lent·cut) (Callee 𝓤 H A at-mem run)
     → Meets 𝓤 H A self.signature (WpFn 𝓤 H (𝓣 .C) (𝓣 .Λ) code.function) (self.spec 𝓤 H A at-mem run)

@@ -16,7 +16,7 @@ loop-holds : tie.Need-loop-holds Inv-loop μ-loop
 loop-holds c = upto-none
 
 returns : tie.Need-returns Inv-loop μ-loop
-returns c = upto-crossed (c .before .before .before .before .before .before .before .loop .inv) (c .before .before .before .before .before .before .loop-test .taken) (c .before .before .before .before .wide .ensures .0) (c .before .before .before .greatest .ensures) (c .before .wide2 .ensures .0) (c .if1 .taken)
+returns c = upto-crossed (c .before .before .before .before .before .before .before .loop .inv) (c .before .before .before .before .before .before .loop-test .taken) (c .before .before .before .before .wide .ensures .0) (c .before .before .before .max .ensures) (c .before .wide2 .ensures .0) (c .if1 .taken)
 
 narrow-requires : tie.Need-narrow-requires Inv-loop μ-loop
 narrow-requires c κs = omega (arith, c .before .before .before .before .before .before .before .before .pre .ceiling (c .before .before .before .before .before .before .before .loop .i) (c .before .before .before .before .before .before .loop-test .taken))
@@ -25,7 +25,7 @@ risen-requires : tie.Need-risen-requires Inv-loop μ-loop
 risen-requires c κs = omega (arith, c .before .before .before .before .before .before .before .before .before .before .before .pre .ceiling (c .before .before .before .before .before .before .before .before .before .before .loop .i) (c .before .before .before .before .before .before .before .before .before .loop-test .taken), c .before .before .before .before .before .before .before .before .before .before .before .pre .rise (c .before .before .before .before .before .before .before .before .before .before .loop .i) (c .before .before .before .before .before .before .before .before .before .loop-test .taken))
 
 loop-again : tie.Need-loop-again Inv-loop μ-loop
-loop-again c = upto-more (c .before .before .before .before .before .before .before .before .before .before .before .loop .inv) (c .before .before .before .before .before .before .before .before .before .before .loop-test .taken) (c .before .before .before .before .before .before .before .before .wide .ensures .0) (c .before .before .before .before .before .before .before .greatest .ensures) (c .before .before .before .before .before .wide2 .ensures .0) (c .before .before .before .before .if1 .left) (c .before .before .before .narrow .ensures) (c .before .wide3 .ensures .0) (c .risen .ensures)
+loop-again c = upto-more (c .before .before .before .before .before .before .before .before .before .before .before .loop .inv) (c .before .before .before .before .before .before .before .before .before .before .loop-test .taken) (c .before .before .before .before .before .before .before .before .wide .ensures .0) (c .before .before .before .before .before .before .before .max .ensures) (c .before .before .before .before .before .wide2 .ensures .0) (c .before .before .before .before .if1 .left) (c .before .before .before .narrow .ensures) (c .before .wide3 .ensures .0) (c .risen .ensures)
 
 returns-2 : tie.Need-returns-2 Inv-loop μ-loop
 returns-2 c = upto-all (c .before .loop .inv) (c .loop-test .left)

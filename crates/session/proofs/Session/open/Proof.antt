@@ -3,7 +3,8 @@ use mathlib.Core.Path.{_≡_, _∙_}
 use denote.Ref.{now}
 use borrow.Author.Needs.{needs}
 use native.Mathlib.Omega.{arith}
-use Rattle.base_codes.specs.Code.{lowestPoint, highestPoint, lowestRise, highestRise, lowestTotal, highestTotal, firstOutside, coded}
+use Rattle.limits.specs.Limits.{lowestPoint, highestPoint, lowestRise, highestRise, lowestTotal, highestTotal}
+use Rattle.base_codes.specs.Code.{firstOutside, coded}
 use Rattle.base_codes.proofs.Laws.{coded-code, coded-outside}
 use Rattle.base_codes.proofs.Casts.{coded-seen}
 use Rattle.session.specs.Profile.{Profile}

@@ -3,6 +3,6 @@ use Prim.Native.Nat.{ℕ}
 use mathlib.Core.List.{List}
 use Rattle.theory_method.specs.Stages.{Ready, Rising}
 
-pub record Raisable (fs cs rs : List ℕ) (n : ℕ) : Type 0 where
+pub record FloorsReady (fs cs rs : List ℕ) (n : ℕ) : Type 0 where
   pub ready : Ready fs cs rs n
   pub rising : Rising cs rs n

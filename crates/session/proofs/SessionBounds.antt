@@ -7,20 +7,21 @@ use lib.IntN.{pos}
 use lib.Dec.{eqb}
 use lib.ListN.{length-replicate, getD-replicate}
 use borrow.Author.Tests.{eqb-true}
+use Rattle.limits.specs.Limits.{lowestPoint, lowestRise}
 use Rattle.theory_lists.specs.Sum.{at}
 use Rattle.theory_lists.specs.Written.{written, length-written, written-below}
-use Rattle.base_codes.specs.Code.{lowestPoint, lowestRise, code}
+use Rattle.base_codes.specs.Code.{code}
 use Rattle.theory_method.specs.Filter.{zeros}
 use Rattle.theory_method.proofs.Exact.{exact, exact-in-bounds}
 use Rattle.session.specs.Profile.{Profile}
-use Rattle.session.specs.Opening.{earlier, badCount, badLength, badPoint, badRise, badTotal, badRange, opened, openedWith, refusedWith, narrowed, allZero, codes}
-use Rattle.session.specs.Showing.{Fits, Sane}
+use Rattle.session.specs.Opening.{earlyOpening, badCount, badLength, badPoint, badRise, badTotal, badRange, opened, openedWith, refusedWith, narrowed, allZero, codes}
+use Rattle.session.specs.Showing.{Fits, SessionInBounds}
 use Rattle.session.proofs.Entered.{entered, codes-bounds}
 
 -- ---- its refusal
 
-pub earlier-few : (p : Profile) → earlier p ≤ 6
-unfolding earlier
+pub earlier-few : (p : Profile) → earlyOpening p ≤ 6
+unfolding earlyOpening
 earlier-few p = go (badCount p) (badLength p) (badPoint p) (badRise p) (badTotal p) (badRange p)
   where
     go : (a b c d e f : Bool) → cond a 1 (cond b 2 (cond c 3 (cond d 4 (cond e 5 (cond f 6 0))))) ≤ 6
@@ -33,14 +34,14 @@ earlier-few p = go (badCount p) (badLength p) (badPoint p) (badRise p) (badTotal
     go false false false false false false = omega arith
 
 -- 8 only where no check before 8 refuses, and else what those checks say
-pub opened-refusal : (p : Profile) → (opened p .refusal ≡ 8 → earlier p ≡ 0) × ((opened p .refusal ≡ 8 → ⊥) → opened p .refusal ≡ earlier p)
+pub opened-refusal : (p : Profile) → (opened p .refusal ≡ 8 → earlyOpening p ≡ 0) × ((opened p .refusal ≡ 8 → ⊥) → opened p .refusal ≡ earlyOpening p)
 unfolding opened
-opened-refusal p = go (eqb (earlier p) 0) (narrowed p .found) refl refl
+opened-refusal p = go (eqb (earlyOpening p) 0) (narrowed p .found) refl refl
   where
-    go : (early found : Bool) → eqb (earlier p) 0 ≡ early → narrowed p .found ≡ found
-        → (opened p .refusal ≡ 8 → earlier p ≡ 0) × ((opened p .refusal ≡ 8 → ⊥) → opened p .refusal ≡ earlier p)
-    go true true e f = (λ h. eqb-true (earlier p) 0 e, λ h. rw (e, f) (omega (arith, eqb-true (earlier p) 0 e)))
-    go true false e f = (λ h. eqb-true (earlier p) 0 e, λ h. absurd (h (rw (e, f) refl)))
+    go : (early found : Bool) → eqb (earlyOpening p) 0 ≡ early → narrowed p .found ≡ found
+        → (opened p .refusal ≡ 8 → earlyOpening p ≡ 0) × ((opened p .refusal ≡ 8 → ⊥) → opened p .refusal ≡ earlyOpening p)
+    go true true e f = (λ h. eqb-true (earlyOpening p) 0 e, λ h. rw (e, f) (omega (arith, eqb-true (earlyOpening p) 0 e)))
+    go true false e f = (λ h. eqb-true (earlyOpening p) 0 e, λ h. absurd (h (rw (e, f) refl)))
     go false found e f = (λ h. absurd (omega (arith, rw e at h, earlier-few p)), λ h. rw e refl)
 
 -- ---- its session
@@ -63,18 +64,18 @@ one-day =
       highest = omega arith;
     }
 
-refused-sane : (number : ℕ) → Sane (refusedWith number .session)
-refused-sane number = record { opened = one-day; present = one-day }
+refused-in-bounds : (number : ℕ) → SessionInBounds (refusedWith number .session)
+refused-in-bounds number = record { opened = one-day; present = one-day }
 
-pub opened-sane : (p : Profile) → Sane (opened p .session)
+pub opened-in-bounds : (p : Profile) → SessionInBounds (opened p .session)
 unfolding opened
-opened-sane p = go (eqb (earlier p) 0) (narrowed p .found) refl refl
+opened-in-bounds p = go (eqb (earlyOpening p) 0) (narrowed p .found) refl refl
   where
-    go : (early found : Bool) → eqb (earlier p) 0 ≡ early → narrowed p .found ≡ found
-        → Sane (cond early (openedWith (p .days) (codes lowestRise (p .rises) (p .days - 1)) (narrowed p)) (refusedWith (earlier p)) .session)
+    go : (early found : Bool) → eqb (earlyOpening p) 0 ≡ early → narrowed p .found ≡ found
+        → SessionInBounds (cond early (openedWith (p .days) (codes lowestRise (p .rises) (p .days - 1)) (narrowed p)) (refusedWith (earlyOpening p)) .session)
     go true true e f =
-        let d = entered p (eqb-true (earlier p) 0 e) in
+        let d = entered p (eqb-true (earlyOpening p) 0 e) in
         let b = exact-in-bounds (exact (codes-bounds p d) f) (codes-bounds p d) in
         rw f (record { opened = b; present = b })
-    go true false e f = rw f (refused-sane 8)
-    go false found e f = refused-sane (earlier p)
+    go true false e f = rw f (refused-in-bounds 8)
+    go false found e f = refused-in-bounds (earlyOpening p)

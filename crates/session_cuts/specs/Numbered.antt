@@ -3,12 +3,12 @@ use mathlib.Core.Bool.{cond}
 use Prim.Native.Nat.{ℕ}
 use lib.IntN.{ℤ}
 use lib.Dec.{eqb}
-use Rattle.session_cuts.specs.declared.Told.{Told}
-use Rattle.session_cuts.specs.declared.Told.the-variants.{Known, Unknown}
+use Rattle.session_cuts.specs.declared.Numbered.{Numbered}
+use Rattle.session_cuts.specs.declared.Numbered.the-variants.{Known, Unknown}
 use Rattle.session_cuts.specs.declared.Cut.the-variants.{DayFloor, DayCeiling, TotalFloor, TotalCeiling}
 
-unfoldable pub told : ℕ → ℕ → ℤ → Told
-told kind day value =
+unfoldable pub numbered : ℕ → ℕ → ℤ → Numbered
+numbered kind day value =
     cond (eqb kind 0) (Known (DayFloor day value))
     (cond (eqb kind 1) (Known (DayCeiling day value))
     (cond (eqb kind 2) (Known (TotalFloor day value))
