@@ -16,8 +16,48 @@ use Rattle.c_lists.specs.Lists.{cellBytes}
 use Rattle.session.specs.declared.Ranges.{Ranges}
 use Rattle.session.specs.declared.Session.{Session}
 
+-- ---- where each field stands: its place is the one before it and the size of what stands there
+
+-- how many bytes a cell and a bound of the total take
+abbrev pub cellLength : ℕ
+cellLength = 2
+
+abbrev pub totalLength : ℕ
+totalLength = 4
+
+-- both bounds of the total; a block of cells; the blocks of floors and ceilings
+abbrev pub totalsLength : ℕ
+totalsLength = 2 * totalLength
+
+abbrev pub blockLength : ℕ
+blockLength = mostDays * cellLength
+
+abbrev pub rangesLength : ℕ
+rangesLength = 2 * blockLength
+
+abbrev pub daysPlace : ℕ
+daysPlace = 0
+
+abbrev pub markPlace : ℕ
+markPlace = daysPlace + cellLength
+
+abbrev pub openedTotalsPlace : ℕ
+openedTotalsPlace = markPlace + cellLength
+
+abbrev pub presentTotalsPlace : ℕ
+presentTotalsPlace = openedTotalsPlace + totalsLength
+
+abbrev pub risesPlace : ℕ
+risesPlace = presentTotalsPlace + totalsLength
+
+abbrev pub openedPlace : ℕ
+openedPlace = risesPlace + blockLength
+
+abbrev pub presentPlace : ℕ
+presentPlace = openedPlace + rangesLength
+
 abbrev pub sessionBytes : ℕ
-sessionBytes = 5140
+sessionBytes = presentPlace + rangesLength
 
 -- ---- the bytes of a session
 
@@ -25,7 +65,7 @@ unfoldable pub totalBytes : ℕ → ℕ → List ℕ
 totalBytes least most = i32Bytes (decoded lowestTotal least) ++ i32Bytes (decoded lowestTotal most)
 
 unfoldable pub blockBytes : List ℕ → ℕ → List ℕ
-blockBytes cells n = cellBytes (at cells) n ++ replicate ((mostDays - n) * 2) 0
+blockBytes cells n = cellBytes (at cells) n ++ replicate ((mostDays - n) * cellLength) 0
 
 unfoldable pub encoding : Session → List ℕ
 encoding s =
@@ -39,7 +79,7 @@ encoding s =
 
 -- n cells from a place on, each at most that, and 0 past them
 abbrev pub cellsAt : List ℕ → ℕ → ℕ → ℕ → List ℕ
-cellsAt b n most place = written (λ k. min (u16At b (place + k * 2)) most) n zeros
+cellsAt b n most place = written (λ k. min (u16At b (place + k * cellLength)) most) n zeros
 
 -- a bound of the total, as it is held, or 0 where it is outside its bounds
 abbrev pub totalAt : List ℕ → ℕ → ℕ
@@ -47,17 +87,17 @@ totalAt b place = cond (within lowestTotal highestTotal (i32At b place)) (code l
 
 unfoldable pub rangesAt : List ℕ → ℕ → ℕ → ℕ → Ranges
 rangesAt b n totals place =
-    record { floors = cellsAt b n highestLevel place; ceilings = cellsAt b n highestLevel (place + 1024); least = totalAt b totals; most = totalAt b (totals + 4) }
+    record { floors = cellsAt b n highestLevel place; ceilings = cellsAt b n highestLevel (place + blockLength); least = totalAt b totals; most = totalAt b (totals + totalLength) }
 
 abbrev pub daysAt : List ℕ → ℕ
-daysAt b = max 1 (min mostDays (u16At b 0))
+daysAt b = max 1 (min mostDays (u16At b daysPlace))
 
 unfoldable pub decoding : List ℕ → Session
 decoding b =
     record {
       days = daysAt b;
-      rises = cellsAt b (daysAt b) highestRiseCode 20;
-      opened = rangesAt b (daysAt b) 4 1044;
-      present = rangesAt b (daysAt b) 12 3092;
-      spent = not (eqb (u16At b 2) 0);
+      rises = cellsAt b (daysAt b) highestRiseCode risesPlace;
+      opened = rangesAt b (daysAt b) openedTotalsPlace openedPlace;
+      present = rangesAt b (daysAt b) presentTotalsPlace presentPlace;
+      spent = not (eqb (u16At b markPlace) 0);
     }

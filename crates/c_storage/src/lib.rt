@@ -9,7 +9,7 @@ ghost use Rattle.limits.specs.Limits.{mostDays, highestTotalCode};
 ghost use Rattle.theory_lists.specs.Written.{written};
 ghost use Rattle.base_little_endian.specs.Fields.{u16At};
 ghost use Rattle.session.specs.Showing.{SessionInBounds};
-ghost use Rattle.c_storage.specs.Layout.{sessionBytes, totalBytes, blockBytes, encoding, totalAt, rangesAt, decoding};
+ghost use Rattle.c_storage.specs.Layout.{cellLength, totalLength, totalsLength, blockLength, rangesLength, sessionBytes, totalBytes, blockBytes, encoding, totalAt, rangesAt, decoding};
 use base_codes::Coded;
 use base_little_endian::i32_at;
 use base_little_endian::put_i32;
@@ -29,7 +29,33 @@ const MOST_LEVEL: u16 = limits::HIGHEST_LEVEL as u16;
 
 const MOST_RISE_CODE: u16 = limits::HIGHEST_RISE_CODE as u16;
 
-pub const SESSION_BYTES: usize = 5140;
+// ---- the layout: each place is the one before it and the size of what stands there
+
+const CELL_BYTES: usize = 2;
+
+const TOTAL_BYTES: usize = 4;
+
+const TOTALS_BYTES: usize = 2 * TOTAL_BYTES;
+
+const BLOCK_BYTES: usize = MOST_DAYS * CELL_BYTES;
+
+const RANGES_BYTES: usize = 2 * BLOCK_BYTES;
+
+const DAYS_AT: usize = 0;
+
+const MARK_AT: usize = DAYS_AT + CELL_BYTES;
+
+const OPENED_TOTALS_AT: usize = MARK_AT + CELL_BYTES;
+
+const PRESENT_TOTALS_AT: usize = OPENED_TOTALS_AT + TOTALS_BYTES;
+
+const RISES_AT: usize = PRESENT_TOTALS_AT + TOTALS_BYTES;
+
+const OPENED_AT: usize = RISES_AT + BLOCK_BYTES;
+
+const PRESENT_AT: usize = OPENED_AT + RANGES_BYTES;
+
+pub const SESSION_BYTES: usize = PRESENT_AT + RANGES_BYTES;
 
 // ---- decoding: whatever the bytes are, the numbers are in bounds
 
@@ -41,19 +67,19 @@ fn at_most(x: u16, most: u16) -> u16
 
 // The first n cells from a place on.
 fn cells(bytes: &[u8], place: usize, n: usize, most: u16, out: &mut [u16; MOST_DAYS])
-    requires { ⌜ (n ≤ mostDays) × (place + n * 2 ≤ length (now bytes)) ⌝ }
-    ensures { λ r. ⌜ now (out .exit) ≡ written (λ k. min (u16At (now (bytes .entry)) (place + k * 2)) most) n (now (out .entry)) ⌝ }
+    requires { ⌜ (n ≤ mostDays) × (place + n * cellLength ≤ length (now bytes)) ⌝ }
+    ensures { λ r. ⌜ now (out .exit) ≡ written (λ k. min (u16At (now (bytes .entry)) (place + k * cellLength)) most) n (now (out .entry)) ⌝ }
 {
     let mut k = 0;
     while k < n {
-        out[k] = at_most(u16_at(bytes, place + k * 2), most);
+        out[k] = at_most(u16_at(bytes, place + k * CELL_BYTES), most);
         k += 1;
     }
 }
 
 // A bound of the total, as it is held.
 fn total(bytes: &[u8], place: usize) -> usize
-    requires { ⌜ place + 4 ≤ length (now bytes) ⌝ }
+    requires { ⌜ place + totalLength ≤ length (now bytes) ⌝ }
     ensures { λ r. ⌜ r ≡ totalAt (now (bytes .entry)) place ⌝ }
 {
     let Coded::Code(held) = base_codes::code(
@@ -67,18 +93,18 @@ fn total(bytes: &[u8], place: usize) -> usize
 }
 
 fn ranges(bytes: &[u8], n: usize, totals: usize, place: usize) -> Ranges
-    requires { ⌜ (n ≤ mostDays) × (totals + 8 ≤ length (now bytes)) × (place + 2048 ≤ length (now bytes)) ⌝ }
+    requires { ⌜ (n ≤ mostDays) × (totals + totalsLength ≤ length (now bytes)) × (place + rangesLength ≤ length (now bytes)) ⌝ }
     ensures { λ r. ⌜ r ≡ rangesAt (now (bytes .entry)) n totals place ⌝ }
 {
     let mut floors = [0u16; MOST_DAYS];
     let mut ceilings = [0u16; MOST_DAYS];
     cells(bytes, place, n, MOST_LEVEL, &mut floors);
-    cells(bytes, place + 1024, n, MOST_LEVEL, &mut ceilings);
+    cells(bytes, place + BLOCK_BYTES, n, MOST_LEVEL, &mut ceilings);
     Ranges {
         floors,
         ceilings,
         least: total(bytes, totals),
-        most: total(bytes, totals + 4),
+        most: total(bytes, totals + TOTAL_BYTES),
     }
 }
 
@@ -86,17 +112,17 @@ pub fn decode(bytes: &[u8]) -> Session
     requires { ⌜ length (now bytes) ≡ sessionBytes ⌝ }
     ensures { λ r. ⌜ r ≡ decoding (now (bytes .entry)) ⌝ }
 {
-    let days = max(1, min(Session::MOST_DAYS, wide(u16_at(bytes, 0))));
+    let days = max(1, min(Session::MOST_DAYS, wide(u16_at(bytes, DAYS_AT))));
     let mut rises = [0u16; MOST_DAYS];
-    cells(bytes, 20, days, MOST_RISE_CODE, &mut rises);
-    let opened = ranges(bytes, days, 4, 1044);
-    let present = ranges(bytes, days, 12, 3092);
+    cells(bytes, RISES_AT, days, MOST_RISE_CODE, &mut rises);
+    let opened = ranges(bytes, days, OPENED_TOTALS_AT, OPENED_AT);
+    let present = ranges(bytes, days, PRESENT_TOTALS_AT, PRESENT_AT);
     Session {
         days,
         rises,
         opened,
         present,
-        spent: u16_at(bytes, 2) != 0,
+        spent: u16_at(bytes, MARK_AT) != 0,
     }
 }
 
@@ -109,7 +135,7 @@ fn mark(spent: bool) -> u16
 }
 
 fn put_totals(least: usize, most: usize, place: usize, out: &mut [u8])
-    requires { ⌜ (least ≤ highestTotalCode) × (most ≤ highestTotalCode) × (place + 8 ≤ length (now out)) ⌝ }
+    requires { ⌜ (least ≤ highestTotalCode) × (most ≤ highestTotalCode) × (place + totalsLength ≤ length (now out)) ⌝ }
     ensures { λ r. ⌜ now (out .exit) ≡ sets (now (out .entry)) place (totalBytes least most) ⌝ }
 {
     put_i32(out, place, base_codes::decode(least, Session::LOWEST_TOTAL));
@@ -133,21 +159,21 @@ fn put_zeros(out: &mut [u8], from: usize, to: usize)
 
 // The cells of n days, and 0 past the last.
 fn put_block(cells: &[u16; MOST_DAYS], n: usize, place: usize, out: &mut [u8])
-    requires { ⌜ (n ≤ mostDays) × (place + 1024 ≤ length (now out)) ⌝ }
+    requires { ⌜ (n ≤ mostDays) × (place + blockLength ≤ length (now out)) ⌝ }
     ensures { λ r. ⌜ now (out .exit) ≡ sets (now (out .entry)) place (blockBytes (now (cells .entry)) n) ⌝ }
 {
     put_cells(cells, n, place, out);
-    put_zeros(out, place + n * 2, place + 1024);
+    put_zeros(out, place + n * CELL_BYTES, place + BLOCK_BYTES);
 }
 
 fn put_ranges(ranges: Ranges, n: usize, place: usize, out: &mut [u8])
-    requires { ⌜ (n ≤ mostDays) × (place + 2048 ≤ length (now out)) ⌝ }
+    requires { ⌜ (n ≤ mostDays) × (place + rangesLength ≤ length (now out)) ⌝ }
     ensures { λ r. ⌜ now (out .exit) ≡ sets (now (out .entry)) place (blockBytes (ranges .floors) n ++ blockBytes (ranges .ceilings) n) ⌝ }
 {
     let floors = ranges.floors;
     let ceilings = ranges.ceilings;
     put_block(&floors, n, place, out);
-    put_block(&ceilings, n, place + 1024, out);
+    put_block(&ceilings, n, place + BLOCK_BYTES, out);
 }
 
 pub fn encode(session: Session, out: &mut [u8])
@@ -158,11 +184,11 @@ pub fn encode(session: Session, out: &mut [u8])
     let rises = session.rises;
     let opened = session.opened;
     let present = session.present;
-    put_u16(out, 0, narrow(n));
-    put_u16(out, 2, mark(session.spent));
-    put_totals(opened.least, opened.most, 4, out);
-    put_totals(present.least, present.most, 12, out);
-    put_block(&rises, n, 20, out);
-    put_ranges(opened, n, 1044, out);
-    put_ranges(present, n, 3092, out);
+    put_u16(out, DAYS_AT, narrow(n));
+    put_u16(out, MARK_AT, mark(session.spent));
+    put_totals(opened.least, opened.most, OPENED_TOTALS_AT, out);
+    put_totals(present.least, present.most, PRESENT_TOTALS_AT, out);
+    put_block(&rises, n, RISES_AT, out);
+    put_ranges(opened, n, OPENED_AT, out);
+    put_ranges(present, n, PRESENT_AT, out);
 }

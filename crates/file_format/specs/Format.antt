@@ -3,6 +3,7 @@ use mathlib.Core.List.{List, _++_}
 use Prim.Native.Nat.{ℕ, _+_, _-_, _*_}
 use lib.IntN.{ℤ, pos}
 use lib.ListN.{length}
+use Rattle.limits.specs.Limits.{mostDays, mostCuts}
 use Rattle.theory_lists.specs.ListOf.{listOf}
 use Rattle.theory_lists.specs.Rows.{rows}
 use Rattle.base_codes.specs.Code.{on}
@@ -36,6 +37,10 @@ cutOffset n j = dayOffset n + j * cutLength
 -- how long a file of n days and m cuts is
 abbrev pub fileLength : ℕ → ℕ → ℕ
 fileLength n m = cutOffset n m
+
+-- the longest file
+abbrev pub longestFile : ℕ
+longestFile = fileLength mostDays mostCuts
 
 -- ---- what a file's bytes say
 

@@ -2,7 +2,7 @@
 use mathlib.Core.Path.{_≡_}
 use mathlib.Core.Bool.{cond}
 use mathlib.Core.List.{List, [], _∷_, _++_}
-use Prim.Native.Nat.{ℕ, zero, suc, _<_}
+use Prim.Native.Nat.{ℕ, zero, suc, _<_, _+_}
 use lib.IntN.{ℤ}
 use lib.Dec.{eqb}
 use lib.ListN.{length, take}
@@ -17,7 +17,7 @@ use Rattle.session_cuts.specs.declared.Cut.{Cut}
 use Rattle.session_cuts.specs.Sheet.{cutOn}
 use Rattle.session_cutting.specs.Cutting.{afterCut}
 use Rattle.session_cutting.specs.declared.AfterCut.{AfterCut}
-use Rattle.file_format.specs.Format.{profileIn, cutsIn}
+use Rattle.file_format.specs.Format.{longestFile, profileIn, cutsIn}
 use Rattle.file_format.specs.Reading as Reading
 
 -- ---- the work
@@ -38,6 +38,13 @@ cutAll o f (suc m) = cutOnce (cutAll o f m) (f m)
 unfoldable pub fileOpened : List ℕ → Opened
 fileOpened b =
     cond (eqb (Reading.earlyReading b) 0) (cutAll (opened (profileIn b)) (cutOn (cutsIn b)) (length (cutsIn b))) (refusedWith (Reading.earlyReading b))
+
+-- the most bytes of the total's line and of a day's
+abbrev pub totalLineLength : ℕ
+totalLineLength = 22
+
+abbrev pub dayLineLength : ℕ
+dayLineLength = 20
 
 -- ---- the text: "total", "day", "refused", a space between fields, a line feed after each line
 
@@ -63,6 +70,6 @@ answerText o = cond (eqb (o .refusal) 0) (rangesText (o .session)) (refusedLine 
 unfoldable pub printed : List ℕ → List ℕ
 printed b = answerText (fileOpened b)
 
--- of an input longer than the longest file, 7,184 bytes, the first 7,185 bytes tell what is printed
+-- of an input longer than the longest file one byte more than that tells what is printed
 abbrev pub PrintedLong : Type 0
-PrintedLong = (b : List ℕ) → 7184 < length b → printed (take 7185 b) ≡ printed b
+PrintedLong = (b : List ℕ) → longestFile < length b → printed (take (longestFile + 1) b) ≡ printed b

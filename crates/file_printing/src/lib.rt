@@ -10,13 +10,22 @@ ghost use Rattle.base_codes.specs.Code.{on};
 ghost use Rattle.session.specs.Opening.{opened, profile};
 ghost use Rattle.session.specs.Showing.{SessionInBounds};
 ghost use Rattle.session_cuts.specs.Sheet.{blank};
-ghost use Rattle.file_printing.specs.Printing.{cutOnce, cutAll, range, totalLine, dayLine, refusedLine, rangesText, printed};
+ghost use Rattle.file_printing.specs.Printing.{dayLineLength, cutOnce, cutAll, range, totalLine, dayLine, refusedLine, rangesText, printed};
 ghost use Rattle.file_printing.specs.Stages.{stageOf, numberOf};
 use limits::MOST_CUTS;
 use limits::MOST_DAYS;
 use session::Opened;
 use session::Session;
 use session_cuts::Entry;
+
+// The most bytes of the total's line, of a day's, and of the text.
+const TOTAL_LINE_BYTES: usize = 22;
+
+const DAY_LINE_BYTES: usize = 20;
+
+pub const MOST_TEXT_BYTES: usize = TOTAL_LINE_BYTES + MOST_DAYS * DAY_LINE_BYTES;
+
+const MOST_RISES: usize = MOST_DAYS - 1;
 
 // A stage's answer: that it passed, or the number of its refusal.
 enum Stage {
@@ -119,7 +128,7 @@ fn put_days(
     floors: &[i16; MOST_DAYS],
     ceilings: &[i16; MOST_DAYS],
 ) -> usize
-    requires { ⌜ (days ≤ mostDays) × ((k : ℕ) → k < days → length (dayLine k (on (now floors) k) (on (now ceilings) k)) ≤ 20) × (at + days * 20 ≤ length (now out)) ⌝ }
+    requires { ⌜ (days ≤ mostDays) × ((k : ℕ) → k < days → length (dayLine k (on (now floors) k) (on (now ceilings) k)) ≤ dayLineLength) × (at + days * dayLineLength ≤ length (now out)) ⌝ }
     ensures { λ r. ⌜ now (out .exit) ≡ sets (now (out .entry)) at (rows (λ k. dayLine k (on (now (floors .entry)) k) (on (now (ceilings .entry)) k)) days) ⌝ }
     ensures { λ r. ⌜ r ≡ at + length (rows (λ k. dayLine k (on (now (floors .entry)) k) (on (now (ceilings .entry)) k)) days) ⌝ }
 {
@@ -132,7 +141,7 @@ fn put_days(
     next
 }
 
-fn put_ranges(session: Session, out: &mut [u8; 10262]) -> usize
+fn put_ranges(session: Session, out: &mut [u8; MOST_TEXT_BYTES]) -> usize
     requires { ⌜ SessionInBounds session ⌝ }
     ensures { λ r. ⌜ now (out .exit) ≡ inFront (rangesText session) (now (out .entry)) ⌝ }
     ensures { λ r. ⌜ r ≡ length (rangesText session) ⌝ }
@@ -145,7 +154,7 @@ fn put_ranges(session: Session, out: &mut [u8; 10262]) -> usize
     put_days(out, at, days, &floors, &ceilings)
 }
 
-fn put_refusal(number: u8, out: &mut [u8; 10262]) -> usize
+fn put_refusal(number: u8, out: &mut [u8; MOST_TEXT_BYTES]) -> usize
     ensures { λ r. ⌜ now (out .exit) ≡ inFront (refusedLine number) (now (out .entry)) ⌝ }
     ensures { λ r. ⌜ r ≡ length (refusedLine number) ⌝ }
 {
@@ -161,7 +170,7 @@ fn open_read(
     days: usize,
     floors: &[i16; MOST_DAYS],
     ceilings: &[i16; MOST_DAYS],
-    rises: &[i16; 511],
+    rises: &[i16; MOST_RISES],
     lowest: i32,
     highest: i32,
 ) -> Opened
@@ -184,13 +193,13 @@ fn open_read(
 
 // Reads a file, opens its profile, applies its cuts in order, and stores at the front of `out` the first refusal, or the ranges.
 // Answers how long the text is.
-pub fn print_ranges(file: &[u8], out: &mut [u8; 10262]) -> usize
+pub fn print_ranges(file: &[u8], out: &mut [u8; MOST_TEXT_BYTES]) -> usize
     ensures { λ r. ⌜ now (out .exit) ≡ inFront (printed (now (file .entry))) (now (out .entry)) ⌝ }
     ensures { λ r. ⌜ r ≡ length (printed (now (file .entry))) ⌝ }
 {
     let mut floors = [0i16; MOST_DAYS];
     let mut ceilings = [0i16; MOST_DAYS];
-    let mut rises = [0i16; 511];
+    let mut rises = [0i16; MOST_RISES];
     let read = file_reading::read(file, &mut floors, &mut ceilings, &mut rises);
     let reading = stage_of(read.refusal);
     let Stage::Passed = reading else {

@@ -17,11 +17,11 @@ fn drop_rest() {
 }
 
 fn main() {
-    // One byte more than the longest file that is not refused for its length. Of a longer input these bytes are enough (`printed-long`, report's proofs/Longer).
-    let mut file = [0u8; 7185];
+    // One byte more than the longest file that is not refused for its length. Of a longer input these bytes are enough (`printed-long`, file_printing's proofs/Longer).
+    let mut file = [0u8; file_format::MOST_FILE_BYTES + 1];
     let length = io::read_full(STDIN_FILENO, &mut file);
     drop_rest();
-    let mut text = [0u8; 10262];
+    let mut text = [0u8; file_printing::MOST_TEXT_BYTES];
     let end = file_printing::print_ranges(&file[..length], &mut text);
     io::write_all(STDOUT_FILENO, &text[..end]);
 }
