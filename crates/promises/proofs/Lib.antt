@@ -16,12 +16,16 @@ pub mod Inspected
 pub mod Written
 pub mod NoneAtCut
 pub mod SessionBounds
+-- Files: round trips, and what is printed.
 pub mod RoundTrip
 pub mod CutAll
 pub mod Printed
+-- Over C.
 pub mod Storable
 pub mod Bytes
 pub mod Points
 pub mod Demands
 pub mod Schedules
 pub mod Files
+-- All of it.
+pub mod Promised

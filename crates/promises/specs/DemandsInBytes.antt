@@ -91,15 +91,15 @@ pub record Reading (p : Profile) (hs : List ByteCutCall) (b fs cs : List ℕ) : 
 -- ---- demand 2: 8 is said exactly where no check before it refuses and there is no schedule
 
 -- the first refusal of opening before 8 that applies, or 0
-abbrev pub openEarlier : List ℕ → ℕ → List ℕ → List ℕ → List ℕ → ℤ → ℤ → ℕ
-openEarlier b n fs cs rs lo hi =
+abbrev pub earlyOpeningOver : List ℕ → ℕ → List ℕ → List ℕ → List ℕ → ℤ → ℤ → ℕ
+earlyOpeningOver b n fs cs rs lo hi =
     let lengths : ℕ = byteLengthRefusal n (length fs) (length cs) (length rs) in
     cond (isSession b) (cond (eqb lengths 0) (earlyOpening (profileOf n fs cs rs lo hi)) lengths) 2
 
 abbrev pub NoneAtOpening : Type 0
 NoneAtOpening =
     (b : List ℕ) (n : ℕ) (fs cs rs : List ℕ) (lo hi : ℤ)
-    → (openRefusal b n fs cs rs lo hi ≡ 8) ↔ (openEarlier b n fs cs rs lo hi ≡ 0) × ((x : List ℤ) → Schedule (profileOf n fs cs rs lo hi) x → ⊥)
+    → (openRefusal b n fs cs rs lo hi ≡ 8) ↔ (earlyOpeningOver b n fs cs rs lo hi ≡ 0) × ((x : List ℤ) → Schedule (profileOf n fs cs rs lo hi) x → ⊥)
 
 abbrev pub NoneAtCutOver : Profile → List ByteCutCall → List ℕ → ByteCutCall → Type 0
 NoneAtCutOver p hs b h =

@@ -1,7 +1,7 @@
 pub mod Cuts
 pub mod Demands
-pub mod Starred
 pub mod Schedules
+pub mod Starred
 pub mod RoundTrips
 pub mod Printing
 pub mod Example
@@ -9,3 +9,4 @@ pub mod InBytes
 pub mod DemandsInBytes
 pub mod SchedulesInBytes
 pub mod FilesInBytes
+pub mod Promises

@@ -160,6 +160,10 @@ table =
     ∷ opens (starredProfile (5 ⋯ 9 ∷ 0 ⋯ 4 ∷ []) (negsuc 0 ∷ []) (0 ⋯ 20)) (ranges (9 ⋯ 9) (5 ⋯ 5 ∷ 4 ⋯ 4 ∷ []))
     ∷ []
 
-pub starred : map (λ (r : Row). replies (r .given) (r .cuts) (r .asked)) table ≡ map (λ (r : Row). r .gives) table
+-- each row of the table gets the answers that it says
+abbrev pub Starred : Type 0
+Starred = map (λ (r : Row). replies (r .given) (r .cuts) (r .asked)) table ≡ map (λ (r : Row). r .gives) table
+
+pub starred : Starred
 unfolding roundsFrom rounded below opened earlyOpening tightened tightCeilings tightFloors raised loweredFrom firstWhere carried written sumFor fitFrom shiftFrom afterCut earlyCutting clipped daysWhere
 starred = refl
