@@ -65,41 +65,53 @@ module _ {fs cs rs : List ℕ} {n rest : ℕ} where
       let z : n - k ≡ n = omega arith in
       (rw z at (p .made)) ∙ last-all (λ m. raisedFrom fs cs rs n rest m .level) (λ j. raisedFrom fs cs rs n rest (n - j) .level) n fs (λ j u. refl)
 
-  -- a turn reads the floor x, the ceiling y and the rise z of the day before
-  module _ {L U : ℕ} (b : InBounds fs cs rs n L U) {out : List ℕ} {day : Raised} {k x y z : ℕ} (p : Raising fs cs rs n rest out day k)
-      (h : 0 < k) (ex : x ≡ at out (k - 1)) (ey : y ≡ at cs (k - 1)) (ez : z ≡ at rs (k - 1)) where
-    floor : x ≡ at fs (k - 1)
-    floor = ex ∙ ap (λ l. at l (k - 1)) (p .made) ∙ last-before _ 0 n (n - k) fs (k - 1) (omega (arith, p .most))
+-- a turn reads the floor x, the ceiling y and the rise z of the day before
+pub record Reading (fs cs rs : List ℕ) (n rest L U : ℕ) (out : List ℕ) (day : Raised) (k x y z : ℕ) : Type 0 where
+  pub bounds : InBounds fs cs rs n L U
+  pub head : Raising fs cs rs n rest out day k
+  pub more : 0 < k
+  pub floor : x ≡ at out (k - 1)
+  pub ceiling : y ≡ at cs (k - 1)
+  pub rise : z ≡ at rs (k - 1)
 
-    pub raising-asks : (x ≤ 5000) × (y ≤ 5000) × (z ≤ 4000) × (day .level ≤ 7000) × (day .rest ≤ 2560000)
-    raising-asks = (
-      omega (arith, floor, b .floor (k - 1) (omega (arith, p .most))),
-      omega (arith, b .ceiling (k - 1) (omega (arith, p .most))),
-      omega (arith, b .rise (k - 1) (omega (arith, p .most))),
-      p .level,
-      p .left,
-    )
+module _ {fs cs rs : List ℕ} {n rest L U : ℕ} {out : List ℕ} {day : Raised} {k x y z : ℕ} (d : Reading fs cs rs n rest L U out day k x y z) where
+  abbrev before-last : k - 1 < n
+  before-last = omega (arith, d .more, d .head .most)
 
-    module _ {day′ : Raised} (e : day′ ≡ raisedDay x y z day) where
-      pub raising-level : day′ .level ≤ 5000
-      raising-level = rw e (omega (arith, day-level x y z day, raising-asks .0, raising-asks .1))
+  floor : x ≡ at fs (k - 1)
+  floor = d .floor ∙ ap (λ l. at l (k - 1)) (d .head .made) ∙ last-before _ 0 n (n - k) fs (k - 1) (omega (arith, d .more, d .head .most))
 
-      pub raising-turn : {w : ℕ} → w ≡ day′ .level → Raising fs cs rs n rest (set out (k - 1) w) day′ (k - 1)
-      raising-turn {w} ew =
-          let q : n - k + 1 ≡ n - (k - 1) = omega (arith, p .most) in
-          let r : n - (n - (k - 1)) ≡ k - 1 = omega (arith, p .most) in
-          let t : k - 1 + 1 ≡ k = omega arith in
-          let more : raisedFrom fs cs rs n rest (n - (k - 1)) ≡ raisedDay (at fs (k - 1)) (at cs (k - 1)) (at rs (k - 1)) (raisedFrom fs cs rs n rest (n - k)) =
-          rw t at (raised-at fs cs rs n rest (k - 1) (omega (arith, p .most))) in
-          let here : day′ ≡ raisedFrom fs cs rs n rest (n - (k - 1)) = e ∙ rw (floor, ey, ez, p .same) (sym more) in
-          let stored : w ≡ raisedFrom fs cs rs n rest (n - k + 1) .level = rw q (ew ∙ ap (λ d. d .level) here) in
-          record {
-            most = omega (arith, p .most);
-            made = ap (λ l. set l (k - 1) w) (p .made) ∙ (rw (q, r) at (last-more (λ m. raisedFrom fs cs rs n rest m .level) n (n - k) fs w stored));
-            same = here;
-            level = omega (arith, raising-level);
-            left = rw e (omega (arith, day-rest x y z day, p .left));
-          }
+  pub raising-asks : (x ≤ 5000) × (y ≤ 5000) × (z ≤ 4000) × (day .level ≤ 7000) × (day .rest ≤ 2560000)
+  raising-asks = (
+    omega (arith, floor, d .bounds .floor (k - 1) before-last),
+    omega (arith, d .ceiling, d .bounds .ceiling (k - 1) before-last),
+    omega (arith, d .rise, d .bounds .rise (k - 1) before-last),
+    d .head .level,
+    d .head .left,
+  )
+
+  module _ {day′ : Raised} (e : day′ ≡ raisedDay x y z day) where
+    pub raising-level : day′ .level ≤ 5000
+    raising-level = rw e (omega (arith, day-level x y z day, raising-asks .0, raising-asks .1))
+
+    pub raising-turn : {w : ℕ} → w ≡ day′ .level → Raising fs cs rs n rest (set out (k - 1) w) day′ (k - 1)
+    raising-turn {w} ew =
+        let p = d .head in
+        let h = d .more in
+        let q : n - k + 1 ≡ n - (k - 1) = omega (arith, p .most) in
+        let r : n - (n - (k - 1)) ≡ k - 1 = omega (arith, p .most) in
+        let t : k - 1 + 1 ≡ k = omega arith in
+        let more : raisedFrom fs cs rs n rest (n - (k - 1)) ≡ raisedDay (at fs (k - 1)) (at cs (k - 1)) (at rs (k - 1)) (raisedFrom fs cs rs n rest (n - k)) =
+        rw t at (raised-at fs cs rs n rest (k - 1) (omega (arith, p .most))) in
+        let here : day′ ≡ raisedFrom fs cs rs n rest (n - (k - 1)) = e ∙ rw (floor, d .ceiling, d .rise, p .same) (sym more) in
+        let stored : w ≡ raisedFrom fs cs rs n rest (n - k + 1) .level = rw q (ew ∙ ap (λ d. d .level) here) in
+        record {
+          most = omega (arith, p .most);
+          made = ap (λ l. set l (k - 1) w) (p .made) ∙ (rw (q, r) at (last-more (λ m. raisedFrom fs cs rs n rest m .level) n (n - k) fs w stored));
+          same = here;
+          level = omega (arith, raising-level);
+          left = rw e (omega (arith, day-rest x y z day, p .left));
+        }
 
 -- ---- the raised levels, as they stand in an array
 

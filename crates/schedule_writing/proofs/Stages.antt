@@ -1,4 +1,4 @@
--- Writing by what its tests found.
+-- Writing by what its tests found: how a value is judged, that the levels raised are the schedule's, and a law for each return.
 use mathlib.Core.Path.{_≡_, refl, ap, sym, _∙_}
 use mathlib.Core.Bool.{Bool, true, false, cond, not, _&&_, true≢false}
 use mathlib.Core.List.{List}
@@ -70,31 +70,36 @@ module _ (low z : ℤ) (k top floor ceiling : ℕ) (p : Less low 0 k) where
         not-less (code low z) ceiling,
       )
 
-module _ (low z : ℤ) (k top floor ceiling : ℕ) (p : Less low 0 k) (most : ceiling ≤ top) {v : Coded} (ev : v ≡ coded low (decoded low top) z)
-    {q : Checked} (eq : q ≡ checkedWithin v floor ceiling) where
+-- what the calls gave: the value's code, its check against the range, and the number
+record Tested (low z : ℤ) (top floor ceiling : ℕ) (spent : Bool) (v : Coded) (q : Checked) (r : ℕ) : Type 0 where
+  most : ceiling ≤ top
+  coded : v ≡ coded low (decoded low top) z
+  checked : q ≡ checkedWithin v floor ceiling
+  refusal : r ≡ cond spent 9 (cond (not (q .within)) 10 0)
+
+module _ (low z : ℤ) (k top floor ceiling : ℕ) (p : Less low 0 k) {spent : Bool} {v : Coded} {q : Checked} {r : ℕ} (d : Tested low z top floor ceiling spent v q r) where
   within-is : q .within ≡ within (decoded low floor) (decoded low ceiling) z
   within-is = go (within low (decoded low top) z) refl
     where
       go : (b : Bool) → within low (decoded low top) z ≡ b → q .within ≡ within (decoded low floor) (decoded low ceiling) z
-      go true e = rw (eq, ev, e) (sym (within-some low z k top floor ceiling p e))
-      go false e = rw (eq, ev, e) (sym (within-none low z k top floor ceiling p most e))
+      go true e = rw (d .checked, d .coded, e) (sym (within-some low z k top floor ceiling p e))
+      go false e = rw (d .checked, d .coded, e) (sym (within-none low z k top floor ceiling p (d .most) e))
 
-  module _ (spent : Bool) {r : ℕ} (er : r ≡ cond spent 9 (cond (not (q .within)) 10 0)) where
-    in-bounds : r ≡ 0 → (within low (decoded low top) z ≡ true) × (q .code ≡ code low z)
-    in-bounds none = go (within low (decoded low top) z) refl
-      where
-        go : (b : Bool) → within low (decoded low top) z ≡ b → (within low (decoded low top) z ≡ true) × (q .code ≡ code low z)
-        go true e = (e, rw (eq, ev, e))
-        go false e = let f : q .within ≡ false = rw (eq, ev, e) in absurd (true≢false (sym (unrefused spent (q .within) er none) ∙ f))
+  in-bounds : r ≡ 0 → (within low (decoded low top) z ≡ true) × (q .code ≡ code low z)
+  in-bounds none = go (within low (decoded low top) z) refl
+    where
+      go : (b : Bool) → within low (decoded low top) z ≡ b → (within low (decoded low top) z ≡ true) × (q .code ≡ code low z)
+      go true e = (e, rw (d .checked, d .coded, e))
+      go false e = let f : q .within ≡ false = rw (d .checked, d .coded, e) in absurd (true≢false (sym (unrefused spent (q .within) (d .refusal) none) ∙ f))
 
-    judged : Judged low z top floor ceiling spent r (q .code)
-    judged =
-        record {
-          refusal = rw within-is at er;
-          held = λ e. in-bounds e .1;
-          small = λ e. omega (arith, in-bounds e .1, code-most low (decoded low top) z (in-bounds e .0), code-decoded low top);
-          back = λ e. rw (in-bounds e .1) (decoded-code low z (within-yes low (decoded low top) z .0 (in-bounds e .0) .0));
-        }
+  judged : Judged low z top floor ceiling spent r (q .code)
+  judged =
+      record {
+        refusal = rw within-is at (d .refusal);
+        held = λ e. in-bounds e .1;
+        small = λ e. omega (arith, in-bounds e .1, code-most low (decoded low top) z (in-bounds e .0), code-decoded low top);
+        back = λ e. rw (in-bounds e .1) (decoded-code low z (within-yes low (decoded low top) z .0 (in-bounds e .0) .0));
+      }
 
 -- of a day's value, and of the total's
 abbrev pub DayJudged : Session → ℕ → ℤ → ℕ → ℕ → Type 0
@@ -103,15 +108,27 @@ DayJudged s day value = Judged lowestPoint value 5000 (at (s .present .floors) d
 abbrev pub TotalJudged : Session → ℤ → ℕ → ℕ → Type 0
 TotalJudged s value = Judged lowestTotal value 2560000 (s .present .least) (s .present .most) (s .spent)
 
-module _ (s : Session) (value : ℤ) (bounds : SessionInBounds s) {v : Coded} {q : Checked} {r : ℕ} where
-  pub day-judged : {day x y : ℕ} → day < s .days → x ≡ at (s .present .floors) day → y ≡ at (s .present .ceilings) day → v ≡ coded lowestPoint highestPoint value
-      → q ≡ checkedWithin v x y → r ≡ cond (s .spent) 9 (cond (not (q .within)) 10 0) → DayJudged s day value r (q .code)
-  day-judged {day} {x} {y} known ex ey ev eq er =
-      rw (← ex, ← ey) (judged lowestPoint value 1000 5000 x y point-less (omega (arith, bounds .present .ceiling day known)) ev eq (s .spent) er)
+-- what the calls gave of a day's value: its floor x, its ceiling y, the value's code, its check and the number
+pub record DayTested (s : Session) (day : ℕ) (value : ℤ) (x y : ℕ) (v : Coded) (q : Checked) (r : ℕ) : Type 0 where
+  pub bounds : SessionInBounds s
+  pub known : day < s .days
+  pub floor : x ≡ at (s .present .floors) day
+  pub ceiling : y ≡ at (s .present .ceilings) day
+  pub coded : v ≡ coded lowestPoint highestPoint value
+  pub checked : q ≡ checkedWithin v x y
+  pub refusal : r ≡ cond (s .spent) 9 (cond (not (q .within)) 10 0)
 
-  pub total-judged : v ≡ coded lowestTotal highestTotal value → q ≡ checkedWithin v (s .present .least) (s .present .most)
-      → r ≡ cond (s .spent) 9 (cond (not (q .within)) 10 0) → TotalJudged s value r (q .code)
-  total-judged ev eq er = judged lowestTotal value 512000 2560000 (s .present .least) (s .present .most) total-less (bounds .present .highest) ev eq (s .spent) er
+pub day-judged : {s : Session} {day : ℕ} {value : ℤ} {x y : ℕ} {v : Coded} {q : Checked} {r : ℕ} → DayTested s day value x y v q r → DayJudged s day value r (q .code)
+day-judged {s} {day} {value} {x} {y} d =
+    rw (← d .floor, ← d .ceiling)
+    (judged lowestPoint value 1000 5000 x y point-less
+    (record { most = omega (arith, d .ceiling, d .bounds .present .ceiling day (d .known)); coded = d .coded; checked = d .checked; refusal = d .refusal }))
+
+pub total-judged : (s : Session) (value : ℤ) → SessionInBounds s → {v : Coded} {q : Checked} {r : ℕ} → v ≡ coded lowestTotal highestTotal value
+    → q ≡ checkedWithin v (s .present .least) (s .present .most) → r ≡ cond (s .spent) 9 (cond (not (q .within)) 10 0) → TotalJudged s value r (q .code)
+total-judged s value bounds ev eq er =
+    judged lowestTotal value 512000 2560000 (s .present .least) (s .present .most) total-less
+    (record { most = bounds .present .highest; coded = ev; checked = eq; refusal = er })
 
 -- ---- write
 
@@ -143,27 +160,46 @@ module _ {fs cs rs : List ℕ} {n L U : ℕ} (b : InBounds fs cs rs n L U) {r : 
   carried-bounds : (t : ℕ) → t ≤ 2560000 → InBounds gs cs rs n 0 t
   carried-bounds t = refit b (ap length eg ∙ length-written (carried fs rs) r fs ∙ b .floors) (b .ceilings) carried-small (b .ceiling) (omega arith)
 
-module _ {s : Session} {day level : ℕ} (bounds : SessionInBounds s) (h : day < s .days) (small : level ≤ 5000) {fs cs : List ℕ}
-    (ef : fs ≡ set (s .present .floors) day level) (ec : cs ≡ set (s .present .ceilings) day level) where
+-- the day's floor and ceiling are set to the level
+pub record LevelSet (s : Session) (day level : ℕ) (fs cs : List ℕ) : Type 0 where
+  pub bounds : SessionInBounds s
+  pub known : day < s .days
+  pub small : level ≤ 5000
+  pub floors : fs ≡ set (s .present .floors) day level
+  pub ceilings : cs ≡ set (s .present .ceilings) day level
+
+-- and the floors are carried, up to day r
+pub record LevelCarried (s : Session) (day level : ℕ) (fs cs : List ℕ) (r : ℕ) (gs : List ℕ) : Type 0 where
+  pub before : LevelSet s day level fs cs
+  pub first : r ≡ firstCrossed (carried fs (s .rises)) (at cs) (s .days)
+  pub carried : gs ≡ written (carried fs (s .rises)) r fs
+
+module _ {s : Session} {day level : ℕ} {fs cs : List ℕ} (d : LevelSet s day level fs cs) where
   set-bounds : InBounds fs cs (s .rises) (s .days) (s .present .least) (s .present .most)
-  set-bounds = rw (ef, ec) (refit-day (bounds .present) day level h small)
+  set-bounds = rw (d .floors, d .ceilings) (refit-day (d .bounds .present) day level (d .known) (d .small))
 
   pub through-carriable : Carriable cs (s .rises) (s .days)
   through-carriable = record { most = set-bounds .most; ceiling = set-bounds .ceiling; rise = set-bounds .rise }
 
-  module _ {r : ℕ} (er : r ≡ firstCrossed (carried fs (s .rises)) (at cs) (s .days)) {gs : List ℕ} (eg : gs ≡ written (carried fs (s .rises)) r fs) where
-    pub through-bounds : InBounds gs cs (s .rises) (s .days) 0 (s .present .least)
-    through-bounds = carried-bounds set-bounds er eg (s .present .least) (set-bounds .lowest)
+module _ {s : Session} {day level : ℕ} {fs cs : List ℕ} {r : ℕ} {gs : List ℕ} (d : LevelCarried s day level fs cs r gs) where
+  pub through-bounds : InBounds gs cs (s .rises) (s .days) 0 (s .present .least)
+  through-bounds = carried-bounds (set-bounds (d .before)) (d .first) (d .carried) (s .present .least) (set-bounds (d .before) .lowest)
 
-    through-levels : raisedTo gs cs (s .rises) (s .days) (s .present .least) ≡ dayLevels s day (decoded lowestPoint level)
-    unfolding dayLevels
-    through-levels = rw (code-decoded lowestPoint level, eg, er, ef, ec)
+  through-levels : raisedTo gs cs (s .rises) (s .days) (s .present .least) ≡ dayLevels s day (decoded lowestPoint level)
+  unfolding dayLevels
+  through-levels = rw (code-decoded lowestPoint level, d .carried, d .first, d .before .floors, d .before .ceilings)
 
-    pub through-written : (l : List ℤ) → written (λ k. decoded lowestPoint (raisedTo gs cs (s .rises) (s .days) (s .present .least) k)) (s .days) l
-        ≡ written (λ k. decoded lowestPoint (dayLevels s day (decoded lowestPoint level) k)) (s .days) l
-    through-written l = ap (λ f. written (λ k. decoded lowestPoint (f k)) (s .days) l) through-levels
+  pub through-written : (l : List ℤ) → written (λ k. decoded lowestPoint (raisedTo gs cs (s .rises) (s .days) (s .present .least) k)) (s .days) l
+      ≡ written (λ k. decoded lowestPoint (dayLevels s day (decoded lowestPoint level) k)) (s .days) l
+  through-written l = ap (λ f. written (λ k. decoded lowestPoint (f k)) (s .days) l) through-levels
 
 -- ---- write_day: the number and the list at each return
+
+-- the list is n long, the day is in the profile, and the value is judged
+pub record DayPassed (s : Session) (day : ℕ) (value : ℤ) (l : List ℤ) (r c : ℕ) : Type 0 where
+  pub room : length l ≡ s .days
+  pub known : day < s .days
+  pub judged : DayJudged s day value r c
 
 abbrev DayAnswer : Session → ℕ → ℤ → List ℤ → ℕ → List ℤ → Type 0
 DayAnswer s day value l r l′ = (r ≡ dayWriteRefusal s day value (length l)) × (l′ ≡ dayWritten s day value l)
@@ -177,22 +213,21 @@ module _ (s : Session) (day : ℕ) (value : ℤ) (l : List ℤ) where
   unfolding dayWriteRefusal
   day-length h = day-left (rw (ne-eqb (length l) (s .days) h)) (λ z. absurd (omega arith))
 
-  module _ (h : length l ≡ s .days) where
-    pub day-unknown : s .days ≤ day → DayAnswer s day value l 7 l
+  pub day-unknown : length l ≡ s .days → s .days ≤ day → DayAnswer s day value l 7 l
+  unfolding dayWriteRefusal
+  day-unknown h u = day-left (rw (eq-eqb (length l) (s .days) h, le-ltb day (s .days) u)) (λ z. absurd (omega arith))
+
+  module _ {r c : ℕ} (d : DayPassed s day value l r c) where
+    day-refusal : r ≡ dayWriteRefusal s day value (length l)
     unfolding dayWriteRefusal
-    day-unknown u = day-left (rw (eq-eqb (length l) (s .days) h, le-ltb day (s .days) u)) (λ z. absurd (omega arith))
+    day-refusal = rw (eq-eqb (length l) (s .days) (d .room), lt-ltb day (s .days) (d .known)) (d .judged .refusal)
 
-    module _ (known : day < s .days) {r c : ℕ} (j : DayJudged s day value r c) where
-      day-refusal : r ≡ dayWriteRefusal s day value (length l)
-      unfolding dayWriteRefusal
-      day-refusal = rw (eq-eqb (length l) (s .days) h, lt-ltb day (s .days) known) (j .refusal)
+    pub day-refused : (r ≡ 0 → ⊥) → DayAnswer s day value l r l
+    day-refused = day-left day-refusal
 
-      pub day-refused : (r ≡ 0 → ⊥) → DayAnswer s day value l r l
-      day-refused = day-left day-refusal
-
-      pub day-written : r ≡ 0 → {l′ : List ℤ} → l′ ≡ written (λ k. decoded lowestPoint (dayLevels s day (decoded lowestPoint c) k)) (s .days) l → DayAnswer s day value l 0 l′
-      unfolding dayWritten
-      day-written e w = (sym e ∙ day-refusal, w ∙ rw (j .back e) (sym (list-filled _ _ (s .days) l (sym day-refusal ∙ e))))
+    pub day-written : r ≡ 0 → {l′ : List ℤ} → l′ ≡ written (λ k. decoded lowestPoint (dayLevels s day (decoded lowestPoint c) k)) (s .days) l → DayAnswer s day value l 0 l′
+    unfolding dayWritten
+    day-written e w = (sym e ∙ day-refusal, w ∙ rw (d .judged .back e) (sym (list-filled _ _ (s .days) l (sym day-refusal ∙ e))))
 
 -- ---- write_total: the same
 

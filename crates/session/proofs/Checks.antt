@@ -13,15 +13,17 @@ use borrow.Author.Tests.{ne-eqb, lt-ltb, le-ltb}
 use Rattle.limits.specs.Limits.{lowestPoint, highestPoint, lowestRise, highestRise, lowestTotal, highestTotal}
 use Rattle.theory_lists.specs.Sum.{at}
 use Rattle.theory_lists.specs.Written.{written}
-use Rattle.base_codes.specs.Code.{within, code, on, firstOutside}
-use Rattle.base_codes.proofs.Laws.{first-most, first-before, first-here}
+use Rattle.base_codes.specs.Code.{within, code, on, firstOutside, coded}
+use Rattle.base_codes.proofs.Laws.{first-most, first-before, first-here, coded-code, coded-outside}
+use Rattle.base_codes.specs.declared.Coded.{Coded}
+use Rattle.base_codes.specs.declared.Coded.the-variants.{Code, Outside}
 use Rattle.theory_method.specs.Filter.{InBounds, firstCrossed, zeros}
 use Rattle.theory_method.specs.Stages.{Crossing, crossing}
 use Rattle.session.specs.Profile.{Profile}
 use Rattle.session.specs.Opening.{narrowed, openedWith, every, crossed, earlyOpening, opened, refusedWith, codes, badCount, badLength, badPoint, badRise, badTotal, badRange}
 use Rattle.session.specs.Stages.{openedCodes, lengthRefusal}
 use Rattle.base_codes.proofs.Order.{less-test}
-use Rattle.session.proofs.Entered.{Entered, every-on, Sized, sized, passed, codes-bounds, or-true, floor-less, ceiling-less, lowest-less, highest-less}
+use Rattle.session.proofs.Entered.{Entered, every-on, Sized, sized, Unrefused, passed, codes-bounds, or-true, floor-less, ceiling-less, lowest-less, highest-less}
 
 -- ---- every number within its bounds
 
@@ -102,132 +104,170 @@ module _ (p : Profile) where
       go false false h = (refl, refl)
 
   module _ (e : lengths p ≡ 0) where
-    pub points-refused : badPoint p ≡ true → refusedWith 3 ≡ opened p
+    points-refused : badPoint p ≡ true → refusedWith 3 ≡ opened p
     unfolding earlyOpening
     points-refused h = refused-by 2 (rw (whole e .0, whole e .1, h))
 
     module _ (points : badPoint p ≡ false) where
-      pub rises-refused : badRise p ≡ true → refusedWith 4 ≡ opened p
+      rises-refused : badRise p ≡ true → refusedWith 4 ≡ opened p
       unfolding earlyOpening
       rises-refused h = refused-by 3 (rw (whole e .0, whole e .1, points, h))
 
       module _ (rises : badRise p ≡ false) where
-        pub totals-refused : badTotal p ≡ true → refusedWith 5 ≡ opened p
+        totals-refused : badTotal p ≡ true → refusedWith 5 ≡ opened p
         unfolding earlyOpening
         totals-refused h = refused-by 4 (rw (whole e .0, whole e .1, points, rises, h))
 
-        module _ (totals : badTotal p ≡ false) where
-          pub passes : Entered p
-          passes = passed p (whole e .0) (whole e .1) points rises totals
+  module _ (u : Unrefused p) where
+    codes-opened : openedCodes (p .days) (codes lowestPoint (p .floors) (p .days)) (codes lowestPoint (p .ceilings) (p .days))
+        (codes lowestRise (p .rises) (p .days - 1)) (code lowestTotal (p .lowest)) (code lowestTotal (p .highest)) ≡ opened p
+    unfolding openedCodes opened earlyOpening
+    codes-opened =
+        rw (u .count, u .lengths, u .points, u .rises, u .totals, sym (range-test p (passed p u)))
+        (go (badRange p))
+      where
+        go : (b : Bool) → cond b (refusedWith 6) (openedWith (p .days) (codes lowestRise (p .rises) (p .days - 1)) (narrowed p))
+            ≡ cond (eqb (cond b 6 0) 0) (openedWith (p .days) (codes lowestRise (p .rises) (p .days - 1)) (narrowed p)) (refusedWith (cond b 6 0))
+        go true = refl
+        go false = refl
 
-          pub codes-opened : openedCodes (p .days) (codes lowestPoint (p .floors) (p .days)) (codes lowestPoint (p .ceilings) (p .days))
-              (codes lowestRise (p .rises) (p .days - 1)) (code lowestTotal (p .lowest)) (code lowestTotal (p .highest)) ≡ opened p
-          unfolding openedCodes opened earlyOpening
-          codes-opened =
-              rw (whole e .0, whole e .1, points, rises, totals, sym (range-test p passes))
-              (go (badRange p))
-            where
-              go : (b : Bool) → cond b (refusedWith 6) (openedWith (p .days) (codes lowestRise (p .rises) (p .days - 1)) (narrowed p))
-                  ≡ cond (eqb (cond b 6 0) 0) (openedWith (p .days) (codes lowestRise (p .rises) (p .days - 1)) (narrowed p)) (refusedWith (cond b 6 0))
-              go true = refl
-              go false = refl
+-- ---- what has passed, in the order of document 01's checks: each record is the one before it and what its check adds
 
--- ---- the same, by what the calls of opening give
+-- a list of n numbers all within their bounds, whose codes an array holds
+pub record CodedList (low high : ℤ) (zs : List ℤ) (n : ℕ) (out : List ℕ) : Type 0 where
+  pub inside : every (within low high) zs ≡ true
+  pub stored : out ≡ codes low zs n
 
-no-and-no : (a b : Bool) → not a ≡ false → not b ≡ false → not (a && b) ≡ false
-no-and-no true b p q = q
-no-and-no false b p q = p
+-- a bound of the total within its own bounds, and its code
+pub record CodedTotal (z : ℤ) (T : ℕ) : Type 0 where
+  pub inside : within lowestTotal highestTotal z ≡ true
+  pub stored : T ≡ code lowestTotal z
 
-no-first : (a b : Bool) → not a ≡ true → not (a && b) ≡ true
-no-first true b p = let z : _≡_ {A = ℕ} 0 1 = cc in absurd (omega arith)
-no-first false b p = refl
+-- 1 and 2
+pub record LengthsPassed (p : Profile) : Type 0 where
+  pub lengths : lengths p ≡ 0
 
-no-second : (a b : Bool) → not b ≡ true → not (a && b) ≡ true
-no-second true b p = p
-no-second false b p = refl
+-- 3, the floors
+pub record FloorsPassed (p : Profile) (fs : List ℕ) : Type 0 where
+  pub before : LengthsPassed p
+  pub floors : CodedList lowestPoint highestPoint (p .floors) (p .days) fs
 
-not-no : {a : Bool} → a ≡ false → not a ≡ true
-not-no e = ap not e
+-- 3, the ceilings
+pub record CeilingsPassed (p : Profile) (fs cs : List ℕ) : Type 0 where
+  pub before : FloorsPassed p fs
+  pub ceilings : CodedList lowestPoint highestPoint (p .ceilings) (p .days) cs
 
-not-yes : {a : Bool} → a ≡ true → not a ≡ false
-not-yes e = ap not e
+-- 4
+pub record RisesPassed (p : Profile) (fs cs rs : List ℕ) : Type 0 where
+  pub before : CeilingsPassed p fs cs
+  pub rises : CodedList lowestRise highestRise (p .rises) (p .days - 1) rs
+
+-- 5, the lowest total
+pub record LowestPassed (p : Profile) (fs cs rs : List ℕ) (L : ℕ) : Type 0 where
+  pub before : RisesPassed p fs cs rs
+  pub lowest : CodedTotal (p .lowest) L
+
+-- 5, the highest total
+pub record HighestPassed (p : Profile) (fs cs rs : List ℕ) (L U : ℕ) : Type 0 where
+  pub before : LowestPassed p fs cs rs L
+  pub highest : CodedTotal (p .highest) U
+
+-- ---- a list or a total passes, by what its call gives
 
 -- a list whose first number outside is found, or none
 module _ (low high : ℤ) (zs : List ℤ) {r : ℕ} (first : r ≡ firstOutside low high zs) where
-  found : r < length zs → not (every (within low high) zs) ≡ true
-  found h = ap not (every-no (within low high) zs (firstOutside low high zs) (rw first at h) (first-here low high zs (rw first at h)))
+  found : r < length zs → every (within low high) zs ≡ false
+  found h = every-no (within low high) zs (firstOutside low high zs) (rw first at h) (first-here low high zs (rw first at h))
 
-  clear : length zs ≤ r → not (every (within low high) zs) ≡ false
-  clear h = ap not (every-yes (within low high) zs (λ k l. first-before low high zs k (omega arith)))
-
-  -- then the codes of all of them are stored
-  pub stored : {out : List ℕ} (n : ℕ) → length zs ≡ n → n ≤ r → out ≡ written (λ k. code low (on zs k)) r zeros → out ≡ codes low zs n
-  stored n e h o =
+  pub list-passes : {out : List ℕ} {n : ℕ} → length zs ≡ n → n ≤ r → out ≡ written (λ k. code low (on zs k)) r zeros → CodedList low high zs n out
+  list-passes {out} {n} e h o =
       let same : r ≡ n = omega (arith, first-most low high zs) in
-      rw same at o
+      record { inside = every-yes (within low high) zs (λ k l. first-before low high zs k (omega arith)); stored = rw same at o }
 
-module _ (p : Profile) {z : ℕ} (ez : z ≡ lengths p) (none : z ≡ 0) where
-  e : lengths p ≡ 0
-  e = sym ez ∙ none
+pub total-passes : {r : Coded} (z : ℤ) (T : ℕ) → r ≡ coded lowestTotal highestTotal z → r ≡ Code T → CodedTotal z T
+total-passes z T e f = let c = coded-code lowestTotal highestTotal z T e f in record { inside = c .0; stored = c .1 }
 
-  pub sizes : Sized p
-  sizes = sized p (whole p e .0) (whole p e .1)
+-- ---- opening by what has passed and what the next call gives
 
-  pub rises-few : {r : ℕ} → r ≡ firstOutside lowestRise highestRise (p .rises) → r < 512
-  rises-few {r} er = omega (arith, first-most lowestRise highestRise (p .rises), sizes .rises, sizes .few, sizes .some)
+no-and-no : (a b : Bool) → a ≡ true → b ≡ true → not (a && b) ≡ false
+no-and-no a b p q = rw (p, q)
 
-  module _ {f : ℕ} (ef : f ≡ firstOutside lowestPoint highestPoint (p .floors)) where
-    abbrev point : ℤ → Bool
-    point = within lowestPoint highestPoint
+no-first : (a b : Bool) → a ≡ false → not (a && b) ≡ true
+no-first a b p = rw p
 
-    pub floor-outside : f < p .days → refusedWith 3 ≡ opened p
-    floor-outside h =
-        points-refused p e (no-first (every point (p .floors)) (every point (p .ceilings)) (found lowestPoint highestPoint (p .floors) ef (omega (arith, sizes .floors))))
+no-second : (a b : Bool) → b ≡ false → not (a && b) ≡ true
+no-second true b p = ap not p
+no-second false b p = refl
 
-    module _ (hf : p .days ≤ f) {c : ℕ} (ec : c ≡ firstOutside lowestPoint highestPoint (p .ceilings)) where
-      pub ceiling-outside : c < p .days → refusedWith 3 ≡ opened p
-      ceiling-outside h =
-          points-refused p e (no-second (every point (p .floors)) (every point (p .ceilings)) (found lowestPoint highestPoint (p .ceilings) ec (omega (arith, sizes .ceilings))))
+abbrev point : ℤ → Bool
+point = within lowestPoint highestPoint
 
-      module _ (hc : p .days ≤ c) {r : ℕ} (er : r ≡ firstOutside lowestRise highestRise (p .rises)) where
-        no-point : badPoint p ≡ false
-        no-point = no-and-no (every point (p .floors)) (every point (p .ceilings)) (clear lowestPoint highestPoint (p .floors) ef (omega (arith, sizes .floors)))
-            (clear lowestPoint highestPoint (p .ceilings) ec (omega (arith, sizes .ceilings)))
+abbrev total : ℤ → Bool
+total = within lowestTotal highestTotal
 
-        pub rise-outside : r + 1 < p .days → refusedWith 4 ≡ opened p
-        rise-outside h = rises-refused p e no-point (found lowestRise highestRise (p .rises) er (omega (arith, sizes .rises)))
+pub sizes : {p : Profile} → LengthsPassed p → Sized p
+sizes {p} d = sized p (whole p (d .lengths) .0) (whole p (d .lengths) .1)
 
-        module _ (hr : p .days ≤ r + 1) where
-          no-rise : badRise p ≡ false
-          no-rise = clear lowestRise highestRise (p .rises) er (omega (arith, sizes .rises))
+pub rises-few : {p : Profile} → LengthsPassed p → {r : ℕ} → r ≡ firstOutside lowestRise highestRise (p .rises) → r < 512
+rises-few {p} d e = let z = sizes d in omega (arith, first-most lowestRise highestRise (p .rises), z .rises, z .few, z .some)
 
-          abbrev inside : ℤ → Bool
-          inside = within lowestTotal highestTotal
+pub floor-outside : {p : Profile} → LengthsPassed p → {f : ℕ} → f ≡ firstOutside lowestPoint highestPoint (p .floors) → f < p .days → refusedWith 3 ≡ opened p
+floor-outside {p} d e h =
+    points-refused p (d .lengths)
+    (no-first (every point (p .floors)) (every point (p .ceilings)) (found lowestPoint highestPoint (p .floors) e (omega (arith, sizes d .floors))))
 
-          pub lowest-outside : inside (p .lowest) ≡ false → refusedWith 5 ≡ opened p
-          lowest-outside h = totals-refused p e no-point no-rise (no-first (inside (p .lowest)) (inside (p .highest)) (not-no h))
+module _ {p : Profile} {fs : List ℕ} (d : FloorsPassed p fs) where
+  pub ceiling-outside : {c : ℕ} → c ≡ firstOutside lowestPoint highestPoint (p .ceilings) → c < p .days → refusedWith 3 ≡ opened p
+  ceiling-outside e h =
+      points-refused p (d .before .lengths)
+      (no-second (every point (p .floors)) (every point (p .ceilings)) (found lowestPoint highestPoint (p .ceilings) e (omega (arith, sizes (d .before) .ceilings))))
 
-          pub highest-outside : inside (p .highest) ≡ false → refusedWith 5 ≡ opened p
-          highest-outside h = totals-refused p e no-point no-rise (no-second (inside (p .lowest)) (inside (p .highest)) (not-no h))
+module _ {p : Profile} {fs cs : List ℕ} (d : CeilingsPassed p fs cs) where
+  no-point : badPoint p ≡ false
+  no-point = no-and-no (every point (p .floors)) (every point (p .ceilings)) (d .before .floors .inside) (d .ceilings .inside)
 
-          module _ (hl : inside (p .lowest) ≡ true) (hu : inside (p .highest) ≡ true) where
-            no-total : badTotal p ≡ false
-            no-total = no-and-no (inside (p .lowest)) (inside (p .highest)) (not-yes hl) (not-yes hu)
+  pub rise-outside : {r : ℕ} → r ≡ firstOutside lowestRise highestRise (p .rises) → r + 1 < p .days → refusedWith 4 ≡ opened p
+  rise-outside e h =
+      rises-refused p (d .before .before .lengths) no-point
+      (ap not (found lowestRise highestRise (p .rises) e (omega (arith, sizes (d .before .before) .rises))))
 
-            module _ {fs cs rs : List ℕ} {L U : ℕ} (of : fs ≡ written (λ k. code lowestPoint (on (p .floors) k)) f zeros)
-                (oc : cs ≡ written (λ k. code lowestPoint (on (p .ceilings) k)) c zeros) (or : rs ≡ written (λ k. code lowestRise (on (p .rises) k)) r zeros)
-                (ol : L ≡ code lowestTotal (p .lowest)) (ou : U ≡ code lowestTotal (p .highest)) where
-              same-floors : fs ≡ codes lowestPoint (p .floors) (p .days)
-              same-floors = stored lowestPoint highestPoint (p .floors) ef (p .days) (sizes .floors) hf of
+module _ {p : Profile} {fs cs rs : List ℕ} (d : RisesPassed p fs cs rs) where
+  no-rise : badRise p ≡ false
+  no-rise = ap not (d .rises .inside)
 
-              same-ceilings : cs ≡ codes lowestPoint (p .ceilings) (p .days)
-              same-ceilings = stored lowestPoint highestPoint (p .ceilings) ec (p .days) (sizes .ceilings) hc oc
+  total-outside : badTotal p ≡ true → refusedWith 5 ≡ opened p
+  total-outside = totals-refused p (d .before .before .before .lengths) (no-point (d .before)) no-rise
 
-              same-rises : rs ≡ codes lowestRise (p .rises) (p .days - 1)
-              same-rises = stored lowestRise highestRise (p .rises) er (p .days - 1) (sizes .rises) (omega arith) or
+  pub lowest-outside : {r : Coded} → r ≡ coded lowestTotal highestTotal (p .lowest) → r ≡ Outside → refusedWith 5 ≡ opened p
+  lowest-outside e h = total-outside (no-first (total (p .lowest)) (total (p .highest)) (coded-outside lowestTotal highestTotal (p .lowest) e h))
 
-              pub in-bounds : InBounds fs cs rs (p .days) L U
-              in-bounds = rw (same-floors, same-ceilings, same-rises, ol, ou) (codes-bounds p (passes p e no-point no-rise no-total))
+  pub highest-outside : {r : Coded} → r ≡ coded lowestTotal highestTotal (p .highest) → r ≡ Outside → refusedWith 5 ≡ opened p
+  highest-outside e h = total-outside (no-second (total (p .lowest)) (total (p .highest)) (coded-outside lowestTotal highestTotal (p .highest) e h))
 
-              pub all-opened : openedCodes (p .days) fs cs rs L U ≡ opened p
-              all-opened = rw (same-floors, same-ceilings, same-rises, ol, ou) (codes-opened p e no-point no-rise no-total)
+module _ {p : Profile} {fs cs rs : List ℕ} {L U : ℕ} (d : HighestPassed p fs cs rs L U) where
+  abbrev rises-passed : RisesPassed p fs cs rs
+  rises-passed = d .before .before
+
+  abbrev ceilings-passed : CeilingsPassed p fs cs
+  ceilings-passed = rises-passed .before
+
+  all-passed : Unrefused p
+  all-passed =
+      let w = whole p (ceilings-passed .before .before .lengths) in
+      record {
+        count = w .0;
+        lengths = w .1;
+        points = no-point ceilings-passed;
+        rises = no-rise rises-passed;
+        totals = no-and-no (total (p .lowest)) (total (p .highest)) (d .before .lowest .inside) (d .highest .inside);
+      }
+
+  pub in-bounds : InBounds fs cs rs (p .days) L U
+  in-bounds =
+      rw (ceilings-passed .before .floors .stored, ceilings-passed .ceilings .stored, rises-passed .rises .stored, d .before .lowest .stored, d .highest .stored)
+      (codes-bounds p (passed p all-passed))
+
+  pub all-opened : openedCodes (p .days) fs cs rs L U ≡ opened p
+  all-opened =
+      rw (ceilings-passed .before .floors .stored, ceilings-passed .ceilings .stored, rises-passed .rises .stored, d .before .lowest .stored, d .highest .stored)
+      (codes-opened p all-passed)

@@ -63,17 +63,25 @@ pub record Entered (p : Profile) : Type 0 where
   pub lowest : within lowestTotal highestTotal (p .lowest) ≡ true
   pub highest : within lowestTotal highestTotal (p .highest) ≡ true
 
-pub passed : (p : Profile) → badCount p ≡ false → badLength p ≡ false → badPoint p ≡ false → badRise p ≡ false → badTotal p ≡ false → Entered p
-passed p c1 c2 c3 c4 c5 =
+-- none of 1 to 5 refuses
+pub record Unrefused (p : Profile) : Type 0 where
+  pub count : badCount p ≡ false
+  pub lengths : badLength p ≡ false
+  pub points : badPoint p ≡ false
+  pub rises : badRise p ≡ false
+  pub totals : badTotal p ≡ false
+
+pub passed : (p : Profile) → Unrefused p → Entered p
+passed p u =
     let point : ℤ → Bool = within lowestPoint highestPoint in
-    let z = sized p c1 c2 in
-    let points = and-eq-true-iff (every point (p .floors)) (every point (p .ceilings)) .0 (not-false _ c3) in
-    let totals = and-eq-true-iff (within lowestTotal highestTotal (p .lowest)) (within lowestTotal highestTotal (p .highest)) .0 (not-false _ c5) in
+    let z = sized p (u .count) (u .lengths) in
+    let points = and-eq-true-iff (every point (p .floors)) (every point (p .ceilings)) .0 (not-false _ (u .points)) in
+    let totals = and-eq-true-iff (within lowestTotal highestTotal (p .lowest)) (within lowestTotal highestTotal (p .highest)) .0 (not-false _ (u .totals)) in
     record {
       sized = z;
       floor = λ k h. every-on point (p .floors) (points .0) k (omega (arith, z .floors));
       ceiling = λ k h. every-on point (p .ceilings) (points .1) k (omega (arith, z .ceilings));
-      rise = λ k h. every-on (within lowestRise highestRise) (p .rises) (not-false _ c4) k (omega (arith, z .rises));
+      rise = λ k h. every-on (within lowestRise highestRise) (p .rises) (not-false _ (u .rises)) k (omega (arith, z .rises));
       lowest = totals .0;
       highest = totals .1;
     }
@@ -86,7 +94,7 @@ entered p e =
     let c3 = cond-zero (badPoint p) 2 _ (c2 .1) in
     let c4 = cond-zero (badRise p) 3 _ (c3 .1) in
     let c5 = cond-zero (badTotal p) 4 _ (c4 .1) in
-    passed p (c1 .0) (c2 .0) (c3 .0) (c4 .0) (c5 .0)
+    passed p (record { count = c1 .0; lengths = c2 .0; points = c3 .0; rises = c4 .0; totals = c5 .0 })
 
 -- ---- the codes
 

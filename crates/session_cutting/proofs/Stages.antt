@@ -81,16 +81,16 @@ module _ (s : Session) (c : Cut) {r : Ranges} (clip : r ≡ clipped (s .present)
   pub again-bounds : SessionInBounds s → malformed (s .days) c ≡ 0 → Fits (s .rises) (s .days) r
   again-bounds bounds e = rw clip (clipped-in-bounds (s .rises) (s .days) (s .present) c (bounds .present) e)
 
-  module _ {t : Tight} (tight : t ≡ tightened (r .floors) (r .ceilings) (s .rises) (s .days) (r .least) (r .most)) where
-    again : t ≡ retightened s (clipped (s .present) c)
-    again = rw clip at tight
+  pub again : {t : Tight} → t ≡ tightened (r .floors) (r .ceilings) (s .rises) (s .days) (r .least) (r .most) → t ≡ retightened s (clipped (s .present) c)
+  again tight = rw clip at tight
 
-    pub again-found : t .found ≡ true → {count : ℕ} → count ≡ length (changedDays (s .days) (s .present) (rangesOf t))
-        → record { answer = record { refusal = 0; changed = count }; session = withPresent s (rangesOf t) } ≡ tightenedTo s (retightened s (clipped (s .present) c))
-    again-found f e = rw (← again, f, e)
+module _ (s : Session) (c : Cut) {t : Tight} (e : t ≡ retightened s (clipped (s .present) c)) where
+  pub again-found : t .found ≡ true → {count : ℕ} → count ≡ length (changedDays (s .days) (s .present) (rangesOf t))
+      → record { answer = record { refusal = 0; changed = count }; session = withPresent s (rangesOf t) } ≡ tightenedTo s (retightened s (clipped (s .present) c))
+  again-found f n = rw (← e, f, n)
 
-    pub again-none : t .found ≡ false → refusing 8 (spend s) ≡ tightenedTo s (retightened s (clipped (s .present) c))
-    again-none f = rw (← again, f)
+  pub again-none : t .found ≡ false → refusing 8 (spend s) ≡ tightenedTo s (retightened s (clipped (s .present) c))
+  again-none f = rw (← e, f)
 
 -- ---- cut
 
@@ -102,10 +102,7 @@ module _ (s : Session) (c : Cut) (room : ℕ) where
   unfolding earlyCutting
   cut-malformed {m} e apart = refused-by m (rw (← e, ne-eqb m 0 apart)) apart
 
-  module _ {m : ℕ} (e : m ≡ malformed (s .days) c) (none : m ≡ 0) where
-    well : malformed (s .days) c ≡ 0
-    well = cc
-
+  module _ (well : malformed (s .days) c ≡ 0) where
     pub cut-short : room < s .days → refusing 2 s ≡ afterCut s c room
     unfolding earlyCutting
     cut-short h = refused-by 2 (rw (well, lt-ltb room (s .days) h)) (λ z. absurd (omega arith))

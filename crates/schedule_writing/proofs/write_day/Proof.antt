@@ -1,10 +1,54 @@
--- `write_day` meets its contract: a law for each return.
+-- `write_day` meets its contract: a law of Stages for each return. What has passed is said once, where the refusal is worked out.
 use Rattle.limits.specs.Limits.{lowestPoint, highestPoint}
 use Rattle.base_codes.proofs.Casts.{coded-seen}
-use Rattle.schedule_writing.proofs.Stages.{day-judged, day-length, day-unknown, day-refused, day-written}
+use Rattle.schedule_writing.proofs.Stages.{DayTested, DayPassed, day-judged, day-length, day-unknown, day-refused, day-written}
 use borrow.Author.Needs.{needs}
 use Rattle.schedule_writing.proofs.write_day.Statement.{statement}
 use Rattle.schedule_writing.proofs.write_day.Tie as tie
+
+-- ---- the places on the way: the list is long enough, the day is known, the value is coded, its day's range is read, it is judged
+
+abbrev at-room : tie.Else2 → tie.Else1
+at-room c = c .before
+
+abbrev at-start : tie.Else2 → tie.Start
+at-start c = at-room c .before
+
+abbrev at-known : tie.After-code → tie.Else2
+at-known c = c .before .before .before .before
+
+abbrev at-coded : tie.After-check → tie.After-code
+at-coded c = c .before .before .before
+
+abbrev at-judged : tie.After-write-through-arg → tie.Else3
+at-judged c = c .before
+
+abbrev at-written : tie.After-list → tie.After-write-through
+at-written c = c .before
+
+tested : (c : tie.After-refusal-of)
+    → let k = c .before in
+    let a = at-start (at-known (at-coded k)) .args in
+    DayTested (a .session) (a .day) (a .value) (k .before .before .wide .result) (k .before .wide2 .result) (at-coded k .code .result) (k .check .result) (c .refusal-of .result)
+tested c =
+    let k = c .before in
+    let d = at-known (at-coded k) in
+    record {
+      bounds = at-start d .pre;
+      known = d .if2 .left;
+      floor = k .before .before .wide .ensures .0;
+      ceiling = k .before .wide2 .ensures .0;
+      coded = coded-seen lowestPoint highestPoint (at-start d .fits .value) (at-coded k .code .ensures);
+      checked = k .check .ensures;
+      refusal = c .refusal-of .ensures;
+    }
+
+passed : (c : tie.After-refusal-of)
+    → let a = at-start (at-known (at-coded (c .before))) .args in
+    DayPassed (a .session) (a .day) (a .value) (a .list .now) (c .refusal-of .result) (c .before .check .result .code)
+passed c =
+    let d = at-known (at-coded (c .before)) in
+    record { room = at-room d .if1 .left; known = d .if2 .left; judged = day-judged (tested c) }
 
 returns : tie.Need-returns
 returns c = day-length _ _ _ _ (c .if1 .taken)
@@ -13,13 +57,20 @@ returns-2 : tie.Need-returns-2
 returns-2 c = day-unknown _ _ _ _ (c .before .if1 .left) (c .if2 .taken)
 
 returns-3 : tie.Need-returns-3
-returns-3 c = day-refused _ _ _ _ (c .before .before .before .before .before .before .before .before .before .before .if1 .left) (c .before .before .before .before .before .before .before .before .before .if2 .left) (day-judged _ _ (c .before .before .before .before .before .before .before .before .before .before .before .pre) (c .before .before .before .before .before .before .before .before .before .if2 .left) (c .before .before .before .before .wide .ensures .0) (c .before .before .before .wide2 .ensures .0) (coded-seen lowestPoint highestPoint (c .before .before .before .before .before .before .before .before .before .before .before .fits .value) (c .before .before .before .before .before .code .ensures)) (c .before .before .check .ensures) (c .before .refusal-of .ensures)) (c .if3 .taken)
+returns-3 c = day-refused _ _ _ _ (passed (c .before)) (c .if3 .taken)
 
 write-through-requires : tie.Need-write-through-requires
-write-through-requires c κs = (c .before .before .before .before .before .before .before .before .before .before .before .before .pre, c .before .before .before .before .before .before .before .before .before .before .if2 .left, (day-judged _ (c .before .before .before .before .before .before .before .before .before .before .before .before .args .value) (c .before .before .before .before .before .before .before .before .before .before .before .before .pre) (c .before .before .before .before .before .before .before .before .before .before .if2 .left) (c .before .before .before .before .before .wide .ensures .0) (c .before .before .before .before .wide2 .ensures .0) (coded-seen lowestPoint highestPoint (c .before .before .before .before .before .before .before .before .before .before .before .before .fits .value) (c .before .before .before .before .before .before .code .ensures)) (c .before .before .before .check .ensures) (c .before .before .refusal-of .ensures)) .small (c .before .if3 .left), search needs)
+write-through-requires c κs = (
+  tested (at-judged c .before) .bounds,
+  tested (at-judged c .before) .known,
+  passed (at-judged c .before) .judged .small (at-judged c .if3 .left),
+  search needs,
+)
 
 returns-4 : tie.Need-returns-4
-returns-4 c = day-written _ _ _ _ (c .before .before .before .before .before .before .before .before .before .before .before .before .before .if1 .left) (c .before .before .before .before .before .before .before .before .before .before .before .before .if2 .left) (day-judged _ _ (c .before .before .before .before .before .before .before .before .before .before .before .before .before .before .pre) (c .before .before .before .before .before .before .before .before .before .before .before .before .if2 .left) (c .before .before .before .before .before .before .before .wide .ensures .0) (c .before .before .before .before .before .before .wide2 .ensures .0) (coded-seen lowestPoint highestPoint (c .before .before .before .before .before .before .before .before .before .before .before .before .before .before .fits .value) (c .before .before .before .before .before .before .before .before .code .ensures)) (c .before .before .before .before .before .check .ensures) (c .before .before .before .before .refusal-of .ensures)) (c .before .before .before .if3 .left) (c .before .write-through .ensures)
+returns-4 c =
+    let j = at-judged (at-written c .before) in
+    day-written _ _ _ _ (passed (j .before)) (j .if3 .left) (at-written c .write-through .ensures)
 
 pub write-day-spec : {M : Type 1} → statement M
 write-day-spec =

@@ -1,3 +1,4 @@
+-- `refused` meets its contract outright: the array that it builds is the one of document 01's session of one day.
 use Rattle.theory_lists.specs.Written.{written}
 use mathlib.Core.Path.{refl}
 use borrow.Author.Needs.{needs}

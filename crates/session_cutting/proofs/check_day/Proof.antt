@@ -1,3 +1,4 @@
+-- `check_day` meets its contract: `check_value`'s answer for the point's code, by the law of values that are read back from their bits.
 use Rattle.limits.specs.Limits.{lowestPoint, highestPoint}
 use Rattle.session_cutting.proofs.Stages.{value-checked}
 use borrow.Author.Needs.{needs}

@@ -1,3 +1,4 @@
+-- `malformed` meets its contract: the refusal that `check` finds is document 01's.
 use Rattle.session_cutting.proofs.Stages.{checked-refusal}
 use borrow.Author.Needs.{needs}
 use Rattle.session_cutting.proofs.malformed.Statement.{statement}

@@ -1,25 +1,77 @@
-use Rattle.tighten_filtering.proofs.Stage.{tight-crossed, carried-ready, tight-over, lowered-raisable, tight-apart, tight-found}
+-- `tighten` meets its contract: what each stage leaves is said once, as a record of Stage at the place where it is done, from the record before it;
+-- a law for each return.
+use Rattle.tighten_filtering.proofs.Stage.{Carried, Lowered, Narrowed, carries, tight-crossed, carried-ready, tight-over, lowered-raisable, tight-apart, tight-found}
 use borrow.Author.Needs.{needs}
 use Rattle.tighten_filtering.proofs.tighten.Statement.{statement}
 use Rattle.tighten_filtering.proofs.tighten.Tie as tie
 
+-- ---- the places on the way: no day is crossed, the total is not over, the ceilings are lowered, the total's range is narrowed
+
+abbrev at-start : tie.After-carry → tie.Start
+at-start c = c .before .before .before
+
+abbrev at-carried : tie.After-held-total → tie.Else1
+at-carried c = c .before .before
+
+abbrev at-under : tie.After-lower-ceilings-arg2 → tie.Else2
+at-under c = c .before .before
+
+abbrev at-lowered : tie.After-held-total2 → tie.After-lower-ceilings
+at-lowered c = c .before .before
+
+abbrev at-top : tie.After-min → tie.After-held-total2
+at-top c = c .before .before
+
+abbrev at-narrowed : tie.After-raise-floors-arg2 → tie.Else3
+at-narrowed c = c .before .before
+
+-- ---- what each stage leaves
+
+carried : (c : tie.Else1)
+    → let a = at-start (c .before) .args in
+    Carried (a .floors .now) (a .ceilings .now) (a .rises .now) (a .n) (a .lowest) (a .highest) (c .before .carry .last .0)
+carried c = let e = c .before .carry .ensures in carries (at-start (c .before) .pre) (e .0) (e .1) (c .if1 .left)
+
+lowered : (c : tie.After-lower-ceilings)
+    → let b = at-under (c .before) .before in
+    let d = at-carried b .before in
+    let a = at-start d .args in
+    Lowered (a .floors .now) (a .ceilings .now) (a .rises .now) (a .n) (a .lowest) (a .highest) (d .carry .last .0) (b .held-total .result) (c .lower-ceilings .last .1 .0)
+lowered c =
+    let u = at-under (c .before) in
+    record { before = carried (at-carried (u .before)); bottom = u .before .held-total .ensures .0; under = u .if2 .left; ceilings = c .lower-ceilings .ensures }
+
+narrowed : (c : tie.After-min)
+    → let l = at-lowered (at-top c) in
+    let b = at-under (l .before) .before in
+    let d = at-carried b .before in
+    let a = at-start d .args in
+    Narrowed (a .floors .now) (a .ceilings .now) (a .rises .now) (a .n) (a .lowest) (a .highest) (d .carry .last .0) (b .held-total .result) (l .lower-ceilings .last .1 .0)
+    (at-top c .held-total2 .result) (c .before .max .result) (c .min .result)
+narrowed c =
+    record { before = lowered (at-lowered (at-top c)); top = at-top c .held-total2 .ensures .0; low = c .before .max .ensures; high = c .min .ensures }
+
+-- ---- the needs
+
 returns : tie.Need-returns
-returns c = rw (c .none .ensures) (tight-crossed (c .before .before .before .before .before .pre) (c .before .before .carry .ensures .0) (c .before .before .carry .ensures .1) (c .before .if1 .taken))
+returns c = let d = c .before .before in rw (c .none .ensures) (tight-crossed (at-start d .pre) (d .carry .ensures .0) (d .carry .ensures .1) (c .before .if1 .taken))
 
 returns-2 : tie.Need-returns-2
-returns-2 c = rw (c .none2 .ensures) (tight-over (c .before .before .before .before .before .before .before .before .pre) (c .before .before .before .before .before .carry .ensures .0) (c .before .before .before .before .before .carry .ensures .1) (c .before .before .before .before .if1 .left) (c .before .before .held-total .ensures .0) (c .before .if2 .taken))
+returns-2 c =
+    let b = c .before .before in
+    rw (c .none2 .ensures) (tight-over (carried (at-carried b)) (b .held-total .ensures .0) (c .before .if2 .taken))
 
 lower-ceilings-requires : tie.Need-lower-ceilings-requires
-lower-ceilings-requires c κs = carried-ready (c .before .before .before .before .before .before .before .before .before .pre) (c .before .before .before .before .before .before .carry .ensures .0) (c .before .before .before .before .before .before .carry .ensures .1) (c .before .before .before .before .before .if1 .left)
+lower-ceilings-requires c κs = carried-ready (carried (at-carried (at-under c .before)))
 
 returns-3 : tie.Need-returns-3
-returns-3 c = rw (c .none3 .ensures) (tight-apart (c .before .before .before .before .before .before .before .before .before .before .before .before .before .before .before .before .pre) (c .before .before .before .before .before .before .before .before .before .before .before .before .before .carry .ensures .0) (c .before .before .before .before .before .before .before .before .before .before .before .before .before .carry .ensures .1) (c .before .before .before .before .before .before .before .before .before .before .before .before .if1 .left) (c .before .before .before .before .before .before .before .before .before .before .held-total .ensures .0) (c .before .before .before .before .before .before .before .before .before .if2 .left) (c .before .before .before .before .before .before .lower-ceilings .ensures) (c .before .before .before .before .held-total2 .ensures .0) (c .before .before .before .max .ensures) (c .before .before .min .ensures) (c .before .if3 .taken))
+returns-3 c = rw (c .none3 .ensures) (tight-apart (narrowed (c .before .before)) (c .before .if3 .taken))
 
 raise-floors-requires : tie.Need-raise-floors-requires
-raise-floors-requires c κs = lowered-raisable (c .before .before .before .before .before .before .before .before .before .before .before .before .before .before .before .before .before .pre) (c .before .before .before .before .before .before .before .before .before .before .before .before .before .before .carry .ensures .0) (c .before .before .before .before .before .before .before .before .before .before .before .before .before .before .carry .ensures .1) (c .before .before .before .before .before .before .before .before .before .before .before .before .before .if1 .left) (c .before .before .before .before .before .before .before .before .before .before .before .held-total .ensures .0) (c .before .before .before .before .before .before .before .before .before .before .if2 .left) (c .before .before .before .before .before .before .before .lower-ceilings .ensures)
+raise-floors-requires c κs = lowered-raisable (lowered (at-lowered (at-top (at-narrowed c .before))))
 
 returns-4 : tie.Need-returns-4
-returns-4 c = rw (c .raise-floors .ensures) (tight-found (c .before .before .before .before .before .before .before .before .before .before .before .before .before .before .before .before .before .before .pre) (c .before .before .before .before .before .before .before .before .before .before .before .before .before .before .before .carry .ensures .0) (c .before .before .before .before .before .before .before .before .before .before .before .before .before .before .before .carry .ensures .1) (c .before .before .before .before .before .before .before .before .before .before .before .before .before .before .if1 .left) (c .before .before .before .before .before .before .before .before .before .before .before .before .held-total .ensures .0) (c .before .before .before .before .before .before .before .before .before .before .before .if2 .left) (c .before .before .before .before .before .before .before .before .lower-ceilings .ensures) (c .before .before .before .before .before .before .held-total2 .ensures .0) (c .before .before .before .before .before .max .ensures) (c .before .before .before .before .min .ensures) (c .before .before .before .if3 .left))
+returns-4 c = let e = at-narrowed (c .before) in rw (c .raise-floors .ensures) (tight-found (narrowed (e .before)) (e .if3 .left))
 
 pub tighten-spec : {M : Type 1} → statement M
 tighten-spec =

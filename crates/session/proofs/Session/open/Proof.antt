@@ -1,159 +1,182 @@
--- `open` meets its contract: a law of Checks for each return, by what the calls before it gave.
-use mathlib.Core.Path.{_≡_, _∙_}
+-- `open` meets its contract: what has passed is said once, check by check in the order of document 01, each from the one before it;
+-- a law of Checks for each return.
+use Prim.Native.Nat.{ℕ}
+use mathlib.Core.Path.{_≡_, sym, _∙_}
+use mathlib.Core.List.{List}
 use denote.Ref.{now}
 use borrow.Author.Needs.{needs}
 use native.Mathlib.Omega.{arith}
 use Rattle.limits.specs.Limits.{lowestPoint, highestPoint, lowestRise, highestRise, lowestTotal, highestTotal}
-use Rattle.base_codes.specs.Code.{firstOutside, coded}
-use Rattle.base_codes.proofs.Laws.{coded-code, coded-outside}
+use Rattle.base_codes.specs.Code.{coded}
 use Rattle.base_codes.proofs.Casts.{coded-seen}
 use Rattle.session.specs.Profile.{Profile}
 use Rattle.session.specs.Opening.{profile}
-use Rattle.session.proofs.Checks.{lengths-refused, sizes, rises-few, floor-outside, ceiling-outside, rise-outside, lowest-outside, highest-outside, in-bounds, all-opened}
+use Rattle.session.proofs.Checks.{LengthsPassed, FloorsPassed, CeilingsPassed, RisesPassed, LowestPassed, HighestPassed, list-passes, total-passes, sizes, rises-few}
+use Rattle.session.proofs.Checks.{lengths-refused, floor-outside, ceiling-outside, rise-outside, lowest-outside, highest-outside, in-bounds, all-opened}
 use Rattle.session.proofs.Session.open.Statement.{statement}
 use Rattle.session.proofs.Session.open.Tie as tie
 
+-- ---- the places on the way: where the check before a call had passed
+
+abbrev from-lengths : tie.After-length-refusal → tie.Start
+from-lengths c = c .before
+
+abbrev from-floors : tie.After-code-all → tie.Else1
+from-floors c = c .before .before
+
+abbrev from-ceilings : tie.After-code-all2 → tie.Else2
+from-ceilings c = c .before .before
+
+abbrev from-rises : tie.After-code-all3 → tie.Else3
+from-rises c = c .before .before
+
+abbrev from-lowest : tie.After-code → tie.Else4
+from-lowest c = c .before
+
+abbrev from-highest : tie.After-code2 → tie.After-known-told
+from-highest c = c .before
+
+-- the call of a total's bound, seen from where its code is known
+abbrev lowest-call : tie.After-known-told → tie.After-code
+lowest-call c = c .before .before .before
+
+abbrev highest-call : tie.After-known-told2 → tie.After-code2
+highest-call c = c .before .before .before
+
+-- the start, seen from where each check has passed
+abbrev past-lengths : tie.Else1 → tie.Start
+past-lengths c = from-lengths (c .before)
+
+abbrev past-floors : tie.Else2 → tie.Start
+past-floors c = past-lengths (from-floors (c .before))
+
+abbrev past-ceilings : tie.Else3 → tie.Start
+past-ceilings c = past-floors (from-ceilings (c .before))
+
+abbrev past-rises : tie.Else4 → tie.Start
+past-rises c = past-ceilings (from-rises (c .before))
+
+abbrev past-lowest : tie.After-known-told → tie.Start
+past-lowest c = past-rises (from-lowest (lowest-call c))
+
+abbrev past-highest : tie.After-known-told2 → tie.Start
+past-highest c = past-lowest (from-highest (highest-call c))
+
 -- what is opened
-abbrev handed : tie.After-length-refusal → Profile
-handed z = let a = z .before .args in profile (a .days) (now (a .floors)) (now (a .ceilings)) (now (a .rises)) (a .lowest) (a .highest)
+abbrev handed : tie.Start → Profile
+handed c = let a = c .args in profile (a .days) (now (a .floors)) (now (a .ceilings)) (now (a .rises)) (a .lowest) (a .highest)
 
--- the call before
-abbrev from-floors : tie.After-code-all → tie.After-length-refusal
-from-floors f = f .before .before .before
+-- the codes that are stored
+abbrev low : tie.Else2 → List ℕ
+low c = c .before .code-all .last .1 .1 .1 .0
 
-abbrev from-ceilings : tie.After-code-all2 → tie.After-code-all
-from-ceilings c = c .before .before .before
+abbrev high : tie.Else3 → List ℕ
+high c = c .before .code-all2 .last .1 .1 .1 .0
 
-abbrev from-rises : tie.After-code-all3 → tie.After-code-all2
-from-rises r = r .before .before .before
+abbrev steps : tie.Else4 → List ℕ
+steps c = c .before .code-all3 .last .1 .1 .1 .0
 
-abbrev from-lowest : tie.After-code → tie.After-code-all3
-from-lowest l = l .before .before
+-- ---- what has passed
 
-abbrev from-highest : tie.After-code2 → tie.After-code
-from-highest u = u .before .before .before .before
+lengths-passed : (c : tie.Else1) → LengthsPassed (handed (past-lengths c))
+lengths-passed c = record { lengths = sym (c .before .length-refusal .ensures) ∙ c .if1 .left }
 
--- what each call gave
-floors-first : (f : tie.After-code-all) → f .code-all .result ≡ firstOutside lowestPoint highestPoint (handed (from-floors f) .floors)
-floors-first f = f .code-all .ensures .0
+floors-passed : (c : tie.Else2) → FloorsPassed (handed (past-floors c)) (low c)
+floors-passed c =
+    let d = lengths-passed (from-floors (c .before)) in
+    let e = c .before .code-all .ensures in
+    record { before = d; floors = list-passes lowestPoint highestPoint _ (e .0) (sizes d .floors) (c .if2 .left) (e .1 .0) }
 
-ceilings-first : (c : tie.After-code-all2) → c .code-all2 .result ≡ firstOutside lowestPoint highestPoint (handed (from-floors (from-ceilings c)) .ceilings)
-ceilings-first c = c .code-all2 .ensures .0
+ceilings-passed : (c : tie.Else3) → let f = from-ceilings (c .before) in CeilingsPassed (handed (past-ceilings c)) (low f) (high c)
+ceilings-passed c =
+    let d = floors-passed (from-ceilings (c .before)) in
+    let e = c .before .code-all2 .ensures in
+    record { before = d; ceilings = list-passes lowestPoint highestPoint _ (e .0) (sizes (d .before) .ceilings) (c .if3 .left) (e .1 .0) }
 
-rises-first : (r : tie.After-code-all3) → r .code-all3 .result ≡ firstOutside lowestRise highestRise (handed (from-floors (from-ceilings (from-rises r))) .rises)
-rises-first r = r .code-all3 .ensures .0
+rises-passed : (c : tie.Else4)
+    → let h = from-rises (c .before) in
+    let f = from-ceilings (h .before) in
+    RisesPassed (handed (past-rises c)) (low f) (high h) (steps c)
+rises-passed c =
+    let d = ceilings-passed (from-rises (c .before)) in
+    let e = c .before .code-all3 .ensures in
+    record { before = d; rises = list-passes lowestRise highestRise _ (e .0) (sizes (d .before .before) .rises) (omega (arith, c .if4 .left)) (e .1 .0) }
 
-lowest-coded : (l : tie.After-code) → l .code .result ≡ coded lowestTotal highestTotal (handed (from-floors (from-ceilings (from-rises (from-lowest l)))) .lowest)
-lowest-coded l = coded-seen lowestTotal highestTotal (from-floors (from-ceilings (from-rises (from-lowest l))) .before .fits .lowest) (l .code .ensures)
+-- the bounds of the total, as their calls saw them
+lowest-coded : (c : tie.After-code) → c .code .result ≡ coded lowestTotal highestTotal (handed (past-rises (from-lowest c)) .lowest)
+lowest-coded c = coded-seen lowestTotal highestTotal (past-rises (from-lowest c) .fits .lowest) (c .code .ensures)
 
-highest-coded : (u : tie.After-code2)
-    → u .code2 .result ≡ coded lowestTotal highestTotal (handed (from-floors (from-ceilings (from-rises (from-lowest (from-highest u))))) .highest)
-highest-coded u =
-    coded-seen lowestTotal highestTotal (from-floors (from-ceilings (from-rises (from-lowest (from-highest u)))) .before .fits .highest) (u .code2 .ensures)
+highest-coded : (c : tie.After-code2) → c .code2 .result ≡ coded lowestTotal highestTotal (handed (past-lowest (from-highest c)) .highest)
+highest-coded c = coded-seen lowestTotal highestTotal (past-lowest (from-highest c) .fits .highest) (c .code2 .ensures)
+
+lowest-passed : (c : tie.After-known-told)
+    → let r = from-lowest (lowest-call c) in
+    let h = from-rises (r .before) in
+    let f = from-ceilings (h .before) in
+    LowestPassed (handed (past-lowest c)) (low f) (high h) (steps r) (c .before .least .given .0 .0)
+lowest-passed c =
+    let l = lowest-call c in
+    record { before = rises-passed (from-lowest l); lowest = total-passes _ _ (lowest-coded l) (c .before .least .given .1) }
+
+highest-passed : (c : tie.After-known-told2)
+    → let l = from-highest (highest-call c) in
+    let r = from-lowest (lowest-call l) in
+    let h = from-rises (r .before) in
+    let f = from-ceilings (h .before) in
+    HighestPassed (handed (past-highest c)) (low f) (high h) (steps r) (l .before .least .given .0 .0) (c .before .most .given .0 .0)
+highest-passed c =
+    let u = highest-call c in
+    record { before = lowest-passed (from-highest u); highest = total-passes _ _ (highest-coded u) (c .before .most .given .1) }
+
+-- ---- the needs
 
 returns : tie.Need-returns
-returns c = let z = c .before .before in c .refused .ensures ∙ lengths-refused (handed z) _ (z .length-refusal .ensures) (c .before .if1 .taken)
+returns c =
+    let z = c .before .before in
+    c .refused .ensures ∙ lengths-refused (handed (from-lengths z)) _ (z .length-refusal .ensures) (c .before .if1 .taken)
 
 code-all-requires : tie.Need-code-all-requires
-code-all-requires c κs =
-    let e = c .before in
-    let z = sizes (handed (e .before)) (e .before .length-refusal .ensures) (e .if1 .left) in
-    (search needs, omega (arith, z .floors, z .few))
+code-all-requires c κs = let w = sizes (lengths-passed (c .before)) in (search needs, omega (arith, w .floors, w .few))
 
 returns-2 : tie.Need-returns-2
 returns-2 c =
     let f = c .before .before in
-    let z = from-floors f in
-    c .refused2 .ensures ∙ floor-outside (handed z) (z .length-refusal .ensures) (f .before .before .if1 .left) (floors-first f) (c .before .if2 .taken)
+    c .refused2 .ensures ∙ floor-outside (lengths-passed (from-floors f)) (f .code-all .ensures .0) (c .before .if2 .taken)
 
 code-all-requires-2 : tie.Need-code-all-requires-2
-code-all-requires-2 c κs =
-    let f = c .before .before in
-    let z = from-floors f in
-    let w = sizes (handed z) (z .length-refusal .ensures) (f .before .before .if1 .left) in
-    (search needs, omega (arith, w .ceilings, w .few))
+code-all-requires-2 c κs = let w = sizes (floors-passed (c .before) .before) in (search needs, omega (arith, w .ceilings, w .few))
 
 returns-3 : tie.Need-returns-3
 returns-3 c =
-    let e = c .before .before in
-    let f = from-ceilings e in
-    let z = from-floors f in
-    c .refused3 .ensures
-    ∙ ceiling-outside (handed z) (z .length-refusal .ensures) (f .before .before .if1 .left) (floors-first f) (e .before .before .if2 .left) (ceilings-first e) (c .before .if3 .taken)
+    let h = c .before .before in
+    c .refused3 .ensures ∙ ceiling-outside (floors-passed (from-ceilings h)) (h .code-all2 .ensures .0) (c .before .if3 .taken)
 
 code-all-requires-3 : tie.Need-code-all-requires-3
-code-all-requires-3 c κs =
-    let f = from-ceilings (c .before .before) in
-    let z = from-floors f in
-    let w = sizes (handed z) (z .length-refusal .ensures) (f .before .before .if1 .left) in
-    (search needs, omega (arith, w .rises, w .few))
+code-all-requires-3 c κs = let w = sizes (ceilings-passed (c .before) .before .before) in (search needs, omega (arith, w .rises, w .few))
 
 add-if4 : tie.Need-add-if4
-add-if4 c =
-    let f = from-ceilings (from-rises c) in
-    let z = from-floors f in
-    let h = rises-few (handed z) (z .length-refusal .ensures) (f .before .before .if1 .left) (rises-first c) in
-    record { fits = omega arith }
+add-if4 c = record { fits = omega (arith, rises-few (ceilings-passed (from-rises c) .before .before) (c .code-all3 .ensures .0)) }
 
 returns-4 : tie.Need-returns-4
 returns-4 c =
     let r = c .before .before in
-    let e = from-rises r in
-    let f = from-ceilings e in
-    let z = from-floors f in
-    c .refused4 .ensures
-    ∙ rise-outside (handed z) (z .length-refusal .ensures) (f .before .before .if1 .left) (floors-first f) (e .before .before .if2 .left) (ceilings-first e) (r .before .before .if3 .left)
-    (rises-first r) (c .before .if4 .taken)
+    c .refused4 .ensures ∙ rise-outside (ceilings-passed (from-rises r)) (r .code-all3 .ensures .0) (c .before .if4 .taken)
 
 returns-5 : tie.Need-returns-5
 returns-5 c =
     let l = c .before .before .before in
-    let r = from-lowest l in
-    let e = from-rises r in
-    let f = from-ceilings e in
-    let z = from-floors f in
-    c .refused5 .ensures
-    ∙ lowest-outside (handed z) (z .length-refusal .ensures) (f .before .before .if1 .left) (floors-first f) (e .before .before .if2 .left) (ceilings-first e) (r .before .before .if3 .left)
-    (rises-first r) (l .before .if4 .left) (coded-outside lowestTotal highestTotal (handed z .lowest) (lowest-coded l) (c .before .enum-told .given .1))
+    c .refused5 .ensures ∙ lowest-outside (rises-passed (from-lowest l)) (lowest-coded l) (c .before .enum-told .given .1)
 
 returns-6 : tie.Need-returns-6
 returns-6 c =
     let u = c .before .before .before in
-    let l = from-highest u in
-    let r = from-lowest l in
-    let e = from-rises r in
-    let f = from-ceilings e in
-    let z = from-floors f in
-    c .refused6 .ensures
-    ∙ highest-outside (handed z) (z .length-refusal .ensures) (f .before .before .if1 .left) (floors-first f) (e .before .before .if2 .left) (ceilings-first e) (r .before .before .if3 .left)
-    (rises-first r) (l .before .if4 .left) (coded-outside lowestTotal highestTotal (handed z .highest) (highest-coded u) (c .before .enum-told2 .given .1))
+    c .refused6 .ensures ∙ highest-outside (lowest-passed (from-highest u) .before) (highest-coded u) (c .before .enum-told2 .given .1)
 
 open-codes-requires : tie.Need-open-codes-requires
-open-codes-requires c κs =
-    let u = c .before .before .before in
-    let l = from-highest u in
-    let r = from-lowest l in
-    let e = from-rises r in
-    let f = from-ceilings e in
-    let z = from-floors f in
-    let low = coded-code lowestTotal highestTotal (handed z .lowest) _ (lowest-coded l) (u .before .before .least .given .1) in
-    let high = coded-code lowestTotal highestTotal (handed z .highest) _ (highest-coded u) (c .before .most .given .1) in
-    in-bounds (handed z) (z .length-refusal .ensures) (f .before .before .if1 .left) (floors-first f) (e .before .before .if2 .left) (ceilings-first e) (r .before .before .if3 .left)
-    (rises-first r) (l .before .if4 .left) (low .0) (high .0) (f .code-all .ensures .1 .0) (e .code-all2 .ensures .1 .0) (r .code-all3 .ensures .1 .0) (low .1) (high .1)
+open-codes-requires c κs = in-bounds (highest-passed c)
 
 returns-7 : tie.Need-returns-7
-returns-7 c =
-    let u = c .before .before .before .before in
-    let l = from-highest u in
-    let r = from-lowest l in
-    let e = from-rises r in
-    let f = from-ceilings e in
-    let z = from-floors f in
-    let low = coded-code lowestTotal highestTotal (handed z .lowest) _ (lowest-coded l) (u .before .before .least .given .1) in
-    let high = coded-code lowestTotal highestTotal (handed z .highest) _ (highest-coded u) (c .before .before .most .given .1) in
-    c .open-codes .ensures
-    ∙ all-opened (handed z) (z .length-refusal .ensures) (f .before .before .if1 .left) (floors-first f) (e .before .before .if2 .left) (ceilings-first e) (r .before .before .if3 .left)
-    (rises-first r) (l .before .if4 .left) (low .0) (high .0) (f .code-all .ensures .1 .0) (e .code-all2 .ensures .1 .0) (r .code-all3 .ensures .1 .0) (low .1) (high .1)
+returns-7 c = c .open-codes .ensures ∙ all-opened (highest-passed (c .before))
 
 pub open-spec : {M : Type 1} → statement M
 open-spec =
