@@ -1,4 +1,4 @@
--- The reader's checks, by what its tests found.
+-- The reader's checks, by what its tests found: for each function a law for each of its returns, over the counts that the header says.
 use mathlib.Core.Path.{_≡_, refl, sym, _∙_}
 use mathlib.Core.Bool.{Bool, true, false, cond, _||_, or-true, and-false}
 use mathlib.Core.List.{List}
@@ -33,6 +33,11 @@ module _ (days cuts : ℕ) where
   pub counts-taken : (days ≡ 0 → ⊥) → days ≤ 512 → cuts ≤ 512 → 0 ≡ counts
   counts-taken h few cuts-few = rw (ne-eqb days 0 h, le-ltb 512 days few, le-ltb 512 cuts cuts-few)
 
+-- n and m are the counts that the header says
+pub record Said (b : List ℕ) (n m : ℕ) : Type 0 where
+  pub days : n ≡ dayCount b
+  pub cuts : m ≡ cutCount b
+
 -- ---- layout_refusal
 
 abbrev layout : List ℕ → ℕ
@@ -42,35 +47,41 @@ module _ (b : List ℕ) where
   pub days-elsewhere : {o : ℕ} → o ≡ daysOffset b → (o ≡ 16 → ⊥) → 11 ≡ layout b
   days-elsewhere {o} eo h = rw (← eo, ne-eqb o 16 h)
 
-  module _ {n : ℕ} (en : n ≡ dayCount b) where
+  module _ {n m : ℕ} (k : Said b n m) where
     pub cuts-elsewhere : {o : ℕ} → o ≡ cutsOffset b → (o ≡ dayOffset n → ⊥) → 11 ≡ layout b
-    cuts-elsewhere {o} eo h = rw (← eo, ← en, ne-eqb o (dayOffset n) h, and-false)
+    cuts-elsewhere {o} eo h = rw (← eo, ← k .days, ne-eqb o (dayOffset n) h, and-false)
 
-    module _ {m : ℕ} (em : m ≡ cutCount b) where
-      pub wrong-length : (length b ≡ fileLength n m → ⊥) → 11 ≡ layout b
-      wrong-length h = rw (← en, ← em, ne-eqb (length b) (fileLength n m) h, and-false)
+    pub wrong-length : (length b ≡ fileLength n m → ⊥) → 11 ≡ layout b
+    wrong-length h = rw (← k .days, ← k .cuts, ne-eqb (length b) (fileLength n m) h, and-false)
 
-      pub layout-taken : daysOffset b ≡ 16 → cutsOffset b ≡ dayOffset n → length b ≡ fileLength n m → 0 ≡ layout b
-      layout-taken ho hp h = rw (← en, ← em, eq-eqb (daysOffset b) 16 ho, eq-eqb (cutsOffset b) (dayOffset n) hp, eq-eqb (length b) (fileLength n m) h)
+    pub layout-taken : daysOffset b ≡ 16 → cutsOffset b ≡ dayOffset n → length b ≡ fileLength n m → 0 ≡ layout b
+    layout-taken ho hp h = rw (← k .days, ← k .cuts, eq-eqb (daysOffset b) 16 ho, eq-eqb (cutsOffset b) (dayOffset n) hp, eq-eqb (length b) (fileLength n m) h)
 
 -- ---- fields_refusal
 
 abbrev fields : List ℕ → ℕ
 fields b = cond (badFields b) 12 0
 
-module _ (b : List ℕ) {n : ℕ} (en : n ≡ dayCount b) where
-  pub cut-bad : {m f : ℕ} → m ≡ cutCount b → f ≡ firstWhere (λ j. badCut (numberedAt b (dayOffset n + j * 8))) m → f < m → 12 ≡ fields b
-  cut-bad {m} {f} em ef h = rw (← en, ← em, ← ef, lt-ltb f m h, or-true)
+-- r is the rise of the last day, which there is
+pub record Risen (b : List ℕ) (n m r : ℕ) : Type 0 where
+  pub said : Said b n m
+  pub some : 0 < n
+  pub rise : r ≡ u16At b (dayOffset n - 2)
 
-  module _ (some : 0 < n) {r : ℕ} (er : r ≡ u16At b (dayOffset n - 2)) where
+module _ (b : List ℕ) {n m : ℕ} where
+  pub cut-bad : {f : ℕ} → Said b n m → f ≡ firstWhere (λ j. badCut (numberedAt b (dayOffset n + j * 8))) m → f < m → 12 ≡ fields b
+  cut-bad {f} k ef h = rw (← k .days, ← k .cuts, ← ef, lt-ltb f m h, or-true)
+
+  module _ {r : ℕ} (k : Risen b n m r) where
     last-rise : r ≡ u16At b (dayOffset (n - 1) + 4)
-    last-rise = let q : dayOffset n - 2 ≡ dayOffset (n - 1) + 4 = omega arith in rw q at er
+    last-rise = let q : dayOffset n - 2 ≡ dayOffset (n - 1) + 4 = omega (arith, k .some) in rw q at (k .rise)
 
     pub rise-left : (r ≡ 0 → ⊥) → 12 ≡ fields b
-    rise-left h = rw (← en, zero-field b (dayOffset (n - 1) + 4), ← last-rise, ne-eqb r 0 h)
+    rise-left h = rw (← k .said .days, zero-field b (dayOffset (n - 1) + 4), ← last-rise, ne-eqb r 0 h)
 
-    pub fields-taken : r ≡ 0 → {m f : ℕ} → m ≡ cutCount b → f ≡ firstWhere (λ j. badCut (numberedAt b (dayOffset n + j * 8))) m → m ≤ f → 0 ≡ fields b
-    fields-taken hr {m} {f} em ef h = rw (← en, ← em, ← ef, zero-field b (dayOffset (n - 1) + 4), ← last-rise, eq-eqb r 0 hr, le-ltb f m h)
+    pub fields-taken : r ≡ 0 → {f : ℕ} → f ≡ firstWhere (λ j. badCut (numberedAt b (dayOffset n + j * 8))) m → m ≤ f → 0 ≡ fields b
+    fields-taken hr {f} ef h =
+        rw (← k .said .days, ← k .said .cuts, ← ef, zero-field b (dayOffset (n - 1) + 4), ← last-rise, eq-eqb r 0 hr, le-ltb f m h)
 
 -- ---- file_refusal
 
@@ -78,38 +89,52 @@ refuses : (t : Bool) (m : ℕ) {r : ℕ} → r ≡ cond t m 0 → (r ≡ 0 → �
 refuses true m e h = refl
 refuses false m e h = absurd (h e)
 
+-- the header is there, and n and m are its counts
+pub record Header (b : List ℕ) (n m : ℕ) : Type 0 where
+  pub long : 16 ≤ length b
+  pub said : Said b n m
+
+-- and the counts are not refused
+pub record Counted (b : List ℕ) (n m : ℕ) : Type 0 where
+  pub header : Header b n m
+  pub none : counts n m ≡ 0
+
+-- nor is the layout
+pub record Laid (b : List ℕ) (n m : ℕ) : Type 0 where
+  pub counted : Counted b n m
+  pub none : layout b ≡ 0
+
 module _ (b : List ℕ) where
   pub no-header : length b < 16 → 11 ≡ earlyReading b
   unfolding earlyReading
   no-header h = rw (lt-ltb (length b) 16 h)
 
-  module _ (long : 16 ≤ length b) {n m : ℕ} (en : n ≡ dayCount b) (em : m ≡ cutCount b) {r : ℕ} (er : r ≡ counts n m) where
-    by-counts : r ≡ cond (badCounts b) 1 0
-    by-counts = rw (← en, ← em) er
+  module _ {n m : ℕ} where
+    by-counts : Said b n m → counts n m ≡ cond (badCounts b) 1 0
+    by-counts k = rw (← k .days, ← k .cuts) refl
 
-    pub counts-refused : (r ≡ 0 → ⊥) → 1 ≡ earlyReading b
+    pub counts-refused : {r : ℕ} → Header b n m → r ≡ counts n m → (r ≡ 0 → ⊥) → 1 ≡ earlyReading b
     unfolding earlyReading
-    counts-refused h = rw (le-ltb (length b) 16 long, refuses (badCounts b) 1 by-counts h)
+    counts-refused k er h = rw (le-ltb (length b) 16 (k .long), refuses (badCounts b) 1 (er ∙ by-counts (k .said)) h)
 
-    module _ (none : r ≡ 0) where
+    module _ (k : Counted b n m) where
       counts-good : badCounts b ≡ false
-      counts-good = cond-zero (badCounts b) 0 0 (sym by-counts ∙ none) .0
+      counts-good = cond-zero (badCounts b) 0 0 (sym (by-counts (k .header .said)) ∙ k .none) .0
 
       pub counted-here : (0 < dayCount b) × (dayCount b ≤ 512) × (cutCount b ≤ 512)
       counted-here = counted b counts-good
 
-      module _ {s : ℕ} (es : s ≡ layout b) where
-        pub layout-refused : (s ≡ 0 → ⊥) → 11 ≡ earlyReading b
-        unfolding earlyReading
-        layout-refused h = rw (le-ltb (length b) 16 long, counts-good, refuses (badLayout b) 11 es h)
+      pub layout-refused : {s : ℕ} → s ≡ layout b → (s ≡ 0 → ⊥) → 11 ≡ earlyReading b
+      unfolding earlyReading
+      layout-refused es h = rw (le-ltb (length b) 16 (k .header .long), counts-good, refuses (badLayout b) 11 es h)
 
-        module _ (clear : s ≡ 0) where
-          layout-good : badLayout b ≡ false
-          layout-good = cond-zero (badLayout b) 10 0 (sym es ∙ clear) .0
+    module _ (k : Laid b n m) where
+      layout-good : badLayout b ≡ false
+      layout-good = cond-zero (badLayout b) 10 0 (k .none) .0
 
-          pub whole-here : fileLength n m ≡ length b
-          whole-here = rw (en, em) (sym (laid b layout-good .2))
+      pub whole-here : fileLength n m ≡ length b
+      whole-here = let s = k .counted .header .said in rw (s .days, s .cuts) (sym (laid b layout-good .2))
 
-          pub fields-last : {t : ℕ} → t ≡ fields b → t ≡ earlyReading b
-          unfolding earlyReading
-          fields-last e = rw (le-ltb (length b) 16 long, counts-good, layout-good) e
+      pub fields-last : {t : ℕ} → t ≡ fields b → t ≡ earlyReading b
+      unfolding earlyReading
+      fields-last e = rw (le-ltb (length b) 16 (k .counted .header .long), counts-good (k .counted), layout-good) e

@@ -84,22 +84,32 @@ module _ {l : List ℕ} {place : ℕ} where
 
 -- ---- what is shown
 
+-- what `show` was asked and gave: the lists ls and us were lent, and fs and cs came back
+pub record Asked (s : Session) (r : Shown) (ls us fs cs : List ℤ) : Type 0 where
+  pub bounds : SessionInBounds s
+  pub floors-long : length ls ≡ 512
+  pub ceilings-long : length us ≡ 512
+  pub answer : r ≡ shown s (length ls) (length us)
+  pub floors : fs ≡ lentList (r .refusal) (floorOn s) (s .days) ls
+  pub ceilings : cs ≡ lentList (r .refusal) (ceilingOn s) (s .days) us
+
 -- with lists of 512 numbers lent: the present ranges
 pub record Showed (s : Session) (r : Shown) (fs cs : List ℤ) : Type 0 where
   pub least : r .least ≡ totalFloor s
   pub most : r .most ≡ totalCeiling s
   pub lines : (k : ℕ) → k < s .days → dayLine k (on fs k) (on cs k) ≡ dayLine k (floorOn s k) (ceilingOn s k)
 
-pub showed : {s : Session} {r : Shown} {fs cs : List ℤ} (ls us : List ℤ) → SessionInBounds s → length ls ≡ 512 → length us ≡ 512 → r ≡ shown s (length ls) (length us)
-    → fs ≡ lentList (r .refusal) (floorOn s) (s .days) ls → cs ≡ lentList (r .refusal) (ceilingOn s) (s .days) us → Showed s r fs cs
+pub showed : {s : Session} {r : Shown} {ls us fs cs : List ℤ} → Asked s r ls us fs cs → Showed s r fs cs
 unfolding shown
-showed {s} {r} {fs} {cs} ls us b l u e f c =
-    let m = b .present .most in
+showed {s} {r} {ls} {us} {fs} {cs} q =
+    let l = q .floors-long in
+    let u = q .ceilings-long in
+    let m = q .bounds .present .most in
     let a : r ≡ record { refusal = 0; least = totalFloor s; most = totalCeiling s; spent = s .spent } =
-    rw (l, u, le-ltb 512 (s .days) m) at e in
+    rw (l, u, le-ltb 512 (s .days) m) at (q .answer) in
     let z : r .refusal ≡ 0 = ap (λ x. x .refusal) a in
-    let g : fs ≡ written (floorOn s) (s .days) ls = f ∙ list-filled (r .refusal) (floorOn s) (s .days) ls z in
-    let d : cs ≡ written (ceilingOn s) (s .days) us = c ∙ list-filled (r .refusal) (ceilingOn s) (s .days) us z in
+    let g : fs ≡ written (floorOn s) (s .days) ls = q .floors ∙ list-filled (r .refusal) (floorOn s) (s .days) ls z in
+    let d : cs ≡ written (ceilingOn s) (s .days) us = q .ceilings ∙ list-filled (r .refusal) (ceilingOn s) (s .days) us z in
     record {
       least = ap (λ x. x .least) a;
       most = ap (λ x. x .most) a;

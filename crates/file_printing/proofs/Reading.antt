@@ -25,25 +25,30 @@ pub record Got (b : List ℕ) (r : ReadAnswer) (fs cs rs : List ℤ) : Type 0 wh
   pub fewCuts : r .sheet .count ≤ 512
   pub cuts : cutsOf (r .sheet) ≡ cutsIn b
 
-module _ (b : List ℕ) {r : ReadAnswer} {fs cs rs : List ℤ} (e : r ≡ readFrom b 512 512 511) (z : r .refusal ≡ 0)
-    (f : fs ≡ lentList (r .refusal) (floorAt b) (dayCount b) (replicate 512 (pos 0)))
-    (c : cs ≡ lentList (r .refusal) (ceilingAt b) (dayCount b) (replicate 512 (pos 0)))
-    (s : rs ≡ lentList (r .refusal) (riseAt b) (dayCount b - 1) (replicate 511 (pos 0))) where
+-- what `read` gave where it refused nothing
+pub record Unrefused (b : List ℕ) (r : ReadAnswer) (fs cs rs : List ℤ) : Type 0 where
+  pub answer : r ≡ readFrom b 512 512 511
+  pub passed : r .refusal ≡ 0
+  pub floors : fs ≡ lentList (r .refusal) (floorAt b) (dayCount b) (replicate 512 (pos 0))
+  pub ceilings : cs ≡ lentList (r .refusal) (ceilingAt b) (dayCount b) (replicate 512 (pos 0))
+  pub rises : rs ≡ lentList (r .refusal) (riseAt b) (dayCount b - 1) (replicate 511 (pos 0))
+
+module _ (b : List ℕ) {r : ReadAnswer} {fs cs rs : List ℤ} (u : Unrefused b r fs cs rs) where
   lent : {l : List ℤ} (g : ℕ → ℤ) (n m : ℕ) → l ≡ lentList (r .refusal) g n (replicate m (pos 0)) → n ≤ m → take n l ≡ listOf g n
   lent g n m q h =
-      ap (take n) (q ∙ list-filled (r .refusal) g n (replicate m (pos 0)) z) ∙ take-written g n (replicate m (pos 0)) (omega (arith, length-replicate m (pos 0)))
+      ap (take n) (q ∙ list-filled (r .refusal) g n (replicate m (pos 0)) (u .passed)) ∙ take-written g n (replicate m (pos 0)) (omega (arith, length-replicate m (pos 0)))
 
   pub got : Got b r fs cs rs
   unfolding contents sheetFrom profileIn
   got =
-      let whole = read-taken b 512 512 511 (sym (ap (λ a. a .refusal) e) ∙ z) in
-      let all : r ≡ contents b = e ∙ whole .0 in
+      let whole = read-taken b 512 512 511 (sym (ap (λ a. a .refusal) (u .answer)) ∙ u .passed) in
+      let all : r ≡ contents b = u .answer ∙ whole .0 in
       let t = whole .1 in
       let d : r .days ≡ dayCount b = ap (λ a. a .days) all in
       let count : r .sheet .count ≡ cutCount b = ap (λ a. a .sheet .count) all in
-      let low = lent (floorAt b) (dayCount b) 512 f (t .few) in
-      let high = lent (ceilingAt b) (dayCount b) 512 c (t .few) in
-      let steps = lent (riseAt b) (dayCount b - 1) 511 s (omega (arith, t .few)) in
+      let low = lent (floorAt b) (dayCount b) 512 (u .floors) (t .few) in
+      let high = lent (ceilingAt b) (dayCount b) 512 (u .ceilings) (t .few) in
+      let steps = lent (riseAt b) (dayCount b - 1) 511 (u .rises) (omega (arith, t .few)) in
       record {
         none = not-refused b t;
         some = omega (arith, t .some);

@@ -1,12 +1,11 @@
--- What `read` gives, by what its tests found.
+-- What `read` gives, by what its tests found: a law for each refusal, and one for a file that is taken whole.
 use mathlib.Core.Path.{_≡_, ap, sym, _∙_}
 use mathlib.Core.Bool.{or-true}
 use mathlib.Core.List.{List}
 use Prim.Native.Nat.{ℕ, _-_, _≤_, _<_}
-use native.Mathlib.Omega.{arith}
 use lib.IntN.{ℤ}
 use lib.ListN.{length}
-use borrow.Author.Tests.{eq-eqb, ne-eqb, lt-ltb}
+use borrow.Author.Tests.{ne-eqb, lt-ltb}
 use Rattle.theory_lists.specs.Written.{written}
 use Rattle.theory_lists.specs.Lent.{lentList, list-left, list-filled}
 use Rattle.file_format.specs.Format.{dayCount, floorAt, ceilingAt, riseAt}
@@ -15,60 +14,86 @@ use Rattle.file_reading.specs.declared.ReadAnswer.{ReadAnswer}
 use Rattle.file_reading.specs.Reading.{refusedRead, contents, readFrom}
 use Rattle.file_reading.proofs.Laws.{Room, read-all}
 
-module _ (b : List ℕ) (f c r : ℕ) {e : ℕ} (ee : e ≡ earlyReading b) where
-  pub file-refused : (e ≡ 0 → ⊥) → readingRefusal b f c r ≡ e
+-- a file's bytes and the lists that are lent for its floors, ceilings and rises
+pub record CutCall : Type 0 where
+  pub bytes : List ℕ
+  pub floors : List ℤ
+  pub ceilings : List ℤ
+  pub rises : List ℤ
+
+-- no check of the file itself refuses it, and n is its day count
+pub record Counted (b : List ℕ) (n : ℕ) : Type 0 where
+  pub passed : earlyReading b ≡ 0
+  pub days : n ≡ dayCount b
+
+-- each list has room, and these are the lists that hold n days
+pub record Stored (h : CutCall) (n : ℕ) (floors ceilings rises : List ℤ) : Type 0 where
+  pub floors-long : n ≤ length (h .floors)
+  pub ceilings-long : n ≤ length (h .ceilings)
+  pub rises-long : n - 1 ≤ length (h .rises)
+  pub floors-stored : floors ≡ written (floorAt (h .bytes)) n (h .floors)
+  pub ceilings-stored : ceilings ≡ written (ceilingAt (h .bytes)) n (h .ceilings)
+  pub rises-stored : rises ≡ written (riseAt (h .bytes)) (n - 1) (h .rises)
+
+-- the refusal's number, which reading has to give
+abbrev number : CutCall → ℕ
+number h = readingRefusal (h .bytes) (length (h .floors)) (length (h .ceilings)) (length (h .rises))
+
+module _ (h : CutCall) where
+  pub file-refused : {e : ℕ} → e ≡ earlyReading (h .bytes) → (e ≡ 0 → ⊥) → number h ≡ e
   unfolding readingRefusal
-  file-refused h = rw (← ee, ne-eqb e 0 h)
+  file-refused {e} ee some = rw (← ee, ne-eqb e 0 some)
 
-  module _ (none : e ≡ 0) {n : ℕ} (en : n ≡ dayCount b) where
-    pub no-floors : f < n → readingRefusal b f c r ≡ 2
+  module _ {n : ℕ} (k : Counted (h .bytes) n) where
+    pub no-floors : length (h .floors) < n → number h ≡ 2
     unfolding readingRefusal
-    no-floors h = rw (← ee, eq-eqb e 0 none, ← en, lt-ltb f n h)
+    no-floors short = rw (k .passed, ← k .days, lt-ltb (length (h .floors)) n short)
 
-    pub no-ceilings : c < n → readingRefusal b f c r ≡ 2
+    pub no-ceilings : length (h .ceilings) < n → number h ≡ 2
     unfolding readingRefusal
-    no-ceilings h = rw (← ee, eq-eqb e 0 none, ← en, lt-ltb c n h, or-true)
+    no-ceilings short = rw (k .passed, ← k .days, lt-ltb (length (h .ceilings)) n short, or-true)
 
-    pub no-rises : r < n - 1 → readingRefusal b f c r ≡ 2
+    pub no-rises : length (h .rises) < n - 1 → number h ≡ 2
     unfolding readingRefusal
-    no-rises h = rw (← ee, eq-eqb e 0 none, ← en, lt-ltb r (n - 1) h, or-true)
+    no-rises short = rw (k .passed, ← k .days, lt-ltb (length (h .rises)) (n - 1) short, or-true)
 
--- what `read` ensures of its answer and of the lists that it leaves
-module _ (b : List ℕ) (fs cs rs : List ℤ) where
+  -- what `read` ensures of its answer and of the lists that it leaves
   abbrev Answers : ReadAnswer → List ℤ → List ℤ → List ℤ → Type 0
   Answers a floors ceilings rises =
-      (a ≡ readFrom b (length fs) (length cs) (length rs))
-      × ((floors ≡ lentList (a .refusal) (floorAt b) (dayCount b) fs)
-      × ((ceilings ≡ lentList (a .refusal) (ceilingAt b) (dayCount b) cs)
-      × (rises ≡ lentList (a .refusal) (riseAt b) (dayCount b - 1) rs)))
+      (a ≡ readFrom (h .bytes) (length (h .floors)) (length (h .ceilings)) (length (h .rises)))
+      × ((floors ≡ lentList (a .refusal) (floorAt (h .bytes)) (dayCount (h .bytes)) (h .floors))
+      × ((ceilings ≡ lentList (a .refusal) (ceilingAt (h .bytes)) (dayCount (h .bytes)) (h .ceilings))
+      × (rises ≡ lentList (a .refusal) (riseAt (h .bytes)) (dayCount (h .bytes) - 1) (h .rises))))
 
   module _ {a : ReadAnswer} where
-    pub refused-by : {number : ℕ} → a ≡ refusedRead number → readingRefusal b (length fs) (length cs) (length rs) ≡ number → (number ≡ 0 → ⊥) → Answers a fs cs rs
+    pub refused-by : {by : ℕ} → a ≡ refusedRead by → number h ≡ by → (by ≡ 0 → ⊥) → Answers a (h .floors) (h .ceilings) (h .rises)
     unfolding readFrom
-    refused-by {number} ea er h =
-        let apart : (a .refusal ≡ 0 → ⊥) = λ z. h (sym (ap (λ (x : ReadAnswer). x .refusal) ea) ∙ z) in (
-          ea ∙ rw (er, ne-eqb number 0 h),
+    refused-by {by} ea er some =
+        let b = h .bytes in
+        let apart : (a .refusal ≡ 0 → ⊥) = λ z. some (sym (ap (λ (x : ReadAnswer). x .refusal) ea) ∙ z) in (
+          ea ∙ rw (er, ne-eqb by 0 some),
           (
-            sym (list-left (a .refusal) (floorAt b) (dayCount b) fs apart),
+            sym (list-left (a .refusal) (floorAt b) (dayCount b) (h .floors) apart),
             (
-              sym (list-left (a .refusal) (ceilingAt b) (dayCount b) cs apart),
-              sym (list-left (a .refusal) (riseAt b) (dayCount b - 1) rs apart),
+              sym (list-left (a .refusal) (ceilingAt b) (dayCount b) (h .ceilings) apart),
+              sym (list-left (a .refusal) (riseAt b) (dayCount b - 1) (h .rises) apart),
             ),
           ),
         )
 
-    pub taken-whole : {n : ℕ} {floors ceilings rises : List ℤ} → a ≡ contents b → earlyReading b ≡ 0 → n ≡ dayCount b → n ≤ length fs → n ≤ length cs → n - 1 ≤ length rs
-        → floors ≡ written (floorAt b) n fs → ceilings ≡ written (ceilingAt b) n cs → rises ≡ written (riseAt b) (n - 1) rs → Answers a floors ceilings rises
+    pub taken-whole : {n : ℕ} {floors ceilings rises : List ℤ} → a ≡ contents (h .bytes) → Counted (h .bytes) n → Stored h n floors ceilings rises → Answers a floors ceilings rises
     unfolding contents
-    taken-whole ea none en hf hc hr ef ec ei =
+    taken-whole {n} ea k s =
+        let b = h .bytes in
         let z : a .refusal ≡ 0 = ap (λ (x : ReadAnswer). x .refusal) ea in
-        let room : Room b (length fs) (length cs) (length rs) = record { floors-long = omega arith; ceilings-long = omega arith; rises-long = omega arith } in (
-          ea ∙ sym (read-all b (length fs) (length cs) (length rs) none room),
+        let room : Room b (length (h .floors)) (length (h .ceilings)) (length (h .rises)) =
+        record { floors-long = rw (← k .days) (s .floors-long); ceilings-long = rw (← k .days) (s .ceilings-long); rises-long = rw (← k .days) (s .rises-long) } in (
+          ea ∙ sym (read-all b (length (h .floors)) (length (h .ceilings)) (length (h .rises)) (k .passed) room),
           (
-            rw (list-filled (a .refusal) (floorAt b) (dayCount b) fs z, ← en) ef,
+            rw (list-filled (a .refusal) (floorAt b) (dayCount b) (h .floors) z, ← k .days) (s .floors-stored),
             (
-              rw (list-filled (a .refusal) (ceilingAt b) (dayCount b) cs z, ← en) ec,
-              rw (list-filled (a .refusal) (riseAt b) (dayCount b - 1) rs z, ← en) ei,
+              rw (list-filled (a .refusal) (ceilingAt b) (dayCount b) (h .ceilings) z, ← k .days) (s .ceilings-stored),
+              rw (list-filled (a .refusal) (riseAt b) (dayCount b - 1) (h .rises) z, ← k .days) (s .rises-stored),
             ),
           ),
         )

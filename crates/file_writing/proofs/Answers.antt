@@ -30,18 +30,29 @@ Answers p s l r out = (r ≡ writeAnswer p (cutsOf s) (length l)) × (out ≡ ou
 abbrev pub entriesRefusal : Profile → Sheet → ℕ
 entriesRefusal p s = firstNonzero (λ j. malformed (p .days) (getD (s .entries) j blank .cut)) (s .count)
 
--- no check before the output's length refuses
-pub record Checked (p : Profile) (s : Sheet) : Type 0 where
+-- no check before the cuts' own refuses
+pub record Opens (p : Profile) (s : Sheet) : Type 0 where
   pub few : s .count ≤ 512
   pub profile : Opening.earlyOpening p ≡ 0
+
+-- no check before the output's length refuses
+pub record Checked (p : Profile) (s : Sheet) : Type 0 where
+  pub opens : Opens p s
   pub formed : entriesRefusal p s ≡ 0
+
+-- the output has room, and the three parts of the file were stored in it one after another
+pub record Stored (p : Profile) (s : Sheet) (l a b out : List ℕ) : Type 0 where
+  pub room : fileLength (p .days) (s .count) ≤ length l
+  pub header-stored : a ≡ sets l 0 (header (p .days) (s .count) (p .lowest) (p .highest))
+  pub days-stored : b ≡ sets a 16 (rows (dayRow p) (p .days))
+  pub cuts-stored : out ≡ sets b (dayOffset (p .days)) (rows (λ j. cutBytes (getD (s .entries) j blank .cut)) (s .count))
 
 -- ---- refused
 
-by-cuts : (p : Profile) (s : Sheet) → s .count ≤ 512 → Opening.earlyOpening p ≡ 0 → earlyWriting p (cutsOf s) ≡ entriesRefusal p s
+by-cuts : (p : Profile) (s : Sheet) → Opens p s → earlyWriting p (cutsOf s) ≡ entriesRefusal p s
 unfolding earlyWriting
-by-cuts p s few o =
-    rw (length-cutsOf s, le-ltb 512 (s .count) few, o)
+by-cuts p s o =
+    rw (length-cutsOf s, le-ltb 512 (s .count) (o .few), o .profile)
     (nonzero-same (λ j. malformed (p .days) (cutOn (cutsOf s) j)) (λ j. malformed (p .days) (getD (s .entries) j blank .cut)) (s .count)
     (λ j h. ap (malformed (p .days)) (cutOn-cutsOf s j h)))
 
@@ -58,18 +69,18 @@ module _ (p : Profile) (s : Sheet) (l : List ℕ) where
   unfolding earlyWriting
   too-many h a = early (rw (length-cutsOf s, lt-ltb 512 (s .count) h) refl) (λ z. omega arith) a
 
-  module _ (few : s .count ≤ 512) {number : ℕ} {r : WriteAnswer} (x : number ≡ 0 → ⊥) (a : r ≡ record { refusal = number; length = 0 }) where
-    pub bad-profile : number ≡ Opening.earlyOpening p → Answers p s l r l
+  module _ {number : ℕ} {r : WriteAnswer} (x : number ≡ 0 → ⊥) (a : r ≡ record { refusal = number; length = 0 }) where
+    pub bad-profile : s .count ≤ 512 → number ≡ Opening.earlyOpening p → Answers p s l r l
     unfolding earlyWriting
-    bad-profile e = early (rw (length-cutsOf s, le-ltb 512 (s .count) few, ← e, ne-eqb number 0 x) refl) x a
+    bad-profile few e = early (rw (length-cutsOf s, le-ltb 512 (s .count) few, ← e, ne-eqb number 0 x) refl) x a
 
-    pub bad-cut : Opening.earlyOpening p ≡ 0 → number ≡ entriesRefusal p s → Answers p s l r l
-    bad-cut o e = early (e ∙ sym (by-cuts p s few o)) x a
+    pub bad-cut : Opens p s → number ≡ entriesRefusal p s → Answers p s l r l
+    bad-cut o e = early (e ∙ sym (by-cuts p s o)) x a
 
   pub too-short : {r : WriteAnswer} → Checked p s → length l < fileLength (p .days) (s .count) → r ≡ record { refusal = 2; length = 0 } → Answers p s l r l
   unfolding writingRefusal
   too-short c h a =
-      refused 2 (rw (by-cuts p s (c .few) (c .profile), c .formed, length-cutsOf s, lt-ltb (length l) (fileLength (p .days) (s .count)) h) refl) (λ z. omega arith) a
+      refused 2 (rw (by-cuts p s (c .opens), c .formed, length-cutsOf s, lt-ltb (length l) (fileLength (p .days) (s .count)) h) refl) (λ z. omega arith) a
 
 -- ---- written
 
@@ -77,23 +88,21 @@ module _ (p : Profile) (s : Sheet) (c : Checked p s) where
   -- each entry's day fits its field
   pub entry-day : (j : ℕ) → j < s .count → dayOf (getD (s .entries) j blank .cut) < 65536
   entry-day j h =
-      let z = entered p (c .profile) .sized in
+      let z = entered p (c .opens .profile) .sized in
       omega (arith, formed-day (p .days) (getD (s .entries) j blank .cut) (nonzero-none (λ i. malformed (p .days) (getD (s .entries) i blank .cut)) (s .count) (c .formed) j h) (z .some), z .few)
 
-  module _ (l : List ℕ) (h : fileLength (p .days) (s .count) ≤ length l) where
+  module _ {l a b out : List ℕ} (w : Stored p s l a b out) where
     accepted : writingRefusal p (cutsOf s) (length l) ≡ 0
     unfolding writingRefusal
-    accepted = rw (by-cuts p s (c .few) (c .profile), c .formed, length-cutsOf s, le-ltb (length l) (fileLength (p .days) (s .count)) h) refl
+    accepted = rw (by-cuts p s (c .opens), c .formed, length-cutsOf s, le-ltb (length l) (fileLength (p .days) (s .count)) (w .room)) refl
 
-    -- the three parts of the file, stored one after another
-    whole : {a b out : List ℕ} → a ≡ sets l 0 (header (p .days) (s .count) (p .lowest) (p .highest)) → b ≡ sets a 16 (rows (dayRow p) (p .days))
-        → out ≡ sets b (dayOffset (p .days)) (rows (λ j. cutBytes (getD (s .entries) j blank .cut)) (s .count)) → out ≡ sets l 0 (file p (cutsOf s))
-    whole e f g =
+    -- the three parts are the file
+    whole : out ≡ sets l 0 (file p (cutsOf s))
+    whole =
         let cuts = rows-same (λ j. cutBytes (cutOn (cutsOf s) j)) (λ j. cutBytes (getD (s .entries) j blank .cut)) (s .count) (λ j u. ap cutBytes (cutOn-cutsOf s j u)) in
-        parts-stored p (cutsOf s) l (rw (length-cutsOf s) e) f (rw (length-cutsOf s, cuts) g)
+        parts-stored p (cutsOf s) l (rw (length-cutsOf s) (w .header-stored)) (w .days-stored) (rw (length-cutsOf s, cuts) (w .cuts-stored))
 
-    pub written : {a b out : List ℕ} → a ≡ sets l 0 (header (p .days) (s .count) (p .lowest) (p .highest)) → b ≡ sets a 16 (rows (dayRow p) (p .days))
-        → out ≡ sets b (dayOffset (p .days)) (rows (λ j. cutBytes (getD (s .entries) j blank .cut)) (s .count)) → Answers p s l (record { refusal = 0; length = fileLength (p .days) (s .count) }) out
+    pub written : Answers p s l (record { refusal = 0; length = fileLength (p .days) (s .count) }) out
     unfolding writeAnswer output
-    written e f g =
-        (rw (accepted, length-cutsOf s) refl, rw accepted (whole e f g ∙ front-sets (file p (cutsOf s)) l (omega (arith, length-file p (cutsOf s), length-cutsOf s))))
+    written =
+        (rw (accepted, length-cutsOf s) refl, rw accepted (whole ∙ front-sets (file p (cutsOf s)) l (omega (arith, w .room, length-file p (cutsOf s), length-cutsOf s))))

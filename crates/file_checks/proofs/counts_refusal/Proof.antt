@@ -1,3 +1,4 @@
+-- `counts_refusal` meets its contract: a law of Laws for each return.
 use native.Mathlib.Omega.{arith}
 use Rattle.file_checks.proofs.Laws.{no-days, many-days, many-cuts, counts-taken}
 use Rattle.file_checks.proofs.counts_refusal.Statement.{statement}

@@ -1,16 +1,30 @@
+-- `fields_refusal` meets its contract: a law of Laws for each return, by the last rise (`Risen`) and the first bad cut.
 use borrow.Author.Needs.{needs}
-use Rattle.file_checks.proofs.Laws.{rise-left, cut-bad, fields-taken}
+use Rattle.file_checks.proofs.Laws.{Risen, rise-left, cut-bad, fields-taken}
 use Rattle.file_checks.proofs.fields_refusal.Statement.{statement}
 use Rattle.file_checks.proofs.fields_refusal.Tie as tie
 
+-- the places on the way: the last rise is read, and is 0; the cuts are searched
+abbrev at-start : tie.After-u16-at → tie.Start
+at-start c = c .before .before
+
+abbrev at-rise : tie.After-first-bad → tie.Else1
+at-rise c = c .before
+
+risen : (c : tie.After-u16-at) → let a = at-start c .args in Risen (a .bytes .now) (a .days) (a .cuts) (c .u16-at .result)
+risen c = let pre = at-start c .pre in record { said = record { days = pre .1; cuts = pre .2 }; some = pre .3; rise = c .u16-at .ensures }
+
 returns : tie.Need-returns
-returns c = rise-left (c .before .before .before .args .bytes .now) (c .before .before .before .pre .1) (c .before .before .before .pre .3) (c .before .u16-at .ensures) (c .if1 .taken)
+returns c = rise-left _ (risen (c .before)) (c .if1 .taken)
 
 returns-2 : tie.Need-returns-2
-returns-2 c = cut-bad (c .before .before .before .before .before .args .bytes .now) (c .before .before .before .before .before .pre .1) (c .before .before .before .before .before .pre .2) (c .before .first-bad .ensures) (c .if2 .taken)
+returns-2 c = let f = c .before in cut-bad _ (risen (at-rise f .before) .said) (f .first-bad .ensures) (c .if2 .taken)
 
 returns-3 : tie.Need-returns-3
-returns-3 c = fields-taken (c .before .before .before .before .before .args .bytes .now) (c .before .before .before .before .before .pre .1) (c .before .before .before .before .before .pre .3) (c .before .before .before .u16-at .ensures) (c .before .before .if1 .left) (c .before .before .before .before .before .pre .2) (c .before .first-bad .ensures) (c .if2 .left)
+returns-3 c =
+    let f = c .before in
+    let r = at-rise f in
+    fields-taken _ (risen (r .before)) (r .if1 .left) (f .first-bad .ensures) (c .if2 .left)
 
 pub fields-refusal-spec : {M : Type 1} → statement M
 fields-refusal-spec =

@@ -1,28 +1,80 @@
--- `file_refusal` meets its contract: a law of Stages for each way out.
-use mathlib.Core.Path.{_∙_}
+-- `file_refusal` meets its contract: a law of Laws for each way out, by what has passed before it: the header, the counts, the layout.
+use Prim.Native.Nat.{ℕ}
+use mathlib.Core.Path.{sym, _∙_}
+use mathlib.Core.List.{List}
 use native.Mathlib.Omega.{arith}
 use borrow.Author.Needs.{needs}
-use Rattle.file_checks.proofs.Laws.{no-header, counts-refused, counted-here, layout-refused, whole-here, fields-last}
+use Rattle.file_checks.proofs.Laws.{Header, Counted, Laid, no-header, counts-refused, counted-here, layout-refused, whole-here, fields-last}
 use Rattle.file_checks.proofs.file_refusal.Statement.{statement}
 use Rattle.file_checks.proofs.file_refusal.Tie as tie
 
+-- ---- the places on the way: the file has a header, its counts are read and judged, its layout is judged
+
+abbrev at-start : tie.Else1 → tie.Start
+at-start c = c .before .before
+
+abbrev at-header : tie.After-wide → tie.Else1
+at-header c = c .before .before
+
+abbrev at-days : tie.After-wide2 → tie.After-wide
+at-days c = c .before .before
+
+abbrev at-counts : tie.After-counts-refusal → tie.After-wide2
+at-counts c = c .before
+
+abbrev at-counted : tie.After-layout-refusal → tie.Else2
+at-counted c = c .before
+
+-- the file's bytes, seen from where its counts are read
+abbrev bytes : tie.After-wide2 → List ℕ
+bytes c = at-start (at-header (at-days c)) .args .bytes .now
+
+abbrev judged : tie.Else2 → tie.After-wide2
+judged c = at-counts (c .before)
+
+abbrev laid-out : tie.Else3 → tie.After-wide2
+laid-out c = judged (at-counted (c .before))
+
+-- ---- what has passed
+
+header : (c : tie.After-wide2) → Header (bytes c) (at-days c .wide .result) (c .wide2 .result)
+header c =
+    let d = at-days c in
+    record { long = at-header d .if1 .left; said = record { days = d .wide .ensures .0 ∙ d .before .u16-at .ensures; cuts = c .wide2 .ensures .0 ∙ c .before .u16-at2 .ensures } }
+
+counted : (c : tie.Else2) → Counted (bytes (judged c)) (at-days (judged c) .wide .result) (judged c .wide2 .result)
+counted c = record { header = header (judged c); none = sym (c .before .counts-refusal .ensures) ∙ c .if2 .left }
+
+laid : (c : tie.Else3) → Laid (bytes (laid-out c)) (at-days (laid-out c) .wide .result) (laid-out c .wide2 .result)
+laid c = let l = c .before in record { counted = counted (at-counted l); none = sym (l .layout-refusal .ensures) ∙ c .if3 .left }
+
+-- ---- the ways out
+
 returns : tie.Need-returns
-returns c = no-header (c .before .before .args .bytes .now) (c .if1 .taken)
+returns c = no-header _ (c .if1 .taken)
 
 returns-2 : tie.Need-returns-2
-returns-2 c = counts-refused (c .before .before .before .before .before .before .before .before .args .bytes .now) (c .before .before .before .before .before .before .if1 .left) (c .before .before .before .before .wide .ensures .0 ∙ c .before .before .before .before .before .u16-at .ensures) (c .before .before .wide2 .ensures .0 ∙ c .before .before .before .u16-at2 .ensures) (c .before .counts-refusal .ensures) (c .if2 .taken)
+returns-2 c = let j = c .before in counts-refused _ (header (at-counts j)) (j .counts-refusal .ensures) (c .if2 .taken)
 
 layout-refusal-requires : tie.Need-layout-refusal-requires
-layout-refusal-requires c κs = let en = c .before .before .before .before .wide .ensures .0 ∙ c .before .before .before .before .before .u16-at .ensures in let em = c .before .before .wide2 .ensures .0 ∙ c .before .before .before .u16-at2 .ensures in let counted = counted-here (c .before .before .before .before .before .before .before .before .args .bytes .now) (c .before .before .before .before .before .before .if1 .left) en em (c .before .counts-refusal .ensures) (c .if2 .left) in (c .before .before .before .before .before .before .if1 .left, en, em, omega arith, omega arith)
+layout-refusal-requires c κs =
+    let k = counted c in
+    let s = k .header .said in
+    let few = counted-here _ k in
+    (k .header .long, s .days, s .cuts, omega (arith, s .days), omega (arith, s .cuts))
 
 returns-3 : tie.Need-returns-3
-returns-3 c = layout-refused (c .before .before .before .before .before .before .before .before .before .before .args .bytes .now) (c .before .before .before .before .before .before .before .before .if1 .left) (c .before .before .before .before .before .before .wide .ensures .0 ∙ c .before .before .before .before .before .before .before .u16-at .ensures) (c .before .before .before .before .wide2 .ensures .0 ∙ c .before .before .before .before .before .u16-at2 .ensures) (c .before .before .before .counts-refusal .ensures) (c .before .before .if2 .left) (c .before .layout-refusal .ensures) (c .if3 .taken)
+returns-3 c = let l = c .before in layout-refused _ (counted (at-counted l)) (l .layout-refusal .ensures) (c .if3 .taken)
 
 fields-refusal-requires : tie.Need-fields-refusal-requires
-fields-refusal-requires c κs = let en = c .before .before .before .before .before .before .wide .ensures .0 ∙ c .before .before .before .before .before .before .before .u16-at .ensures in let em = c .before .before .before .before .wide2 .ensures .0 ∙ c .before .before .before .before .before .u16-at2 .ensures in let counted = counted-here (c .before .before .before .before .before .before .before .before .before .before .args .bytes .now) (c .before .before .before .before .before .before .before .before .if1 .left) en em (c .before .before .before .counts-refusal .ensures) (c .before .before .if2 .left) in (whole-here (c .before .before .before .before .before .before .before .before .before .before .args .bytes .now) (c .before .before .before .before .before .before .before .before .if1 .left) en em (c .before .before .before .counts-refusal .ensures) (c .before .before .if2 .left) (c .before .layout-refusal .ensures) (c .if3 .left), en, em, omega arith, omega arith, omega arith)
+fields-refusal-requires c κs =
+    let k = laid c in
+    let s = k .counted .header .said in
+    let few = counted-here _ (k .counted) in
+    (whole-here _ k, s .days, s .cuts, omega (arith, s .days), omega (arith, s .days), omega (arith, s .cuts))
 
 returns-4 : tie.Need-returns-4
-returns-4 c = fields-last (c .before .before .before .before .before .before .before .before .before .before .before .args .bytes .now) (c .before .before .before .before .before .before .before .before .before .if1 .left) (c .before .before .before .before .before .before .before .wide .ensures .0 ∙ c .before .before .before .before .before .before .before .before .u16-at .ensures) (c .before .before .before .before .before .wide2 .ensures .0 ∙ c .before .before .before .before .before .before .u16-at2 .ensures) (c .before .before .before .before .counts-refusal .ensures) (c .before .before .before .if2 .left) (c .before .before .layout-refusal .ensures) (c .before .if3 .left) (c .fields-refusal .ensures)
+returns-4 c = fields-last _ (laid (c .before)) (c .fields-refusal .ensures)
 
 pub file-refusal-spec : {M : Type 1} → statement M
 file-refusal-spec =

@@ -18,11 +18,30 @@ abbrev μ-loop : tie.MeasureT-loop
 loop-holds : tie.Need-loop-holds Inv-loop μ-loop
 loop-holds c = nowhere-none
 
+-- the places on the way: a turn begins, its cut is told and judged
+abbrev at-start : tie.In-loop Inv-loop μ-loop → tie.Start Inv-loop μ-loop
+at-start c = c .before .before .before
+
+abbrev at-turn : tie.After-is-bad Inv-loop μ-loop → tie.In-loop Inv-loop μ-loop
+at-turn c = c .before .before
+
+judged : (c : tie.After-is-bad Inv-loop μ-loop)
+    → let t = at-turn c in
+    let a = at-start t .args in
+    c .is-bad .result ≡ badCut (numberedAt (a .bytes .now) (a .from + t .before .loop .j * 8))
+judged c = c .is-bad .ensures ∙ ap badCut (c .before .numbered-at .ensures)
+
 returns : tie.Need-returns Inv-loop μ-loop
-returns c = nowhere-here (c .before .before .before .before .loop .inv) (c .before .before .before .loop-test .taken) (sym (c .before .is-bad .ensures ∙ ap badCut (c .before .before .numbered-at .ensures)) ∙ c .if1 .taken)
+returns c =
+    let j = c .before in
+    let t = at-turn j in
+    nowhere-here (t .before .loop .inv) (t .loop-test .taken) (sym (judged j) ∙ c .if1 .taken)
 
 loop-again : tie.Need-loop-again Inv-loop μ-loop
-loop-again c = nowhere-more (c .before .before .before .before .loop .inv) (c .before .before .before .loop-test .taken) (sym (c .before .is-bad .ensures ∙ ap badCut (c .before .before .numbered-at .ensures)) ∙ c .if1 .left)
+loop-again c =
+    let j = c .before in
+    let t = at-turn j in
+    nowhere-more (t .before .loop .inv) (t .loop-test .taken) (sym (judged j) ∙ c .if1 .left)
 
 returns-2 : tie.Need-returns-2 Inv-loop μ-loop
 returns-2 c = let e : c .before .loop .j ≡ c .before .before .before .args .count = omega (arith, c .before .loop .inv .most) in e ∙ nowhere-all (c .before .loop .inv) (c .loop-test .left)

@@ -1,3 +1,4 @@
+-- `store_day` meets its contract: what is stored is the day that `day_from` gave, and the rise is the number that was read.
 use mir.Syntax.{w16}
 use mir.Facts.{toZ-ofZ}
 use mathlib.Core.Path.{ap}
@@ -9,10 +10,13 @@ use Rattle.file_days.proofs.store_day.Tie as tie
 
 returns : tie.Need-returns
 returns c =
-    let p = c .before .before .before .before .before .before .before in
+    let range = c .before .before in
+    let numbered = range .before .before .before in
+    let p = numbered .before .before in
     let e = p .day-from .ensures in
-    let stored = c .before .before .store-range .ensures in
-    (omega (arith, ap (λ (t : Taken). t .next) e), (rw e at (stored .0), (rw e at (stored .1), rw (toZ-ofZ {w = w16} {z = p .day-from .result .day .rise} (sfits-of (c .before .before .before .before .before .struct-told .given .1 .1 .0 .1)), e))))
+    let stored = range .store-range .ensures in
+    let rise = toZ-ofZ {w = w16} {z = p .day-from .result .day .rise} (sfits-of (numbered .struct-told .given .1 .1 .0 .1)) in
+    (omega (arith, ap (λ (t : Taken). t .next) e), (rw e at (stored .0), (rw e at (stored .1), rw (rise, e))))
 
 pub store-day-spec : {M : Type 1} → statement M
 store-day-spec =

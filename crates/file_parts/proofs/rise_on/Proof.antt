@@ -1,3 +1,4 @@
+-- `rise_on` meets its contract: past the end of a list stands 0.
 use mathlib.Core.Path.{sym}
 use lib.ListN.{List·getD-eq-default}
 use lib.IntN.{pos}

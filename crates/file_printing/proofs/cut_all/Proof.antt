@@ -1,4 +1,4 @@
--- `report::cut_all` meets its contract: the loop of Laws, `Applied`. The measure is the cuts left. Assumes nothing.
+-- `cut_all` meets its contract: the loop of Laws, `Applied`. The measure is the cuts left.
 use Prim.Native.Nat.{_-_}
 use lib.ListN.{getD}
 use Rattle.session_cuts.specs.Sheet.{blank}

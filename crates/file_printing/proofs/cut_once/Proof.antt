@@ -1,4 +1,4 @@
--- `report::cut_once` meets its contract: no cut after a refusal, else the cut. Assumes nothing.
+-- `cut_once` meets its contract: no cut after a refusal, else the cut.
 use mathlib.Core.Path.{ap, sym, _∙_}
 use Rattle.session_cutting.proofs.Laws.{cut-in-bounds}
 use Rattle.file_printing.specs.Printing.{afterEntry}

@@ -1,4 +1,4 @@
--- `report::open_read` meets its contract: the parts that are lent are as long as they say. Assumes nothing.
+-- `open_read` meets its contract, which is that of `open`: the parts that are lent are as long as they say.
 use Prim.Native.Nat.{_-_}
 use mir.Facts.{toZ-ofZ}
 use mathlib.Core.Path.{sym}
@@ -7,17 +7,30 @@ use borrow.Author.Needs.{needs}
 use Rattle.file_printing.proofs.open_read.Statement.{statement}
 use Rattle.file_printing.proofs.open_read.Tie as tie
 
+-- the places on the way: each part lent, seen from the next
+abbrev at-start : tie.After-open-arg → tie.Start
+at-start c = c .before .before .before .before
+
+abbrev at-floors : tie.After-open-arg2 → tie.After-open-arg
+at-floors c = c .before
+
+abbrev at-ceilings : tie.After-open-arg3 → tie.After-open-arg2
+at-ceilings c = c .before
+
+abbrev from-rises : tie.After-open-arg3 → tie.Start
+from-rises c = at-start (at-floors (at-ceilings c))
+
 slice-aggregate-open : tie.Need-slice-aggregate-open
-slice-aggregate-open c = sym (length-take-le (c .before .before .before .before .args .days) (c .before .before .before .before .args .floors .now) (search needs))
+slice-aggregate-open c = let a = at-start c .args in sym (length-take-le (a .days) (a .floors .now) (search needs))
 
 slice-aggregate-open-2 : tie.Need-slice-aggregate-open-2
-slice-aggregate-open-2 c = sym (length-take-le (c .before .before .before .before .before .args .days) (c .before .before .before .before .before .args .ceilings .now) (search needs))
+slice-aggregate-open-2 c = let a = at-start (at-floors c) .args in sym (length-take-le (a .days) (a .ceilings .now) (search needs))
 
 slice-aggregate-open-3 : tie.Need-slice-aggregate-open-3
-slice-aggregate-open-3 c = sym (length-take-le (c .before .before .before .before .before .before .args .days - 1) (c .before .before .before .before .before .before .args .rises .now) (search needs))
+slice-aggregate-open-3 c = let a = from-rises c .args in sym (length-take-le (a .days - 1) (a .rises .now) (search needs))
 
 returns : tie.Need-returns
-returns c = rw (toZ-ofZ (c .before .before .before .before .before .before .before .fits .lowest), toZ-ofZ (c .before .before .before .before .before .before .before .fits .highest)) at (c .«open» .ensures)
+returns c = let f = from-rises (c .before) .fits in rw (toZ-ofZ (f .lowest), toZ-ofZ (f .highest)) at (c .«open» .ensures)
 
 pub open-read-spec : {M : Type 1} → statement M
 open-read-spec =

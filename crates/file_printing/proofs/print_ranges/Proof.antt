@@ -1,4 +1,4 @@
--- `report::print_ranges` meets its contract: a law of Lines for the stage that refuses, or for none. Assumes nothing.
+-- `print_ranges` meets its contract: a law of Lines for the stage that refuses, or for none.
 use Prim.Native.Nat.{ℕ}
 use mathlib.Core.Path.{_≡_, ap, sym, _∙_}
 use mathlib.Core.List.{List}
@@ -52,7 +52,8 @@ got-file c =
     let s = at-reading c in
     let r = at-read s in
     let e = r .read .ensures in
-    got (bytes r) (e .0) (stage-passed (r .read .result .refusal) (s .stage-of .ensures) (c .enum-told .given .1)) (e .1 .0) (e .1 .1 .0) (e .1 .1 .1)
+    let none = stage-passed (r .read .result .refusal) (s .stage-of .ensures) (c .enum-told .given .1) in
+    got (bytes r) (record { answer = e .0; passed = none; floors = e .1 .0; ceilings = e .1 .1 .0; rises = e .1 .1 .1 })
 
 opens : (c : tie.After-open-read) → c .open-read .result ≡ opened (profileIn (opened-bytes c))
 opens c =

@@ -1,6 +1,8 @@
--- `report::put_days` meets its contract: the loop of `Stored`. The measure is the days left. Assumes nothing.
+-- `put_days` meets its contract: the lines of k days are stored (`Stored`). The measure is the days left.
 use mir.Syntax.{w16}
+use mir.Val.{toZ, ofZ}
 use mir.Facts.{toZ-ofZ}
+use mathlib.Core.Path.{_≡_}
 use borrow.Author.Needs.{sfits-of}
 use Prim.Native.Nat.{_-_}
 use Rattle.base_codes.specs.Code.{on}
@@ -19,11 +21,42 @@ abbrev μ-loop : tie.MeasureT-loop
 loop-holds : tie.Need-loop-holds Inv-loop μ-loop
 loop-holds c = stored-none
 
+-- ---- the places on the way: a turn begins, a day's numbers are ready, its line is stored
+
+abbrev at-start : tie.In-loop Inv-loop μ-loop → tie.Start Inv-loop μ-loop
+at-start c = c .before .before .before
+
+abbrev at-turn : tie.After-put-day-arg3 Inv-loop μ-loop → tie.In-loop Inv-loop μ-loop
+at-turn c = c .before .before .before
+
+abbrev at-line : tie.After-slice-known2 Inv-loop μ-loop → tie.After-put-day Inv-loop μ-loop
+at-line c = c .before .before
+
+-- ---- the numbers as they are passed on
+
+floor : (c : tie.After-put-day-arg3 Inv-loop μ-loop)
+    → let t = at-turn c in
+    let z = on (at-start t .args .floors .now) (t .before .loop .k) in
+    toZ w16 (ofZ w16 z) ≡ z
+floor c = toZ-ofZ (sfits-of {w = w16} {z = on (at-start (at-turn c) .args .floors .now) (at-turn c .before .loop .k)} (c .before .put-day-arg2 .given))
+
+ceiling : (c : tie.After-put-day-arg3 Inv-loop μ-loop)
+    → let t = at-turn c in
+    let z = on (at-start t .args .ceilings .now) (t .before .loop .k) in
+    toZ w16 (ofZ w16 z) ≡ z
+ceiling c = toZ-ofZ (sfits-of {w = w16} {z = on (at-start (at-turn c) .args .ceilings .now) (at-turn c .before .loop .k)} (c .put-day-arg3 .given))
+
 put-day-requires : tie.Need-put-day-requires Inv-loop μ-loop
-put-day-requires c κs = rw (toZ-ofZ (sfits-of {w = w16} {z = on (c .before .before .before .before .before .before .args .floors .now) (c .before .before .before .before .loop .k)} (c .before .put-day-arg2 .given)), toZ-ofZ (sfits-of {w = w16} {z = on (c .before .before .before .before .before .before .args .ceilings .now) (c .before .before .before .before .loop .k)} (c .put-day-arg3 .given))) (stored-room 20 (c .before .before .before .before .loop .inv) (c .before .before .before .loop-test .taken) (c .before .before .before .before .before .before .pre .1) (c .before .before .before .before .before .before .pre .2))
+put-day-requires c κs =
+    let t = at-turn c in
+    let pre = at-start t .pre in
+    rw (floor c, ceiling c) (stored-room 20 (t .before .loop .inv) (t .loop-test .taken) (pre .1) (pre .2))
 
 loop-again : tie.Need-loop-again Inv-loop μ-loop
-loop-again c = stored-more (c .before .before .before .before .before .before .before .loop .inv) (c .before .before .before .before .before .before .loop-test .taken) (rw (toZ-ofZ (sfits-of {w = w16} {z = on (c .before .before .before .before .before .before .before .before .before .args .floors .now) (c .before .before .before .before .before .before .before .loop .k)} (c .before .before .before .before .put-day-arg2 .given)), toZ-ofZ (sfits-of {w = w16} {z = on (c .before .before .before .before .before .before .before .before .before .args .ceilings .now) (c .before .before .before .before .before .before .before .loop .k)} (c .before .before .before .put-day-arg3 .given))) at (c .before .before .put-day .ensures))
+loop-again c =
+    let l = at-line c in
+    let t = at-turn (l .before) in
+    stored-more (t .before .loop .inv) (t .loop-test .taken) (rw (floor (l .before), ceiling (l .before)) at (l .put-day .ensures))
 
 returns : tie.Need-returns Inv-loop μ-loop
 returns c = stored-all (c .before .loop .inv) (c .loop-test .left)

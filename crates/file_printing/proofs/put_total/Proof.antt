@@ -1,4 +1,4 @@
--- `report::put_total` meets its contract: its parts stored one after another, by Laws' `Left`. Assumes nothing.
+-- `put_total` meets its contract: its parts are stored one after another, by `Left` of Laws.
 use mathlib.Core.Path.{ap}
 use mathlib.Core.List.{[], _∷_}
 use lib.ListN.{length}
@@ -11,17 +11,43 @@ use borrow.Author.Needs.{needs}
 use Rattle.file_printing.proofs.put_total.Statement.{statement}
 use Rattle.file_printing.proofs.put_total.Tie as tie
 
-one : (c : tie.After-put) → Left (c .before .before .before .before .args .out .now) 0 (totalLine (c .before .before .before .before .args .low) (c .before .before .before .before .args .high)) (c .put .last .0) (c .put .result) (range (c .before .before .before .before .args .low) (c .before .before .before .before .args .high))
-one c = left-more (116 ∷ 111 ∷ 116 ∷ 97 ∷ 108 ∷ []) (left-all (total-parts (c .before .before .before .before .args .low) (c .before .before .before .before .args .high))) (c .put .ensures)
+-- ---- the places on the way: each part stored, seen from where the next one's arguments are ready
+
+abbrev at-start : tie.After-put-arg2 → tie.Start
+at-start c = c .before .before .before
+
+abbrev at-word : tie.After-put-range-arg → tie.After-put
+at-word c = c .before .before .before
+
+abbrev at-end : tie.After-slice-known3 → tie.After-put-range
+at-end c = c .before .before
+
+-- where it began, seen from where the range's arguments are ready
+abbrev from-range : tie.After-put-range-arg → tie.Start
+from-range c = at-start (at-word c .before)
+
+-- what is left to store after the first call
+one : (c : tie.After-put)
+    → let a = at-start (c .before) .args in
+    Left (a .out .now) 0 (totalLine (a .low) (a .high)) (c .put .last .0) (c .put .result) (range (a .low) (a .high))
+one c =
+    let a = at-start (c .before) .args in
+    left-more (116 ∷ 111 ∷ 116 ∷ 97 ∷ 108 ∷ []) (left-all (total-parts (a .low) (a .high))) (c .put .ensures)
 
 put-requires : tie.Need-put-requires
-put-requires c κs = omega (arith, ap length (total-parts (c .before .before .before .args .low) (c .before .before .before .args .high)), c .before .before .before .pre)
+put-requires c κs = let s = at-start c in omega (arith, ap length (total-parts (s .args .low) (s .args .high)), s .pre)
 
 put-range-requires : tie.Need-put-range-requires
-put-range-requires c κs = rw (toZ-ofZ (c .before .before .before .before .before .before .before .fits .low), toZ-ofZ (c .before .before .before .before .before .before .before .fits .high)) (last-room (one (c .before .before .before)) (omega (arith, c .before .before .before .before .before .before .before .pre)))
+put-range-requires c κs =
+    let s = from-range c in
+    rw (toZ-ofZ (s .fits .low), toZ-ofZ (s .fits .high)) (last-room (one (at-word c)) (omega (arith, s .pre)))
 
 returns : tie.Need-returns
-returns c = let e = left-none (one (c .before .before .before .before .before .before)) (rw (toZ-ofZ (c .before .before .before .before .before .before .before .before .before .before .fits .low), toZ-ofZ (c .before .before .before .before .before .before .before .before .before .before .fits .high)) at (c .before .before .put-range .ensures)) in (e .0, omega (arith, e .1))
+returns c =
+    let r = at-end c in
+    let f = from-range (r .before) .fits in
+    let e = left-none (one (at-word (r .before))) (rw (toZ-ofZ (f .low), toZ-ofZ (f .high)) at (r .put-range .ensures)) in
+    (e .0, omega (arith, e .1))
 
 pub put-total-spec : {M : Type 1} → statement M
 put-total-spec =

@@ -1,4 +1,4 @@
--- `report::stage_of` meets its contract: by the test. Assumes nothing.
+-- `stage_of` meets its contract: by the test.
 use mathlib.Core.Path.{refl}
 use borrow.Author.Tests.{eq-eqb, ne-eqb}
 use Rattle.file_printing.proofs.stage_of.Statement.{statement}

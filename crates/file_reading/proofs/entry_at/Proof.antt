@@ -1,3 +1,4 @@
+-- `entry_at` meets its contract: the cut is what `numbered_at` gave, or the blank one where that is no known cut.
 use borrow.Author.Needs.{needs}
 use Rattle.file_reading.proofs.entry_at.Statement.{statement}
 use Rattle.file_reading.proofs.entry_at.Tie as tie

@@ -1,39 +1,115 @@
 -- `read` meets its contract: a law of Stages for each way out. What the later calls require holds of a file that `file_refusal` takes (`Taken`).
-use mathlib.Core.Path.{sym, _∙_}
+use mathlib.Core.Path.{_≡_, sym, _∙_}
 use native.Mathlib.Omega.{arith}
-use lib.ListN.{length}
 use borrow.Author.Needs.{needs}
-use Rattle.file_format.proofs.Taken.{taken}
-use Rattle.file_reading.proofs.Stages.{file-refused, no-floors, no-ceilings, no-rises, refused-by, taken-whole}
+use Rattle.file_format.specs.Reading.{earlyReading}
+use Rattle.file_format.proofs.Taken.{Taken, taken}
+use Rattle.file_reading.proofs.Stages.{CutCall, Counted, file-refused, no-floors, no-ceilings, no-rises, refused-by, taken-whole}
 use Rattle.file_reading.proofs.read.Statement.{statement}
 use Rattle.file_reading.proofs.read.Tie as tie
 
+-- ---- the places on the way: the file is judged, it passes, its days are counted, the lists have room, the days are stored
+
+abbrev at-start : tie.After-file-refusal → tie.Start
+at-start c = c .before .before
+
+abbrev at-judged : tie.Else1 → tie.After-file-refusal
+at-judged c = c .before
+
+abbrev at-passed : tie.After-wide → tie.Else1
+at-passed c = c .before .before
+
+abbrev at-floors : tie.Else3 → tie.Else2
+at-floors c = c .before
+
+abbrev at-counted : tie.Else2 → tie.After-wide
+at-counted c = c .before
+
+abbrev at-ceilings : tie.Else4 → tie.Else3
+at-ceilings c = c .before
+
+abbrev at-room : tie.After-store-days-arg3 → tie.Else4
+at-room c = c .before .before .before
+
+abbrev at-stored : tie.After-rises → tie.After-store-days
+at-stored c = c .before .before .before
+
+-- the days' count, seen from where the lists have room
+abbrev from-room : tie.Else4 → tie.After-wide
+from-room c = at-counted (at-floors (at-ceilings c))
+
+-- ---- what is known at them
+
+abbrev handed : tie.After-file-refusal → CutCall
+handed c = let a = at-start c .args in record { bytes = a .bytes .now; floors = a .floors .now; ceilings = a .ceilings .now; rises = a .rises .now }
+
+-- what the days' count was taken of
+abbrev read-from : tie.After-wide → CutCall
+read-from c = handed (at-judged (at-passed c))
+
+passed : (c : tie.Else1) → earlyReading (handed (at-judged c) .bytes) ≡ 0
+passed c = sym (at-judged c .file-refusal .ensures) ∙ c .if1 .left
+
+counted : (c : tie.After-wide) → Counted (read-from c .bytes) (c .wide .result)
+counted c = record { passed = passed (at-passed c); days = c .wide .ensures .0 ∙ c .before .u16-at .ensures }
+
+whole : (c : tie.After-wide) → Taken (read-from c .bytes)
+whole c = taken _ (passed (at-passed c))
+
+-- ---- the file is refused
+
 returns : tie.Need-returns
-returns c = let b = c .before .before .before .before .args .bytes .now in let fs = c .before .before .before .before .args .floors .now in let cs = c .before .before .before .before .args .ceilings .now in let rs = c .before .before .before .before .args .rises .now in refused-by b fs cs rs (c .refused .ensures) (file-refused b (length fs) (length cs) (length rs) (c .before .before .file-refusal .ensures) (c .before .if1 .taken)) (c .before .if1 .taken)
+returns c =
+    let f = c .before .before in
+    let some = c .before .if1 .taken in
+    refused-by (handed f) (c .refused .ensures) (file-refused (handed f) (f .file-refusal .ensures) some) some
 
 u16-at-requires : tie.Need-u16-at-requires
-u16-at-requires c κs = omega (arith, taken (c .before .before .before .args .bytes .now) (sym (c .before .file-refusal .ensures) ∙ c .if1 .left) .whole)
+u16-at-requires c κs = omega (arith, taken _ (passed c) .whole)
+
+-- ---- a list is too short
 
 returns-2 : tie.Need-returns-2
-returns-2 c = let b = c .before .before .before .before .before .before .before .args .bytes .now in let fs = c .before .before .before .before .before .before .before .args .floors .now in let cs = c .before .before .before .before .before .before .before .args .ceilings .now in let rs = c .before .before .before .before .before .before .before .args .rises .now in refused-by b fs cs rs (c .refused2 .ensures) (no-floors b (length fs) (length cs) (length rs) (c .before .before .before .before .before .file-refusal .ensures) (c .before .before .before .before .if1 .left) (c .before .before .wide .ensures .0 ∙ c .before .before .before .u16-at .ensures) (omega arith)) (λ z. omega arith)
+returns-2 c =
+    let n = c .before .before in
+    refused-by (read-from n) (c .refused2 .ensures) (no-floors (read-from n) (counted n) (omega arith)) (λ z. omega arith)
 
 returns-3 : tie.Need-returns-3
-returns-3 c = let b = c .before .before .before .before .before .before .before .before .args .bytes .now in let fs = c .before .before .before .before .before .before .before .before .args .floors .now in let cs = c .before .before .before .before .before .before .before .before .args .ceilings .now in let rs = c .before .before .before .before .before .before .before .before .args .rises .now in refused-by b fs cs rs (c .refused3 .ensures) (no-ceilings b (length fs) (length cs) (length rs) (c .before .before .before .before .before .before .file-refusal .ensures) (c .before .before .before .before .before .if1 .left) (c .before .before .before .wide .ensures .0 ∙ c .before .before .before .before .u16-at .ensures) (omega arith)) (λ z. omega arith)
+returns-3 c =
+    let n = at-counted (c .before .before) in
+    refused-by (read-from n) (c .refused3 .ensures) (no-ceilings (read-from n) (counted n) (omega arith)) (λ z. omega arith)
 
 sub-if4 : tie.Need-sub-if4
-sub-if4 c = omega (arith, taken (c .before .before .before .before .before .before .before .args .bytes .now) (sym (c .before .before .before .before .before .file-refusal .ensures) ∙ c .before .before .before .before .if1 .left) .some, c .before .before .wide .ensures .0 ∙ c .before .before .before .u16-at .ensures)
+sub-if4 c = let n = at-counted (at-floors c) in omega (arith, whole n .some, counted n .days)
 
 returns-4 : tie.Need-returns-4
-returns-4 c = let b = c .before .before .before .before .before .before .before .before .before .args .bytes .now in let fs = c .before .before .before .before .before .before .before .before .before .args .floors .now in let cs = c .before .before .before .before .before .before .before .before .before .args .ceilings .now in let rs = c .before .before .before .before .before .before .before .before .before .args .rises .now in refused-by b fs cs rs (c .refused4 .ensures) (no-rises b (length fs) (length cs) (length rs) (c .before .before .before .before .before .before .before .file-refusal .ensures) (c .before .before .before .before .before .before .if1 .left) (c .before .before .before .before .wide .ensures .0 ∙ c .before .before .before .before .before .u16-at .ensures) (omega arith)) (λ z. omega arith)
+returns-4 c =
+    let n = at-counted (at-floors (c .before .before)) in
+    refused-by (read-from n) (c .refused4 .ensures) (no-rises (read-from n) (counted n) (omega arith)) (λ z. omega arith)
+
+-- ---- the file is taken
 
 store-days-requires : tie.Need-store-days-requires
-store-days-requires c κs = let p = taken (c .before .before .before .before .before .before .before .before .before .before .before .args .bytes .now) (sym (c .before .before .before .before .before .before .before .before .before .file-refusal .ensures) ∙ c .before .before .before .before .before .before .before .before .if1 .left) in let e = c .before .before .before .before .before .before .wide .ensures .0 ∙ c .before .before .before .before .before .before .before .u16-at .ensures in (omega arith, omega arith, omega arith, omega arith, omega arith)
+store-days-requires c κs =
+    let n = from-room (at-room c) in
+    let w = whole n in
+    let e = counted n .days in
+    (omega arith, omega arith, omega arith, omega arith, omega arith)
 
 read-contents-requires : tie.Need-read-contents-requires
-read-contents-requires c κs = let p = taken (c .before .before .before .before .before .before .before .before .before .before .before .before .before .before .before .args .bytes .now) (sym (c .before .before .before .before .before .before .before .before .before .before .before .before .before .file-refusal .ensures) ∙ c .before .before .before .before .before .before .before .before .before .before .before .before .if1 .left) in let e = c .before .before .before .before .before .before .before .before .before .before .wide .ensures .0 ∙ c .before .before .before .before .before .before .before .before .before .before .before .u16-at .ensures in (e, omega arith, omega arith, p .fewCuts)
+read-contents-requires c κs =
+    let n = from-room (at-room (at-stored c .before)) in
+    let w = whole n in
+    let e = counted n .days in
+    (e, omega arith, omega arith, w .fewCuts)
 
 returns-5 : tie.Need-returns-5
-returns-5 c = let b = c .before .before .before .before .before .before .before .before .before .before .before .before .before .before .before .before .args .bytes .now in let fs = c .before .before .before .before .before .before .before .before .before .before .before .before .before .before .before .before .args .floors .now in let cs = c .before .before .before .before .before .before .before .before .before .before .before .before .before .before .before .before .args .ceilings .now in let rs = c .before .before .before .before .before .before .before .before .before .before .before .before .before .before .before .before .args .rises .now in taken-whole b fs cs rs (c .read-contents .ensures) (sym (c .before .before .before .before .before .before .before .before .before .before .before .before .before .before .file-refusal .ensures) ∙ c .before .before .before .before .before .before .before .before .before .before .before .before .before .if1 .left) (c .before .before .before .before .before .before .before .before .before .before .before .wide .ensures .0 ∙ c .before .before .before .before .before .before .before .before .before .before .before .before .u16-at .ensures) (omega arith) (omega arith) (omega arith) (c .before .before .before .before .store-days .ensures .0) (c .before .before .before .before .store-days .ensures .1 .0) (c .before .before .before .before .store-days .ensures .1 .1)
+returns-5 c =
+    let d = at-stored (c .before) in
+    let n = from-room (at-room (d .before)) in
+    let e = d .store-days .ensures in
+    taken-whole (read-from n) (c .read-contents .ensures) (counted n)
+    (record { floors-long = omega arith; ceilings-long = omega arith; rises-long = omega arith; floors-stored = e .0; ceilings-stored = e .1 .0; rises-stored = e .1 .1 })
 
 pub read-spec : {M : Type 1} → statement M
 read-spec =

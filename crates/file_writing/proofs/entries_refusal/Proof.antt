@@ -1,3 +1,4 @@
+-- `entries_refusal` meets its contract: none of the first j entries is refused. The measure is the entries left; the laws are those of First.
 use Prim.Native.Nat.{_-_}
 use mathlib.Core.Path.{sym, _∙_}
 use lib.ListN.{getD}
@@ -17,11 +18,22 @@ abbrev μ-loop : tie.MeasureT-loop
 loop-holds : tie.Need-loop-holds Inv-loop μ-loop
 loop-holds c = nowhere-none
 
+-- the places on the way: entry j is judged, and there is one
+abbrev at-entry : tie.After-entry-refusal Inv-loop μ-loop → tie.In-loop Inv-loop μ-loop
+at-entry c = c .before .before
+
 returns : tie.Need-returns Inv-loop μ-loop
-returns c = let e = c .before .entry-refusal .ensures in e ∙ nonzero-here _ (c .before .before .before .before .loop .inv) (c .before .before .before .loop-test .taken) (λ h. c .if1 .taken (e ∙ h))
+returns c =
+    let r = c .before in
+    let e = r .entry-refusal .ensures in
+    let l = at-entry r in
+    e ∙ nonzero-here _ (l .before .loop .inv) (l .loop-test .taken) (λ h. c .if1 .taken (e ∙ h))
 
 loop-again : tie.Need-loop-again Inv-loop μ-loop
-loop-again c = nowhere-more (c .before .before .before .before .loop .inv) (c .before .before .before .loop-test .taken) (zero-fails _ (sym (c .before .entry-refusal .ensures) ∙ c .if1 .left))
+loop-again c =
+    let r = c .before in
+    let l = at-entry r in
+    nowhere-more (l .before .loop .inv) (l .loop-test .taken) (zero-fails _ (sym (r .entry-refusal .ensures) ∙ c .if1 .left))
 
 returns-2 : tie.Need-returns-2 Inv-loop μ-loop
 returns-2 c = nonzero-all _ (c .before .loop .inv) (c .loop-test .left)

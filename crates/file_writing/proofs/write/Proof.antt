@@ -1,41 +1,90 @@
+-- `write` meets its contract: a law of Answers for each refusal, by the checks that have passed before it, and one for the three parts stored.
 use mathlib.Core.Path.{_≡_, sym, _∙_}
 use native.Mathlib.Omega.{arith}
 use mir.Facts.{toZ-ofZ}
 use Rattle.session.specs.Profile.{Profile}
 use Rattle.session.specs.Opening.{profile, earlyOpening}
 use Rattle.session.proofs.Entered.{Sized, entered}
-use Rattle.file_writing.proofs.Answers.{Checked, too-many, bad-profile, bad-cut, too-short, entry-day, written}
+use Rattle.file_writing.proofs.Answers.{Opens, Checked, too-many, bad-profile, bad-cut, too-short, entry-day, written}
 use borrow.Author.Needs.{needs}
 use Rattle.file_writing.proofs.write.Statement.{statement}
 use Rattle.file_writing.proofs.write.Tie as tie
 
--- the profile that is handed over
+-- ---- the places on the way: the sheet is unpacked, the cuts are few, profile and cuts are judged, each passes, the output has room, the parts are stored
+
+abbrev at-start : tie.After-entries → tie.Start
+at-start c = c .before .before
+
+abbrev at-unpacked : tie.Else1 → tie.After-entries
+at-unpacked c = c .before
+
+abbrev at-few : tie.After-profile-refusal → tie.Else1
+at-few c = c .before
+
+abbrev at-profile : tie.After-entries-refusal → tie.After-profile-refusal
+at-profile c = c .before
+
+abbrev at-cuts : tie.Else2 → tie.After-entries-refusal
+at-cuts c = c .before
+
+abbrev at-opens : tie.Else3 → tie.Else2
+at-opens c = c .before
+
+abbrev at-checked : tie.Else4 → tie.Else3
+at-checked c = c .before
+
+abbrev at-room : tie.After-put-header-arg → tie.Else4
+at-room c = c .before
+
+abbrev at-header : tie.After-put-days-arg → tie.After-put-header
+at-header c = c .before .before .before
+
+abbrev at-days : tie.After-put-entries-arg → tie.After-put-days
+at-days c = c .before .before .before
+
+abbrev at-entries : tie.After-slice-known4 → tie.After-put-entries
+at-entries c = c .before .before
+
+-- ---- what is known at them
+
+-- what is handed over, seen from where the profile is judged
+abbrev handed : tie.After-profile-refusal → tie.Start
+handed c = at-start (at-unpacked (at-few c))
+
+abbrev from-opens : tie.Else2 → tie.Start
+from-opens c = handed (at-profile (at-cuts c))
+
 abbrev given : tie.Start → Profile
 given c = let a = c .args in profile (a .days) (a .floors .now) (a .ceilings .now) (a .rises .now) (a .lowest) (a .highest)
 
 -- what is checked as opening does
-by-opening : (c : tie.After-profile-refusal) → c .profile-refusal .result ≡ earlyOpening (given (c .before .before .before .before))
-by-opening c = let f = c .before .before .before .before .fits in rw (toZ-ofZ (f .lowest), toZ-ofZ (f .highest)) at (c .profile-refusal .ensures)
+by-opening : (c : tie.After-profile-refusal) → c .profile-refusal .result ≡ earlyOpening (given (handed c))
+by-opening c = let f = handed c .fits in rw (toZ-ofZ (f .lowest), toZ-ofZ (f .highest)) at (c .profile-refusal .ensures)
+
+opens : (c : tie.Else2) → Opens (given (from-opens c)) (from-opens c .args .sheet)
+opens c = let p = at-profile (at-cuts c) in record { few = at-few p .if1 .left; profile = sym (by-opening p) ∙ c .if2 .left }
+
+-- past the checks of the profile and the cuts
+checked : (c : tie.Else3) → Checked (given (from-opens (at-opens c))) (from-opens (at-opens c) .args .sheet)
+checked c = let o = at-opens c in record { opens = opens o; formed = sym (at-cuts o .entries-refusal .ensures) ∙ c .if3 .left }
+
+sizes : (c : tie.Else3) → Sized (given (from-opens (at-opens c)))
+sizes c = entered _ (checked c .opens .profile) .sized
+
+-- ---- refused
 
 returns : tie.Need-returns
 returns c = too-many _ _ _ (c .before .if1 .taken) (c .refuse .ensures)
 
 returns-2 : tie.Need-returns-2
-returns-2 c = bad-profile _ _ _ (c .before .before .before .before .if1 .left) (c .before .if2 .taken) (c .refuse2 .ensures) (by-opening (c .before .before .before))
+returns-2 c =
+    let p = at-profile (c .before .before) in
+    bad-profile _ _ _ (c .before .if2 .taken) (c .refuse2 .ensures) (at-few p .if1 .left) (by-opening p)
 
 returns-3 : tie.Need-returns-3
-returns-3 c = bad-cut _ _ _ (c .before .before .before .before .before .if1 .left) (c .before .if3 .taken) (c .refuse3 .ensures) (sym (by-opening (c .before .before .before .before)) ∙ c .before .before .if2 .left) (c .before .before .before .entries-refusal .ensures)
-
--- past the checks of the profile and the cuts
-checked : (c : tie.Else3) → Checked (given (c .before .before .before .before .before .before .before)) (c .before .before .before .before .before .before .before .args .sheet)
-checked c = record {
-  few = c .before .before .before .before .if1 .left;
-  profile = sym (by-opening (c .before .before .before)) ∙ c .before .if2 .left;
-  formed = sym (c .before .before .entries-refusal .ensures) ∙ c .if3 .left;
-}
-
-sizes : (c : tie.Else3) → Sized (given (c .before .before .before .before .before .before .before))
-sizes c = entered _ (checked c .profile) .sized
+returns-3 c =
+    let o = c .before .before in
+    bad-cut _ _ _ (c .before .if3 .taken) (c .refuse3 .ensures) (opens o) (at-cuts o .entries-refusal .ensures)
 
 mul-from : tie.Need-mul-from
 mul-from c = omega (arith, sizes c .few)
@@ -49,19 +98,39 @@ add-length c = omega (arith, sizes c .few)
 returns-4 : tie.Need-returns-4
 returns-4 c = too-short _ _ _ (checked (c .before .before)) (omega (arith, c .before .if4 .taken)) (c .refuse4 .ensures)
 
+-- ---- written
+
 put-header-requires : tie.Need-put-header-requires
-put-header-requires c κs = (sizes (c .before .before) .few, c .before .before .before .before .before .before .if1 .left, omega (arith, c .before .if4 .left))
+put-header-requires c κs =
+    let r = at-room c in
+    let k = at-checked r in
+    (sizes k .few, checked k .opens .few, omega (arith, r .if4 .left))
 
 put-days-requires : tie.Need-put-days-requires
-put-days-requires c κs = let z = sizes (c .before .before .before .before .before .before) in (sym (z .floors), sym (z .ceilings), z .few, omega (arith, c .before .before .before .put-header .kept, c .before .before .before .before .before .if4 .left))
+put-days-requires c κs =
+    let h = at-header c in
+    let r = at-room (h .before) in
+    let z = sizes (at-checked r) in
+    (sym (z .floors), sym (z .ceilings), z .few, omega (arith, h .put-header .kept, r .if4 .left))
 
 put-entries-requires : tie.Need-put-entries-requires
-put-entries-requires c κs = (c .before .before .before .before .before .before .before .before .before .before .before .before .before .before .if1 .left, omega (arith, c .before .before .before .put-days .kept, c .before .before .before .before .before .before .before .put-header .kept, c .before .before .before .before .before .before .before .before .before .if4 .left), entry-day _ _ (checked (c .before .before .before .before .before .before .before .before .before .before)))
+put-entries-requires c κs =
+    let d = at-days c in
+    let h = at-header (d .before) in
+    let r = at-room (h .before) in
+    let k = checked (at-checked r) in
+    (k .opens .few, omega (arith, d .put-days .kept, h .put-header .kept, r .if4 .left), entry-day _ _ k)
 
 returns-5 : tie.Need-returns-5
 returns-5 c =
-    let f = c .before .before .before .before .before .before .before .before .before .before .before .before .before .before .before .before .before .before .before .before .fits in
-    written _ _ (checked (c .before .before .before .before .before .before .before .before .before .before .before .before .before)) _ (c .before .before .before .before .before .before .before .before .before .before .before .before .if4 .left) (rw (toZ-ofZ (f .lowest), toZ-ofZ (f .highest)) at (c .before .before .before .before .before .before .before .before .before .before .put-header .ensures)) (c .before .before .before .before .before .before .put-days .ensures) (c .before .before .put-entries .ensures)
+    let e = at-entries c in
+    let d = at-days (e .before) in
+    let h = at-header (d .before) in
+    let r = at-room (h .before) in
+    let k = at-checked r in
+    let f = from-opens (at-opens k) .fits in
+    written _ _ (checked k)
+    (record { room = r .if4 .left; header-stored = rw (toZ-ofZ (f .lowest), toZ-ofZ (f .highest)) at (h .put-header .ensures); days-stored = d .put-days .ensures; cuts-stored = e .put-entries .ensures })
 
 pub write-spec : {M : Type 1} → statement M
 write-spec =
