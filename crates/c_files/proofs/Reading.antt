@@ -14,7 +14,7 @@ use Rattle.theory_lists.specs.Lent.{lentList}
 use Rattle.theory_lists.specs.Rows.{front-sets}
 use Rattle.base_codes.specs.Code.{on}
 use Rattle.c_lists.specs.Lists.{pointBytes, lentPoints}
-use Rattle.c_lists.proofs.Laws.{points-stored}
+use Rattle.c_lists.proofs.Laws.{CutCall, points-stored}
 use Rattle.file_format.specs.Format.{dayOffset, dayCount, cutCount, floorAt, ceilingAt, riseAt}
 use Rattle.file_format.specs.Reading.{earlyReading}
 use Rattle.file_format.proofs.Taken.{Taken, not-refused}
@@ -81,32 +81,44 @@ module _ (b fs cs rs ks : List ℕ) where
       let number : a .refusal ≡ earlyReading b = ap (λ s. s .refusal) e ∙ read-number b 512 512 512 (omega arith) (omega arith) (omega arith) in
       refused (a .refusal) (rw (← number, ne-eqb (a .refusal) 0 x) refl) x d
 
-  module _ {a : ReadAnswer} (here : Found b a) {m : ℕ} (em : m ≡ cutCount b) where
-    pub too-short : {r : Contents} → noRoomOver (a .days) m (length fs) (length cs) (length rs) (length ks) ≡ true → r ≡ refusedContents 2 → Answers r fs cs rs ks
-    unfolding readingRefusalOver
-    too-short e d = refused 2 (rw (not-refused b (here .taken), rw (here .days, em) at e) refl) (λ z. omega arith) d
+  pub too-short : {a : ReadAnswer} {m : ℕ} {r : Contents} → Found b a → m ≡ cutCount b → noRoomOver (a .days) m (length fs) (length cs) (length rs) (length ks) ≡ true
+      → r ≡ refusedContents 2 → Answers r fs cs rs ks
+  unfolding readingRefusalOver
+  too-short here em e d = refused 2 (rw (not-refused b (here .taken), rw (here .days, em) at e) refl) (λ z. omega arith) d
 
-    pub read-all : {lowest highest : ℤ} {low high steps : List ℤ} {floors ceilings rises cuts : List ℕ} → noRoomOver (a .days) m (length fs) (length cs) (length rs) (length ks) ≡ false
-        → lowest ≡ a .lowest → highest ≡ a .highest
-        → low ≡ lentList (a .refusal) (floorAt b) (dayCount b) (replicate 512 (pos 0)) → floors ≡ sets fs 0 (pointBytes (on low) (a .days))
-        → high ≡ lentList (a .refusal) (ceilingAt b) (dayCount b) (replicate 512 (pos 0)) → ceilings ≡ sets cs 0 (pointBytes (on high) (a .days))
-        → steps ≡ lentList (a .refusal) (riseAt b) (dayCount b - 1) (replicate 512 (pos 0)) → rises ≡ sets rs 0 (pointBytes (on steps) (a .days - 1))
-        → cuts ≡ sets ks 0 (drop (dayOffset (a .days)) b) → Answers (record { refusal = 0; days = a .days; cuts = m; lowest = lowest; highest = highest }) floors ceilings rises cuts
-    unfolding readingRefusalOver readInto contents lentPoints cutsLent
-    read-all e el eh low f high c steps s k =
-        let n = here .days in
-        let z : a .refusal ≡ 0 = ap (λ q. q .refusal) (here .all) in
-        let few : a .days ≤ 512 = omega (arith, here .taken .few) in
-        let room = roomy (a .days) m (length fs) (length cs) (length rs) (length ks) e in (
-          rw (not-refused b (here .taken), rw (n, em) at e, n, em, el, eh, here .all) refl,
-          (
-            rw (← n) (points-stored (floorAt b) (a .days) fs z (rw (← n) at low) few (room .floors-long) f),
-            (
-              rw (← n) (points-stored (ceilingAt b) (a .days) cs z (rw (← n) at high) few (room .ceilings-long) c),
-              (
-                rw (← n) (points-stored (riseAt b) (a .days - 1) rs z (rw (← n) at steps) (omega arith) (room .rises-long) s),
-                rw (← n) (k ∙ front-sets (drop (dayOffset (a .days)) b) ks (omega (arith, length-drop (dayOffset (a .days)) b, here .taken .whole, room .cuts-long))),
-              ),
-            ),
-          ),
-        )
+  -- what has passed: the file's own checks, with m cuts in it, and 2
+  pub record Passed (a : ReadAnswer) (m : ℕ) : Type 0 where
+    pub found : Found b a
+    pub count : m ≡ cutCount b
+    pub room : noRoomOver (a .days) m (length fs) (length cs) (length rs) (length ks) ≡ false
+
+  -- what is stored in the lists: the points, by way of the arrays that the reader of files filled, and the file's cuts as they stand
+  pub record Stored (a : ReadAnswer) (floors ceilings rises cuts : List ℕ) : Type 0 where
+    pub low : List ℤ
+    pub high : List ℤ
+    pub steps : List ℤ
+    pub low-read : low ≡ lentList (a .refusal) (floorAt b) (dayCount b) (replicate 512 (pos 0))
+    pub high-read : high ≡ lentList (a .refusal) (ceilingAt b) (dayCount b) (replicate 512 (pos 0))
+    pub steps-read : steps ≡ lentList (a .refusal) (riseAt b) (dayCount b - 1) (replicate 512 (pos 0))
+    pub floors-put : floors ≡ sets fs 0 (pointBytes (on low) (a .days))
+    pub ceilings-put : ceilings ≡ sets cs 0 (pointBytes (on high) (a .days))
+    pub rises-put : rises ≡ sets rs 0 (pointBytes (on steps) (a .days - 1))
+    pub cuts-put : cuts ≡ sets ks 0 (drop (dayOffset (a .days)) b)
+
+  pub read-all : {a : ReadAnswer} {m : ℕ} {lowest highest : ℤ} {floors ceilings rises cuts : List ℕ} → Passed a m → lowest ≡ a .lowest → highest ≡ a .highest
+      → Stored a floors ceilings rises cuts → Answers (record { refusal = 0; days = a .days; cuts = m; lowest = lowest; highest = highest }) floors ceilings rises cuts
+  unfolding readingRefusalOver readInto contents lentPoints cutsLent
+  read-all {a} {m} p el eh s =
+      let here = p .found in
+      let n = here .days in
+      let z : a .refusal ≡ 0 = ap (λ q. q .refusal) (here .all) in
+      let few : a .days ≤ 512 = omega (arith, here .taken .few) in
+      let less : a .days - 1 ≤ 512 = omega arith in
+      let room = roomy (a .days) m (length fs) (length cs) (length rs) (length ks) (p .room) in
+      let low : CutCall (a .refusal) (floorAt b) (a .days) fs (s .low) _ = record { none = z; few = few; room = room .floors-long; lent = rw (← n) at (s .low-read); stored = s .floors-put } in
+      let high : CutCall (a .refusal) (ceilingAt b) (a .days) cs (s .high) _ = record { none = z; few = few; room = room .ceilings-long; lent = rw (← n) at (s .high-read); stored = s .ceilings-put } in
+      let steps : CutCall (a .refusal) (riseAt b) (a .days - 1) rs (s .steps) _ = record { none = z; few = less; room = room .rises-long; lent = rw (← n) at (s .steps-read); stored = s .rises-put } in
+      let rest = s .cuts-put ∙ front-sets (drop (dayOffset (a .days)) b) ks (omega (arith, length-drop (dayOffset (a .days)) b, here .taken .whole, room .cuts-long)) in (
+        rw (not-refused b (here .taken), rw (n, p .count) at (p .room), n, p .count, el, eh, here .all) refl,
+        (rw (← n) (points-stored (floorAt b) (a .days) fs low), (rw (← n) (points-stored (ceilingAt b) (a .days) cs high), (rw (← n) (points-stored (riseAt b) (a .days - 1) rs steps), rw (← n) rest))),
+      )

@@ -77,15 +77,19 @@ module _ (n : ℕ) (fs cs rs : List ℕ) (lo hi : ℤ) (b : List ℕ) where
   abbrev p : Profile
   p = profileOf n fs cs rs lo hi
 
-  -- no check before the output's length refuses
-  pub record Checked : Type 0 where
+  -- no check of the lists or of the profile refuses
+  pub record Opens : Type 0 where
     pub lengths : lengthsRefusal n (length fs) (length cs) (length rs) (length b) ≡ 0
     pub profile : earlyOpening p ≡ 0
+
+  -- no check before the output's length refuses
+  pub record Checked : Type 0 where
+    pub opens : Opens
     pub formed : cutsRefusal n b ≡ 0
 
   none-early : Checked → earlyWritingOver n fs cs rs lo hi b ≡ 0
   unfolding earlyWritingOver
-  none-early c = rw (c .lengths, c .profile) (c .formed)
+  none-early c = rw (c .opens .lengths, c .opens .profile) (c .formed)
 
   module _ (l : List ℕ) where
     -- what `write` ensures
@@ -105,14 +109,27 @@ module _ (n : ℕ) (fs cs rs : List ℕ) (lo hi : ℤ) (b : List ℕ) where
       unfolding earlyWritingOver
       bad-lengths e = early (rw (← e, ne-eqb number 0 x) refl)
 
-      module _ (lengths : lengthsRefusal n (length fs) (length cs) (length rs) (length b) ≡ 0) where
-        pub bad-profile : number ≡ earlyOpening p → Answers r l
-        unfolding earlyWritingOver
-        bad-profile e = early (rw (lengths, ← e, ne-eqb number 0 x) refl)
+      pub bad-profile : lengthsRefusal n (length fs) (length cs) (length rs) (length b) ≡ 0 → number ≡ earlyOpening p → Answers r l
+      unfolding earlyWritingOver
+      bad-profile lengths e = early (rw (lengths, ← e, ne-eqb number 0 x) refl)
 
-        pub bad-cut : earlyOpening p ≡ 0 → number ≡ cutsRefusal n b → Answers r l
-        unfolding earlyWritingOver
-        bad-cut o e = early (rw (lengths, o) e)
+      pub bad-cut : Opens → number ≡ cutsRefusal n b → Answers r l
+      unfolding earlyWritingOver
+      bad-cut o e = early (rw (o .lengths, o .profile) e)
+
+    -- what is stored: the header, then the days from the lists' points, then the cuts' bytes
+    pub record Stored (out : List ℕ) : Type 0 where
+      pub floors : List ℤ
+      pub ceilings : List ℤ
+      pub rises : List ℤ
+      pub one : List ℕ
+      pub two : List ℕ
+      pub floors-held : floors ≡ pointsIn fs n
+      pub ceilings-held : ceilings ≡ pointsIn cs n
+      pub rises-held : rises ≡ pointsIn rs (n - 1)
+      pub header-put : one ≡ sets l 0 (header n (length b / 8) lo hi)
+      pub days-put : two ≡ sets one 16 (rows (λ k. dayBytes (on floors k) (on ceilings k) (on rises k)) n)
+      pub cuts-put : out ≡ sets two (dayOffset n) b
 
     module _ (c : Checked) where
       pub too-short : {r : WriteAnswer} → length l < fileLength n (length b / 8) → r ≡ record { refusal = 2; length = 0 } → Answers r l
@@ -124,11 +141,10 @@ module _ (n : ℕ) (fs cs rs : List ℕ) (lo hi : ℤ) (b : List ℕ) where
         unfolding writingRefusalOver
         accepted = rw (none-early c, le-ltb (length l) (fileLength n (length b / 8)) h) refl
 
-        pub written : {floors ceilings rises : List ℤ} {one two out : List ℕ} → floors ≡ pointsIn fs n → ceilings ≡ pointsIn cs n → rises ≡ pointsIn rs (n - 1)
-            → one ≡ sets l 0 (header n (length b / 8) lo hi) → two ≡ sets one 16 (rows (λ k. dayBytes (on floors k) (on ceilings k) (on rises k)) n) → out ≡ sets two (dayOffset n) b
-            → Answers (record { refusal = 0; length = fileLength n (length b / 8) }) out
+        pub written : {out : List ℕ} → Stored out → Answers (record { refusal = 0; length = fileLength n (length b / 8) }) out
         unfolding writeOver outputOver
-        written {out = out} ef ec er e f g =
-            let s = sized n (length fs) (length cs) (length rs) (length b) (c .lengths) in
-            let whole : out ≡ sets l 0 (file p (cutsInBytes b)) = parts-stored p (cutsInBytes b) l (rw (length-cuts b) e) (rw (ef, ec, er) at f) (rw (cuts-back b n bytes (c .formed) (s .whole)) g) in
+        written {out} d =
+            let s = sized n (length fs) (length cs) (length rs) (length b) (c .opens .lengths) in
+            let days = rw (d .floors-held, d .ceilings-held, d .rises-held) at (d .days-put) in
+            let whole : out ≡ sets l 0 (file p (cutsInBytes b)) = parts-stored p (cutsInBytes b) l (rw (length-cuts b) (d .header-put)) days (rw (cuts-back b n bytes (c .formed) (s .whole)) (d .cuts-put)) in
             (rw accepted refl, rw accepted (whole ∙ front-sets (file p (cutsInBytes b)) l (omega (arith, length-file p (cutsInBytes b), length-cuts b))))

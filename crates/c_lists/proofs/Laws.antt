@@ -98,11 +98,17 @@ cells-front f g n l same room e = rows-front (λ k. u16Bytes (f k)) (λ k. u16By
 pub lent-at : {refusal n : ℕ} (f : ℕ → ℤ) {points : List ℤ} (l : List ℤ) → refusal ≡ 0 → n ≤ length l → points ≡ lentList refusal f n l → (k : ℕ) → k < n → on points k ≡ f k
 lent-at {refusal} {n} f l z h e k u = rw (e, list-filled refusal f n l z) (written-below f (pos 0) n l k u h)
 
--- the points of an array that was lent
-pub points-stored : {refusal : ℕ} (f : ℕ → ℤ) (n : ℕ) (l : List ℕ) {points : List ℤ} {out : List ℕ} → refusal ≡ 0 → points ≡ lentList refusal f n (replicate 512 (pos 0)) → n ≤ 512
-    → n * 2 ≤ length l → out ≡ sets l 0 (pointBytes (on points) n) → out ≡ inFront (pointBytes f n) l
-points-stored f n l {points} z e few room o =
-    points-front f (on points) n l (lent-at f (replicate 512 (pos 0)) z (omega (arith, length-replicate 512 (pos 0))) e) room o
+-- n points of an array that was lent and filled, stored as the front of the list l, which gives out
+pub record CutCall (refusal : ℕ) (f : ℕ → ℤ) (n : ℕ) (l : List ℕ) (points : List ℤ) (out : List ℕ) : Type 0 where
+  pub none : refusal ≡ 0
+  pub few : n ≤ 512
+  pub room : n * 2 ≤ length l
+  pub lent : points ≡ lentList refusal f n (replicate 512 (pos 0))
+  pub stored : out ≡ sets l 0 (pointBytes (on points) n)
+
+pub points-stored : {refusal : ℕ} (f : ℕ → ℤ) (n : ℕ) (l : List ℕ) {points : List ℤ} {out : List ℕ} → CutCall refusal f n l points out → out ≡ inFront (pointBytes f n) l
+points-stored f n l {points} h =
+    points-front f (on points) n l (lent-at f (replicate 512 (pos 0)) (h .none) (omega (arith, h .few, length-replicate 512 (pos 0))) (h .lent)) (h .room) (h .stored)
 
 -- a list by the refusal
 module _ (refusal : ℕ) (f : ℕ → ℤ) (n : ℕ) (l : List ℕ) where

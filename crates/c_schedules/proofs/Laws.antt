@@ -1,28 +1,26 @@
 -- What writing and inspecting by a session's bytes give, by what their tests found.
 use mathlib.Core.Path.{_≡_, refl, sym, _∙_}
 use mathlib.Core.Bool.{Bool, true, false, _&&_}
-use mathlib.Core.List.{List, _++_}
+use mathlib.Core.List.{List}
 use Prim.Native.Nat.{ℕ, _+_, _*_}
 use native.Mathlib.Omega.{arith}
 use lib.IntN.{ℤ}
 use lib.ListN.{length, take}
-use lib.Seq.{sets}
 use borrow.Author.Tests.{eq-eqb, ne-eqb}
 use Rattle.theory_lists.specs.Sum.{at}
 use Rattle.theory_lists.specs.Written.{written}
 use Rattle.theory_lists.specs.Lent.{lentList}
-use Rattle.base_codes.specs.Code.{on}
 use Rattle.session.specs.declared.Session.{Session}
 use Rattle.schedule_writing.specs.Writing.{dayWriteRefusal, totalWriteRefusal, dayWritten, totalWritten}
 use Rattle.schedule_inspection.specs.Inspecting.{Finding, refused, inspected}
-use Rattle.c_lists.specs.Lists.{isLong, pointAt, pointBytes, lentPoints}
+use Rattle.c_lists.specs.Lists.{isLong, pointAt, lentPoints}
 use Rattle.c_lists.proofs.Laws.{held, points-left}
 use Rattle.c_storage.specs.Layout.{sessionBytes, decoding}
 use Rattle.c_sessions.specs.Sessions.{isSession}
 use Rattle.c_schedules.specs.Schedules.{refusalFor, setpointFor, writeRefusal, inspectedOver}
 use Rattle.c_schedules.specs.declared.Subject.{Subject}
 use Rattle.c_schedules.specs.declared.Subject.the-variants.{Day, Total}
-use Rattle.c_sessions.proofs.Held.{held-few, blanks, part-stored}
+use Rattle.c_sessions.proofs.Held.{held-few, blanks, Put, part-stored}
 
 module _ (s : Session) (value : ℤ) (l : List ℤ) {subject : Subject} {out : List ℤ} {r : ℕ} (h : length l ≡ s .days) where
   pub wrote-day : (day : ℕ) → subject ≡ Day day → (r ≡ dayWriteRefusal s day value (length l)) × (out ≡ dayWritten s day value l)
@@ -61,19 +59,23 @@ module _ (b : List ℕ) (subject : Subject) (value : ℤ) (l : List ℕ) where
   unfolding both writeRefusal
   write-unread e = (rw e refl, sym (points-left 2 _ _ l (λ z. absurd (omega arith))))
 
-  module _ {s : Session} {r : ℕ} (d : s ≡ decoding b) (e : both b l ≡ true) (f : r ≡ refusalFor s subject value) where
+  -- what writing did: the bytes hold a session, the list is as long as it asks, and the schedule was written for it
+  pub record Wrote (s : Session) (r : ℕ) : Type 0 where
+    pub held : s ≡ decoding b
+    pub right : both b l ≡ true
+    pub after : r ≡ refusalFor s subject value
+
+  module _ {s : Session} {r : ℕ} (w : Wrote s r) where
     refusal : r ≡ writeRefusal b subject value l
     unfolding both writeRefusal
-    refusal = rw (e, ← d) f
+    refusal = rw (w .right, ← w .held) (w .after)
 
     pub write-refused : (r ≡ 0 → ⊥) → Writes r l
     write-refused h = (refusal, sym (points-left r _ _ l h))
 
-    pub write-all : {part : List ℤ} (rest : List ℤ) {out : List ℕ} → r ≡ 0 → length l ≡ s .days * 2
-        → part ≡ lentList r (setpointFor s subject value) (s .days) (take (s .days) blanks) → out ≡ sets l 0 (pointBytes (on (part ++ rest)) (s .days)) → Writes 0 out
-    write-all rest z n p o =
-        let few = held-few b d in
-        (sym z ∙ refusal, rw (← d) (rw z at (part-stored {m = s .days} (setpointFor s subject value) l rest z (omega arith) few (omega arith) p o)))
+    pub write-all : {out : List ℕ} → r ≡ 0 → length l ≡ s .days * 2 → Put r (setpointFor s subject value) (s .days) l out → Writes 0 out
+    write-all z n p =
+        (sym z ∙ refusal, rw (← w .held) (rw z at (part-stored (setpointFor s subject value) l p z (omega arith))))
 
 module _ (b l : List ℕ) where
   pub inspect-unread : both b l ≡ false → refused 2 ≡ inspectedOver b l

@@ -31,15 +31,28 @@ blanks = replicate 512 (pos 0)
 
 -- ---- points stored from a scratch array of which a part was lent
 
--- what stands in the array, where m of its places were lent and n are filled
-lent-front : {refusal n m : ℕ} (f : ℕ → ℤ) {part : List ℤ} (rest : List ℤ) → refusal ≡ 0 → n ≤ m → m ≤ 512 → part ≡ lentList refusal f n (take m blanks)
-    → (k : ℕ) → k < n → on (part ++ rest) k ≡ f k
-lent-front {refusal} {n} {m} f {part} rest z few most e k u =
-    let long = length-take-le m blanks (omega (arith, length-replicate 512 (pos 0))) in
-    let whole : length part ≡ m = ap length (e ∙ list-filled refusal f n (take m blanks) z) ∙ length-written f n (take m blanks) ∙ long in
-    List·getD-append part rest (pos 0) k (omega arith) ∙ lent-at f (take m blanks) z (omega arith) e k u
+-- n points stored as the front of the list l, which gives out, from an array of which so many places were lent, and n filled
+pub record Put (refusal : ℕ) (f : ℕ → ℤ) (n : ℕ) (l out : List ℕ) : Type 0 where
+  pub places : ℕ
+  pub part : List ℤ
+  pub rest : List ℤ
+  pub few : n ≤ places
+  pub most : places ≤ 512
+  pub lent : part ≡ lentList refusal f n (take places blanks)
+  pub stored : out ≡ sets l 0 (pointBytes (on (part ++ rest)) n)
 
-pub part-stored : {refusal n m : ℕ} (f : ℕ → ℤ) (l : List ℕ) {part : List ℤ} (rest : List ℤ) {out : List ℕ} → refusal ≡ 0 → n ≤ m → m ≤ 512 → n * 2 ≤ length l
-    → part ≡ lentList refusal f n (take m blanks) → out ≡ sets l 0 (pointBytes (on (part ++ rest)) n) → out ≡ lentPoints refusal f n l
-part-stored {refusal} {n} f l {part} rest z few most room e o =
-    rw (points-filled refusal f n l z) (points-front f (on (part ++ rest)) n l (lent-front f rest z few most e) room o)
+pub put : {refusal n : ℕ} (places : ℕ) {f : ℕ → ℤ} {l out : List ℕ} {part : List ℤ} (rest : List ℤ) → n ≤ places → places ≤ 512 → part ≡ lentList refusal f n (take places blanks)
+    → out ≡ sets l 0 (pointBytes (on (part ++ rest)) n) → Put refusal f n l out
+put m {part = p} r few most lent stored = record { places = m; part = p; rest = r; few = few; most = most; lent = lent; stored = stored }
+
+module _ {refusal n : ℕ} (f : ℕ → ℤ) (l : List ℕ) {out : List ℕ} (p : Put refusal f n l out) (none : refusal ≡ 0) where
+  -- what stands in the array
+  lent-front : (k : ℕ) → k < n → on (p .part ++ p .rest) k ≡ f k
+  lent-front k u =
+      let lent : List ℤ = take (p .places) blanks in
+      let long = length-take-le (p .places) blanks (omega (arith, p .most, length-replicate 512 (pos 0))) in
+      let whole : length (p .part) ≡ p .places = ap length (p .lent ∙ list-filled refusal f n lent none) ∙ length-written f n lent ∙ long in
+      List·getD-append (p .part) (p .rest) (pos 0) k (omega (arith, p .few)) ∙ lent-at f lent none (omega (arith, p .few)) (p .lent) k u
+
+  pub part-stored : n * 2 ≤ length l → out ≡ lentPoints refusal f n l
+  part-stored room = rw (points-filled refusal f n l none) (points-front f (on (p .part ++ p .rest)) n l lent-front room (p .stored))

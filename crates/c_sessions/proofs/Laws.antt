@@ -4,15 +4,13 @@ use mathlib.Core.List.{List, _++_}
 use Prim.Native.Nat.{ℕ, _+_, _*_, _/_, _≤_, _<_, min}
 use native.Mathlib.Omega.{arith}
 use native.Mathlib.Decide.{decLt}
-use lib.IntN.{ℤ, pos}
+use lib.IntN.{pos}
 use lib.Dec.{ltb}
 use lib.ListN.{length, take, drop, length-append, length-replicate, List·getD-append}
 use lib.Seq.{sets, length-take-le}
 use borrow.Author.Tests.{eq-eqb, ne-eqb, lt-ltb, le-ltb}
 use Rattle.theory_lists.specs.Sum.{at}
-use Rattle.theory_lists.specs.Lent.{lentList}
 use Rattle.theory_lists.specs.Front.{inFront}
-use Rattle.base_codes.specs.Code.{on}
 use Rattle.session.specs.Showing.{SessionInBounds, shown, listTooShort, floorOn, ceilingOn}
 use Rattle.session.specs.declared.Session.{Session}
 use Rattle.session.specs.declared.Shown.{Shown}
@@ -23,12 +21,12 @@ use Rattle.session_cutting.specs.Cutting.{earlyCutting, afterCut, afterNumbered
 use Rattle.session_cutting.proofs.Laws.{accepted-list, numbered-accepted, numbered-in-bounds, Accepted}
 use Rattle.session_cutting.specs.declared.AfterCut.{AfterCut}
 use Rattle.session_cutting.specs.declared.CutAnswer.{CutAnswer}
-use Rattle.c_lists.specs.Lists.{pointBytes, cellBytes, lentPoints}
+use Rattle.c_lists.specs.Lists.{cellBytes, lentPoints}
 use Rattle.c_lists.proofs.Laws.{cells-front, points-left}
 use Rattle.c_storage.specs.Layout.{sessionBytes, encoding, decoding}
 use Rattle.c_storage.proofs.Inverse.{decoding-in-bounds}
 use Rattle.c_sessions.specs.Sessions.{cutAnswer, bytesCut, changedBytes, shownOver}
-use Rattle.c_sessions.proofs.Held.{held-few, blank, blanks, part-stored}
+use Rattle.c_sessions.proofs.Held.{held-few, blank, blanks, Put, part-stored}
 
 -- ---- cutting
 
@@ -79,26 +77,43 @@ module _ (b : List ℕ) (t : Numbered) (l : List ℕ) where
   unfolding cutAnswer bytesCut changedBytes
   cut-unread h = rw (ne-eqb (length b) sessionBytes h) (refl, (refl, refl))
 
-module _ (b : List ℕ) (t : Numbered) (l : List ℕ) (h : length b ≡ sessionBytes) {r : AfterCut} (e : r ≡ afterNumbered (decoding b) t (length l / 2)) where
+-- what cutting did: the bytes are a session's, and it was cut as asked, with the list's room
+pub record Made (b : List ℕ) (t : Numbered) (l : List ℕ) (r : AfterCut) : Type 0 where
+  pub session : length b ≡ sessionBytes
+  pub after : r ≡ afterNumbered (decoding b) t (length l / 2)
+
+-- what an accepted cut stored: the changed days, which stand at the front of the scratch array, in the list l, and the session as bytes
+pub record Listed (b l : List ℕ) (r : AfterCut) (bytes list : List ℕ) : Type 0 where
+  pub read : Session
+  pub front : List ℕ
+  pub part : List ℕ
+  pub rest : List ℕ
+  pub none : r .answer .refusal ≡ 0
+  pub held : read ≡ decoding b
+  pub days : part ≡ listAfter read r front
+  pub stored : list ≡ sets l 0 (cellBytes (at (part ++ rest)) (r .answer .changed))
+  pub encoded : bytes ≡ encoding (r .session)
+
+module _ (b : List ℕ) (t : Numbered) (l : List ℕ) {r : AfterCut} (m : Made b t l r) where
   pub cut-refused : (r .answer .refusal ≡ 0 → ⊥) → (r .answer .refusal ≡ 8 → ⊥) → Cuts b t l (r .answer) b l
   unfolding cutAnswer bytesCut changedBytes
-  cut-refused x y = rw (eq-eqb (length b) sessionBytes h, ← e, ne-eqb (r .answer .refusal) 0 x, ne-eqb (r .answer .refusal) 8 y) (refl, (refl, refl))
+  cut-refused x y =
+      rw (eq-eqb (length b) sessionBytes (m .session), ← m .after, ne-eqb (r .answer .refusal) 0 x, ne-eqb (r .answer .refusal) 8 y) (refl, (refl, refl))
 
-  pub cut-spent : r .answer .refusal ≡ 8 → {after : List ℕ} → after ≡ encoding (r .session) → Cuts b t l (r .answer) after l
+  pub cut-spent : r .answer .refusal ≡ 8 → {bytes : List ℕ} → bytes ≡ encoding (r .session) → Cuts b t l (r .answer) bytes l
   unfolding cutAnswer bytesCut changedBytes
-  cut-spent z f = rw (eq-eqb (length b) sessionBytes h, ← e, z) (refl, (f, refl))
+  cut-spent z f = rw (eq-eqb (length b) sessionBytes (m .session), ← m .after, z) (refl, (f, refl))
 
-  -- the changed days stand at the front of the scratch array
-  pub cut-listed : (front rest : List ℕ) {s : Session} {part after list : List ℕ} → r .answer .refusal ≡ 0 → s ≡ decoding b → part ≡ listAfter s r front
-      → list ≡ sets l 0 (cellBytes (at (part ++ rest)) (r .answer .changed)) → after ≡ encoding (r .session) → Cuts b t l (r .answer) after list
+  pub cut-listed : {bytes list : List ℕ} → Listed b l r bytes list → Cuts b t l (r .answer) bytes list
   unfolding cutAnswer bytesCut changedBytes
-  cut-listed front rest {s} {part} {after} {list} z d p f g =
+  cut-listed d =
       let days : List ℕ = changedDays (decoding b .days) (decoding b .present) (r .session .present) in
-      let a = accepted b t (length l) e z in
-      let q : part ≡ inFront days front = rw (d, accepted-list (decoding b) r front z) at p in
-      let room : length days * 2 ≤ length l = omega (arith, cut-fits b t (length l) e z .1, a .counted) in
-      rw (eq-eqb (length b) sessionBytes h, ← e, z)
-      (refl, (g, cells-front (at days) (at (part ++ rest)) (length days) l (λ k u. rw q (front-still days front rest k u)) room (rw (a .counted) at f)))
+      let a = accepted b t (length l) (m .after) (d .none) in
+      let q : d .part ≡ inFront days (d .front) = rw (d .held, accepted-list (decoding b) r (d .front) (d .none)) at (d .days) in
+      let room : length days * 2 ≤ length l = omega (arith, cut-fits b t (length l) (m .after) (d .none) .1, a .counted) in
+      let same : ((k : ℕ) → k < length days → at (d .part ++ d .rest) k ≡ at days k) = λ k u. rw q (front-still days (d .front) (d .rest) k u) in
+      rw (eq-eqb (length b) sessionBytes (m .session), ← m .after, d .none)
+      (refl, (d .encoded, cells-front (at days) (at (d .part ++ d .rest)) (length days) l same room (rw (a .counted) at (d .stored))))
 
 -- ---- showing
 
@@ -137,18 +152,22 @@ module _ (b fs cs : List ℕ) where
   show-unread h =
       (rw (ne-eqb (length b) sessionBytes h) refl, (sym (points-left 2 _ _ fs (λ z. absurd (omega arith))), sym (points-left 2 _ _ cs (λ z. absurd (omega arith)))))
 
-module _ (b fs cs : List ℕ) {r : Shown} (e : r ≡ shown (decoding b) (length fs / 2) (length cs / 2)) where
-  given : length b ≡ sessionBytes → r ≡ shownOver b (length fs) (length cs)
+-- what showing did: the bytes are a session's, which was read and shown, with the lists' room
+pub record Given (b fs cs : List ℕ) (s : Session) (r : Shown) : Type 0 where
+  pub session : length b ≡ sessionBytes
+  pub held : s ≡ decoding b
+  pub after : r ≡ shown (decoding b) (length fs / 2) (length cs / 2)
+
+module _ (b fs cs : List ℕ) {s : Session} {r : Shown} (g : Given b fs cs s r) where
+  given : r ≡ shownOver b (length fs) (length cs)
   unfolding shownOver
-  given h = rw (eq-eqb (length b) sessionBytes h) e
+  given = rw (eq-eqb (length b) sessionBytes (g .session)) (g .after)
 
-  pub show-refused : length b ≡ sessionBytes → (r .refusal ≡ 0 → ⊥) → Shows b fs cs r fs cs
-  show-refused h x = (given h, (sym (points-left (r .refusal) _ _ fs x), sym (points-left (r .refusal) _ _ cs x)))
+  pub show-refused : (r .refusal ≡ 0 → ⊥) → Shows b fs cs r fs cs
+  show-refused x = (given, (sym (points-left (r .refusal) _ _ fs x), sym (points-left (r .refusal) _ _ cs x)))
 
-  pub show-all : length b ≡ sessionBytes → r .refusal ≡ 0 → {s : Session} → s ≡ decoding b → {low high : ℕ} → low ≡ min 512 (length fs / 2) → high ≡ min 512 (length cs / 2)
-      → {first second : List ℤ} (rest more : List ℤ) → first ≡ lentList (r .refusal) (floorOn s) (s .days) (take low blanks) → second ≡ lentList (r .refusal) (ceilingOn s) (s .days) (take high blanks)
-      → {floors ceilings : List ℕ} → floors ≡ sets fs 0 (pointBytes (on (first ++ rest)) (s .days)) → ceilings ≡ sets cs 0 (pointBytes (on (second ++ more)) (s .days)) → Shows b fs cs r floors ceilings
-  show-all h z {s} d {low} {high} u v rest more first second floors ceilings =
-      let fits = show-fits b (length fs) (length cs) d e z in
-      rw (← d)
-      (given h, (part-stored {m = low} (floorOn s) fs rest z (omega arith) (omega arith) (fits .1 .0) first floors, part-stored {m = high} (ceilingOn s) cs more z (omega arith) (omega arith) (fits .1 .1) second ceilings))
+  pub show-all : r .refusal ≡ 0 → {floors ceilings : List ℕ} → Put (r .refusal) (floorOn s) (s .days) fs floors → Put (r .refusal) (ceilingOn s) (s .days) cs ceilings
+      → Shows b fs cs r floors ceilings
+  show-all z low high =
+      let fits = show-fits b (length fs) (length cs) (g .held) (g .after) z in
+      rw (← g .held) (given, (part-stored (floorOn s) fs low z (fits .1 .0), part-stored (ceilingOn s) cs high z (fits .1 .1)))

@@ -1,3 +1,4 @@
+-- `numbered_refusal` meets its contract: a cut of an unknown kind is 12, and a known one is refused as `malformed` says.
 use borrow.Author.Needs.{needs}
 use Rattle.c_files.proofs.numbered_refusal.Statement.{statement}
 use Rattle.c_files.proofs.numbered_refusal.Tie as tie

@@ -1,3 +1,5 @@
+-- `put_rest` meets its contract: the first i bytes from `start` on stand from `place` on (`Copied`), and a turn copies the next one (`copied-more`).
+-- The measure is the bytes left.
 use Prim.Native.Nat.{_-_}
 use lib.ListN.{drop, length-drop}
 use lib.Seq.{getD-drop}

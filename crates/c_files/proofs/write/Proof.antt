@@ -1,134 +1,332 @@
-use Prim.Native.Nat.{_-_}
+-- `write` meets its contract: a law for each return, by what the checks found (`Sized`, `Opens`, then `Checked`) and, where all pass, by what the output got
+-- (`Stored`). Each array holds its list's points (`Held`), to be opened and to be written.
+use Prim.Native.Nat.{ℕ, _-_}
 use mathlib.Core.Path.{_≡_, sym, _∙_}
 use native.Mathlib.Omega.{arith}
 use lib.ListN.{length}
 use mir.Facts.{toZ-ofZ}
 use borrow.Author.Needs.{needs}
+use Rattle.base_little_endian.specs.Fields.{Bytes}
+use Rattle.session.specs.Profile.{Profile}
 use Rattle.session.specs.Opening.{earlyOpening}
 use Rattle.c_lists.specs.Profiles.{profileOf}
 use Rattle.c_lists.proofs.Laws.{Held, held}
-use Rattle.c_files.proofs.Writing.{Sized, sized, Checked, bad-lengths, bad-profile, bad-cut, too-short, written}
+use Rattle.c_files.specs.Writing.{lengthsRefusal}
+use Rattle.c_files.proofs.Writing.{Sized, sized, Opens, Checked, Stored, bad-lengths, bad-profile, bad-cut, too-short, written}
 use Rattle.c_files.proofs.write.Statement.{statement}
 use Rattle.c_files.proofs.write.Tie as tie
 
+-- ---- the places on the way, each from the next: the slices are known, the lengths judged; an array is made, and holds the floors, the ceilings, the rises
+
+abbrev at-start : tie.After-shared-slice-known4 → tie.Start
+at-start c = c .before .before .before .before
+
+abbrev at-known : tie.After-lengths-refusal → tie.After-shared-slice-known4
+at-known c = c .before .before
+
+abbrev at-right : tie.After-low → tie.Else1
+at-right c = c .before
+
+abbrev at-low : tie.After-points → tie.After-low
+at-low c = c .before
+
+abbrev at-floors : tie.After-high → tie.After-points
+at-floors c = c .before
+
+abbrev at-high : tie.After-points2 → tie.After-high
+at-high c = c .before
+
+abbrev at-ceilings : tie.After-steps → tie.After-points2
+at-ceilings c = c .before
+
+abbrev at-steps : tie.After-points3 → tie.After-steps
+at-steps c = c .before
+
+-- ---- a part of each is lent, and the profile judged; the cuts are judged
+
+abbrev at-rises : tie.After-low2 → tie.After-points3
+at-rises c = c .before
+
+abbrev at-low-lent : tie.After-high2 → tie.After-low2
+at-low-lent c = c .before
+
+abbrev at-high-lent : tie.After-steps2 → tie.After-high2
+at-high-lent c = c .before
+
+abbrev at-steps-lent : tie.After-profile-refusal → tie.After-steps2
+at-steps-lent c = c .before
+
+abbrev at-opens : tie.After-cuts-refusal → tie.Else2
+at-opens c = c .before
+
+-- ---- past the output's length: the header, the days from parts that are lent again, and the cuts are stored
+
+abbrev at-roomy : tie.After-put-header-arg → tie.Else4
+at-roomy c = c .before
+
+abbrev at-header : tie.After-slice-known2 → tie.After-put-header
+at-header c = c .before .before
+
+abbrev at-days-next : tie.After-low3 → tie.After-slice-known2
+at-days-next c = c .before
+
+abbrev at-low-again : tie.After-high3 → tie.After-low3
+at-low-again c = c .before
+
+abbrev at-high-again : tie.After-steps3 → tie.After-high3
+at-high-again c = c .before
+
+abbrev at-steps-again : tie.After-put-days-arg → tie.After-steps3
+at-steps-again c = c .before
+
+abbrev at-days : tie.After-put-rest-arg → tie.After-put-days
+at-days c = c .before .before .before
+
+abbrev at-cuts : tie.After-slice-known4 → tie.After-put-rest
+at-cuts c = c .before .before
+
+-- ---- from one stage to the one before it
+
+abbrev from-right : tie.Else1 → tie.Start
+from-right c = at-start (at-known (c .before))
+
+abbrev from-floors : tie.After-points → tie.Else1
+from-floors c = at-right (at-low c)
+
+abbrev from-ceilings : tie.After-points2 → tie.After-points
+from-ceilings c = at-floors (at-high c)
+
+abbrev from-rises : tie.After-points3 → tie.After-points2
+from-rises c = at-ceilings (at-steps c)
+
+abbrev from-profile : tie.After-profile-refusal → tie.After-points3
+from-profile c = at-rises (at-low-lent (at-high-lent (at-steps-lent c)))
+
+abbrev from-cuts : tie.After-cuts-refusal → tie.After-profile-refusal
+from-cuts c = at-opens c .before
+
+abbrev from-header : tie.After-put-header → tie.Else4
+from-header c = at-roomy (c .before)
+
+abbrev from-days : tie.After-put-days → tie.After-put-header
+from-days c = at-header (at-days-next (at-low-again (at-high-again (at-steps-again (c .before)))))
+
+abbrev from-rest : tie.After-put-rest → tie.After-put-days
+from-rest c = at-days (c .before)
+
+-- ---- the lists, seen from where all is checked
+
+abbrev the-rises : tie.Else3 → tie.After-points3
+the-rises c = from-profile (from-cuts (c .before))
+
+abbrev the-ceilings : tie.Else3 → tie.After-points2
+the-ceilings c = from-rises (the-rises c)
+
+abbrev the-floors : tie.Else3 → tie.After-points
+the-floors c = from-ceilings (the-ceilings c)
+
+abbrev the-lists : tie.Else3 → tie.Else1
+the-lists c = from-floors (the-floors c)
+
+-- ---- what was handed over
+
+abbrev handed : tie.Start → Profile
+handed s = let a = s .args in profileOf (a .days) (a .floors .now) (a .ceilings .now) (a .rises .now) (a .lowest) (a .highest)
+
+abbrev lengths : tie.Start → ℕ
+lengths s = let a = s .args in lengthsRefusal (a .days) (length (a .floors .now)) (length (a .ceilings .now)) (length (a .rises .now)) (length (a .cuts .now))
+
+cut-bytes : (c : tie.After-shared-slice-known4) → Bytes (at-start c .args .cuts .now)
+cut-bytes c = record { small = λ k. omega (arith, c .shared-slice-known4 .given k) }
+
+-- ---- what the checks found, and what the arrays hold
+
 -- past 1 and 2
-sizes : (c : tie.Else1) → Sized (c .before .before .before .before .before .before .before .args .days) (length (c .before .before .before .before .before .before .before .args .floors .now)) (length (c .before .before .before .before .before .before .before .args .ceilings .now)) (length (c .before .before .before .before .before .before .before .args .rises .now)) (length (c .before .before .before .before .before .before .before .args .cuts .now))
-sizes c = sized _ _ _ _ _ (sym (c .before .lengths-refusal .ensures) ∙ c .if1 .left)
+right-lengths : (c : tie.Else1) → lengths (from-right c) ≡ 0
+right-lengths c = sym (c .before .lengths-refusal .ensures) ∙ c .if1 .left
 
--- the arrays
-low : (c : tie.After-points) → Held (c .before .before .before .before .before .before .before .before .before .args .floors .now) (c .before .before .before .before .before .before .before .before .before .args .days) (c .points .last .1 .1 .0)
-low c = held _ _ (sizes (c .before .before) .lists .few) (c .points .ensures)
+sizes : (c : tie.Else1)
+    → let a = from-right c .args in
+    Sized (a .days) (length (a .floors .now)) (length (a .ceilings .now)) (length (a .rises .now)) (length (a .cuts .now))
+sizes c = sized _ _ _ _ _ (right-lengths c)
 
-high : (c : tie.After-points2) → Held (c .before .before .before .before .before .before .before .before .before .before .before .args .ceilings .now) (c .before .before .before .before .before .before .before .before .before .before .before .args .days) (c .points2 .last .1 .1 .0)
-high c = held _ _ (sizes (c .before .before .before .before) .lists .few) (c .points2 .ensures)
+low : (c : tie.After-points) → let a = from-right (from-floors c) .args in Held (a .floors .now) (a .days) (c .points .last .1 .1 .0)
+low c = held _ _ (sizes (from-floors c) .lists .few) (c .points .ensures)
 
-steps : (c : tie.After-points3) → Held (c .before .before .before .before .before .before .before .before .before .before .before .before .before .args .rises .now) (c .before .before .before .before .before .before .before .before .before .before .before .before .before .args .days - 1) (c .points3 .last .1 .1 .0)
-steps c = held _ _ (omega (arith, sizes (c .before .before .before .before .before .before) .lists .few)) (c .points3 .ensures)
+high : (c : tie.After-points2) → let a = from-right (from-floors (from-ceilings c)) .args in Held (a .ceilings .now) (a .days) (c .points2 .last .1 .1 .0)
+high c = held _ _ (sizes (from-floors (from-ceilings c)) .lists .few) (c .points2 .ensures)
+
+steps : (c : tie.After-points3)
+    → let a = from-right (from-floors (from-ceilings (from-rises c))) .args in
+    Held (a .rises .now) (a .days - 1) (c .points3 .last .1 .1 .0)
+steps c = held _ _ (omega (arith, sizes (from-floors (from-ceilings (from-rises c))) .lists .few)) (c .points3 .ensures)
 
 -- what is checked as opening does
-by-opening : (c : tie.After-profile-refusal) → c .profile-refusal .result ≡ earlyOpening (profileOf (c .before .before .before .before .before .before .before .before .before .before .before .before .before .before .before .before .before .args .days) (c .before .before .before .before .before .before .before .before .before .before .before .before .before .before .before .before .before .args .floors .now) (c .before .before .before .before .before .before .before .before .before .before .before .before .before .before .before .before .before .args .ceilings .now) (c .before .before .before .before .before .before .before .before .before .before .before .before .before .before .before .before .before .args .rises .now) (c .before .before .before .before .before .before .before .before .before .before .before .before .before .before .before .before .before .args .lowest) (c .before .before .before .before .before .before .before .before .before .before .before .before .before .before .before .before .before .args .highest))
-by-opening c = rw (toZ-ofZ (c .before .before .before .before .before .before .before .before .before .before .before .before .before .before .before .before .before .fits .lowest), toZ-ofZ (c .before .before .before .before .before .before .before .before .before .before .before .before .before .before .before .before .before .fits .highest), low (c .before .before .before .before .before .before .before .before) .same, high (c .before .before .before .before .before .before) .same, steps (c .before .before .before .before) .same) at (c .profile-refusal .ensures)
+by-opening : (c : tie.After-profile-refusal) → c .profile-refusal .result ≡ earlyOpening (handed (from-right (from-floors (from-ceilings (from-rises (from-profile c))))))
+by-opening c =
+    let r = from-profile c in
+    let h = from-rises r in
+    let l = from-ceilings h in
+    let f = from-right (from-floors l) .fits in
+    rw (toZ-ofZ (f .lowest), toZ-ofZ (f .highest), low l .same, high h .same, steps r .same) at (c .profile-refusal .ensures)
+
+opens : (c : tie.Else2)
+    → let a = from-right (from-floors (from-ceilings (from-rises (from-profile (c .before))))) .args in
+    Opens (a .days) (a .floors .now) (a .ceilings .now) (a .rises .now) (a .lowest) (a .highest) (a .cuts .now)
+opens c =
+    let p = c .before in
+    record { lengths = right-lengths (from-floors (from-ceilings (from-rises (from-profile p)))); profile = sym (by-opening p) ∙ c .if2 .left }
 
 -- past the checks of the lists, the profile and the cuts
-checked : (c : tie.Else3) → Checked (c .before .before .before .before .before .before .before .before .before .before .before .before .before .before .before .before .before .before .before .before .args .days) (c .before .before .before .before .before .before .before .before .before .before .before .before .before .before .before .before .before .before .before .before .args .floors .now) (c .before .before .before .before .before .before .before .before .before .before .before .before .before .before .before .before .before .before .before .before .args .ceilings .now) (c .before .before .before .before .before .before .before .before .before .before .before .before .before .before .before .before .before .before .before .before .args .rises .now) (c .before .before .before .before .before .before .before .before .before .before .before .before .before .before .before .before .before .before .before .before .args .lowest) (c .before .before .before .before .before .before .before .before .before .before .before .before .before .before .before .before .before .before .before .before .args .highest) (c .before .before .before .before .before .before .before .before .before .before .before .before .before .before .before .before .before .before .before .before .args .cuts .now)
-checked c = record {
-  lengths = sym (c .before .before .before .before .before .before .before .before .before .before .before .before .before .before .lengths-refusal .ensures) ∙ c .before .before .before .before .before .before .before .before .before .before .before .before .before .if1 .left;
-  profile = sym (by-opening (c .before .before .before)) ∙ c .before .before .if2 .left;
-  formed = sym (c .before .cuts-refusal .ensures) ∙ c .if3 .left;
-}
+checked : (c : tie.Else3)
+    → let a = from-right (the-lists c) .args in
+    Checked (a .days) (a .floors .now) (a .ceilings .now) (a .rises .now) (a .lowest) (a .highest) (a .cuts .now)
+checked c = record { opens = opens (at-opens (c .before)); formed = sym (c .before .cuts-refusal .ensures) ∙ c .if3 .left }
+
+-- ---- what is stored
+
+stored : (c : tie.After-put-rest)
+    → let a = from-right (the-lists (from-header (from-days (from-rest c)) .before)) .args in
+    Stored (a .days) (a .floors .now) (a .ceilings .now) (a .rises .now) (a .lowest) (a .highest) (a .cuts .now) (a .out .now) (c .put-rest .last .1 .1 .0)
+stored c =
+    let d = from-rest c in
+    let h = from-days d in
+    let e = from-header h .before in
+    let f = from-right (the-lists e) .fits in
+    record {
+      floors = _;
+      ceilings = _;
+      rises = _;
+      one = _;
+      two = _;
+      floors-held = low (the-floors e) .same;
+      ceilings-held = high (the-ceilings e) .same;
+      rises-held = steps (the-rises e) .same;
+      header-put = rw (toZ-ofZ (f .lowest), toZ-ofZ (f .highest)) at (h .put-header .ensures);
+      days-put = d .put-days .ensures;
+      cuts-put = c .put-rest .ensures;
+    }
+
+-- ---- the lengths refused
 
 returns : tie.Need-returns
-returns c = bad-lengths _ _ _ _ _ _ _ _ (c .before .if1 .taken) (c .refuse .ensures) (c .before .before .lengths-refusal .ensures)
+returns c = let t = c .before in bad-lengths _ _ _ _ _ _ _ _ (t .if1 .taken) (c .refuse .ensures) (t .before .lengths-refusal .ensures)
+
+-- ---- the points
 
 points-requires : tie.Need-points-requires
-points-requires c κs = let s = sizes (c .before) .lists in (s .few, omega arith)
+points-requires c κs = let s = sizes (at-right c) .lists in (s .few, omega arith)
 
 points-requires-2 : tie.Need-points-requires-2
-points-requires-2 c κs = let s = sizes (c .before .before .before) .lists in (s .few, omega arith)
+points-requires-2 c κs = let s = sizes (from-floors (at-floors c)) .lists in (s .few, omega arith)
 
 sub-points : tie.Need-sub-points
-sub-points c = omega (arith, sizes (c .before .before .before .before) .lists .some)
+sub-points c = omega (arith, sizes (from-floors (from-ceilings c)) .lists .some)
 
 points-requires-3 : tie.Need-points-requires-3
-points-requires-3 c κs = let s = sizes (c .before .before .before .before .before) .lists in (omega arith, omega arith)
+points-requires-3 c κs = let s = sizes (from-floors (from-ceilings (at-ceilings c))) .lists in (omega arith, omega arith)
 
 array-share-prefix-low : tie.Need-array-share-prefix-low
-array-share-prefix-low c = low (c .before .before .before .before) .room
+array-share-prefix-low c = low (from-ceilings (from-rises c)) .room
 
 slice-aggregate-profile-refusal : tie.Need-slice-aggregate-profile-refusal
-slice-aggregate-profile-refusal c = low (c .before .before .before .before .before) .long
+slice-aggregate-profile-refusal c = low (from-ceilings (from-rises (at-rises c))) .long
 
 array-share-prefix-high : tie.Need-array-share-prefix-high
-array-share-prefix-high c = high (c .before .before .before) .room
+array-share-prefix-high c = high (from-rises (at-rises c)) .room
 
 slice-aggregate-profile-refusal-2 : tie.Need-slice-aggregate-profile-refusal-2
-slice-aggregate-profile-refusal-2 c = high (c .before .before .before .before) .long
+slice-aggregate-profile-refusal-2 c = high (from-rises (at-rises (at-low-lent c))) .long
 
 sub-steps : tie.Need-sub-steps
-sub-steps c = omega (arith, sizes (c .before .before .before .before .before .before .before .before) .lists .some)
+sub-steps c = omega (arith, sizes (from-floors (from-ceilings (from-rises (at-rises (at-low-lent c))))) .lists .some)
 
 array-share-prefix-steps : tie.Need-array-share-prefix-steps
-array-share-prefix-steps c = steps (c .before .before) .room
+array-share-prefix-steps c = steps (at-rises (at-low-lent c)) .room
 
 slice-aggregate-profile-refusal-3 : tie.Need-slice-aggregate-profile-refusal-3
-slice-aggregate-profile-refusal-3 c = steps (c .before .before .before) .long
+slice-aggregate-profile-refusal-3 c = steps (at-rises (at-low-lent (at-high-lent c))) .long
+
+-- ---- the profile, a cut or the output's length refused
 
 returns-2 : tie.Need-returns-2
-returns-2 c = bad-profile _ _ _ _ _ _ _ _ (c .before .if2 .taken) (c .refuse2 .ensures) (sym (c .before .before .before .before .before .before .before .before .before .before .before .before .before .lengths-refusal .ensures) ∙ c .before .before .before .before .before .before .before .before .before .before .before .before .if1 .left) (by-opening (c .before .before))
+returns-2 c =
+    let t = c .before in
+    let p = t .before in
+    bad-profile _ _ _ _ _ _ _ _ (t .if2 .taken) (c .refuse2 .ensures) (right-lengths (from-floors (from-ceilings (from-rises (from-profile p))))) (by-opening p)
 
 cuts-refusal-requires : tie.Need-cuts-refusal-requires
-cuts-refusal-requires c κs = (sizes (c .before .before .before .before .before .before .before .before .before .before .before) .few, omega arith)
+cuts-refusal-requires c κs = let s = sizes (from-floors (from-ceilings (from-rises (from-profile (c .before))))) in (s .few, omega arith)
 
 returns-3 : tie.Need-returns-3
-returns-3 c = bad-cut _ _ _ _ _ _ _ _ (c .before .if3 .taken) (c .refuse3 .ensures) (sym (c .before .before .before .before .before .before .before .before .before .before .before .before .before .before .before .lengths-refusal .ensures) ∙ c .before .before .before .before .before .before .before .before .before .before .before .before .before .before .if1 .left) (sym (by-opening (c .before .before .before .before)) ∙ c .before .before .before .if2 .left) (c .before .before .cuts-refusal .ensures)
+returns-3 c =
+    let t = c .before in
+    bad-cut _ _ _ _ _ _ _ _ (t .if3 .taken) (c .refuse3 .ensures) (opens (at-opens (t .before))) (t .before .cuts-refusal .ensures)
 
 mul-from : tie.Need-mul-from
-mul-from c = omega (arith, sizes (c .before .before .before .before .before .before .before .before .before .before .before .before .before) .lists .few)
+mul-from c = omega (arith, sizes (the-lists c) .lists .few)
 
 add-from : tie.Need-add-from
-add-from c = omega (arith, sizes (c .before .before .before .before .before .before .before .before .before .before .before .before .before) .lists .few)
+add-from c = omega (arith, sizes (the-lists c) .lists .few)
 
 mul-length : tie.Need-mul-length
-mul-length c = omega (arith, sizes (c .before .before .before .before .before .before .before .before .before .before .before .before .before) .few)
+mul-length c = omega (arith, sizes (the-lists c) .few)
 
 add-length : tie.Need-add-length
-add-length c = let s = sizes (c .before .before .before .before .before .before .before .before .before .before .before .before .before) in omega (arith, s .lists .few, s .few)
+add-length c = let s = sizes (the-lists c) in omega (arith, s .lists .few, s .few)
 
 returns-4 : tie.Need-returns-4
-returns-4 c = too-short _ _ _ _ _ _ _ _ (checked (c .before .before)) (omega (arith, c .before .if4 .taken)) (c .refuse4 .ensures)
+returns-4 c = let t = c .before in too-short _ _ _ _ _ _ _ _ (checked (t .before)) (omega (arith, t .if4 .taken)) (c .refuse4 .ensures)
+
+-- ---- the file
 
 put-header-requires : tie.Need-put-header-requires
-put-header-requires c κs = (sizes (c .before .before .before .before .before .before .before .before .before .before .before .before .before .before .before) .lists .few, sizes (c .before .before .before .before .before .before .before .before .before .before .before .before .before .before .before) .few, omega (arith, c .before .if4 .left))
+put-header-requires c κs =
+    let e = at-roomy c in
+    let s = sizes (the-lists (e .before)) in
+    (s .lists .few, s .few, omega (arith, e .if4 .left))
 
 array-share-prefix-low-2 : tie.Need-array-share-prefix-low-2
-array-share-prefix-low-2 c = low (c .before .before .before .before .before .before .before .before .before .before .before .before .before .before .before .before) .room
+array-share-prefix-low-2 c = low (the-floors (from-header (at-header c) .before)) .room
 
 slice-aggregate-put-days : tie.Need-slice-aggregate-put-days
-slice-aggregate-put-days c = low (c .before .before .before .before .before .before .before .before .before .before .before .before .before .before .before .before .before) .long
+slice-aggregate-put-days c = low (the-floors (from-header (at-header (at-days-next c)) .before)) .long
 
 array-share-prefix-high-2 : tie.Need-array-share-prefix-high-2
-array-share-prefix-high-2 c = high (c .before .before .before .before .before .before .before .before .before .before .before .before .before .before .before) .room
+array-share-prefix-high-2 c = high (the-ceilings (from-header (at-header (at-days-next c)) .before)) .room
 
 slice-aggregate-put-days-2 : tie.Need-slice-aggregate-put-days-2
-slice-aggregate-put-days-2 c = high (c .before .before .before .before .before .before .before .before .before .before .before .before .before .before .before .before) .long
+slice-aggregate-put-days-2 c = high (the-ceilings (from-header (at-header (at-days-next (at-low-again c))) .before)) .long
 
 sub-steps-2 : tie.Need-sub-steps-2
-sub-steps-2 c = omega (arith, sizes (c .before .before .before .before .before .before .before .before .before .before .before .before .before .before .before .before .before .before .before .before) .lists .some)
+sub-steps-2 c = omega (arith, sizes (the-lists (from-header (at-header (at-days-next (at-low-again c))) .before)) .lists .some)
 
 array-share-prefix-steps-2 : tie.Need-array-share-prefix-steps-2
-array-share-prefix-steps-2 c = steps (c .before .before .before .before .before .before .before .before .before .before .before .before .before .before) .room
+array-share-prefix-steps-2 c = steps (the-rises (from-header (at-header (at-days-next (at-low-again c))) .before)) .room
 
 slice-aggregate-put-days-3 : tie.Need-slice-aggregate-put-days-3
-slice-aggregate-put-days-3 c = steps (c .before .before .before .before .before .before .before .before .before .before .before .before .before .before .before) .long
+slice-aggregate-put-days-3 c = steps (the-rises (from-header (at-header (at-days-next (at-low-again (at-high-again c)))) .before)) .long
 
 put-days-requires : tie.Need-put-days-requires
-put-days-requires c κs = (low (c .before .before .before .before .before .before .before .before .before .before .before .before .before .before .before .before .before .before .before .before) .long, high (c .before .before .before .before .before .before .before .before .before .before .before .before .before .before .before .before .before .before) .long, sizes (c .before .before .before .before .before .before .before .before .before .before .before .before .before .before .before .before .before .before .before .before .before .before) .lists .few, omega (arith, c .before .before .before .before .before .before .put-header .kept, c .before .before .before .before .before .before .before .before .if4 .left))
+put-days-requires c κs =
+    let h = at-header (at-days-next (at-low-again (at-high-again (at-steps-again c)))) in
+    let r = from-header h in
+    let e = r .before in
+    (low (the-floors e) .long, high (the-ceilings e) .long, sizes (the-lists e) .lists .few, omega (arith, h .put-header .kept, r .if4 .left))
 
 put-rest-requires : tie.Need-put-rest-requires
-put-rest-requires c κs = (omega arith, omega (arith, sizes (c .before .before .before .before .before .before .before .before .before .before .before .before .before .before .before .before .before .before .before .before .before .before .before .before .before .before) .whole, c .before .before .before .put-days .kept, c .before .before .before .before .before .before .before .before .before .before .put-header .kept, c .before .before .before .before .before .before .before .before .before .before .before .before .if4 .left))
+put-rest-requires c κs =
+    let d = at-days c in
+    let h = from-days d in
+    let r = from-header h in
+    (omega arith, omega (arith, sizes (the-lists (r .before)) .whole, d .put-days .kept, h .put-header .kept, r .if4 .left))
 
 returns-5 : tie.Need-returns-5
-returns-5 c = written _ _ _ _ _ _ _ _ (checked (c .before .before .before .before .before .before .before .before .before .before .before .before .before .before .before .before)) (record { small = λ k. omega (arith, c .before .before .before .before .before .before .before .before .before .before .before .before .before .before .before .before .before .before .before .before .before .before .before .before .before .before .before .before .before .before .before .before .shared-slice-known4 .given k) }) (c .before .before .before .before .before .before .before .before .before .before .before .before .before .before .before .if4 .left) (low (c .before .before .before .before .before .before .before .before .before .before .before .before .before .before .before .before .before .before .before .before .before .before .before .before .before .before .before) .same) (high (c .before .before .before .before .before .before .before .before .before .before .before .before .before .before .before .before .before .before .before .before .before .before .before .before .before) .same) (steps (c .before .before .before .before .before .before .before .before .before .before .before .before .before .before .before .before .before .before .before .before .before .before .before) .same) (rw (toZ-ofZ (c .before .before .before .before .before .before .before .before .before .before .before .before .before .before .before .before .before .before .before .before .before .before .before .before .before .before .before .before .before .before .before .before .before .before .before .before .fits .lowest), toZ-ofZ (c .before .before .before .before .before .before .before .before .before .before .before .before .before .before .before .before .before .before .before .before .before .before .before .before .before .before .before .before .before .before .before .before .before .before .before .before .fits .highest)) at (c .before .before .before .before .before .before .before .before .before .before .before .before .before .put-header .ensures)) (c .before .before .before .before .before .before .put-days .ensures) (c .before .before .put-rest .ensures)
+returns-5 c =
+    let k = at-cuts c in
+    let r = from-header (from-days (from-rest k)) in
+    let e = r .before in
+    written _ _ _ _ _ _ _ _ (checked e) (cut-bytes (at-known (the-lists e .before))) (r .if4 .left) (stored k)
 
 pub write-spec : {M : Type 1} → statement M
 write-spec =

@@ -1,3 +1,5 @@
+-- `points` meets its contract: the first k places hold the first k points (`Filled`), and a turn fills the next one (`filled-more`).
+-- The measure is the points left.
 use Prim.Native.Nat.{_-_}
 use mathlib.Core.Path.{_∙_}
 use mir.Facts.{toZ-ofZ}

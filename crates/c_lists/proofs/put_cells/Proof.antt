@@ -1,3 +1,5 @@
+-- `put_cells` meets its contract: k cells of 2 bytes each are stored from `place` on (`Stored`), and a turn stores the next one (`even-more`).
+-- The measure is the cells left.
 use Prim.Native.Nat.{_+_, _-_, _*_}
 use Rattle.base_little_endian.specs.Fields.{u16Bytes}
 use Rattle.base_little_endian.proofs.Laws.{u16-length}
@@ -14,11 +16,21 @@ Inv-loop cells n place out₀ k₀ out k = Stored (λ j. u16Bytes (at cells j)) 
 abbrev μ-loop : tie.MeasureT-loop
 μ-loop cells n place out₀ k₀ out k = n - k
 
+-- the places of a turn: the cell is put, and the turn begins
+abbrev at-put : tie.After-slice-known2 Inv-loop μ-loop → tie.After-put-u16 Inv-loop μ-loop
+at-put c = c .before .before
+
+abbrev at-turn : tie.After-put-u16 Inv-loop μ-loop → tie.In-loop Inv-loop μ-loop
+at-turn c = c .before .before .before
+
 loop-holds : tie.Need-loop-holds Inv-loop μ-loop
 loop-holds c = even-none 2
 
 loop-again : tie.Need-loop-again Inv-loop μ-loop
-loop-again c = even-more 2 (λ j. u16-length _) (c .before .before .before .before .before .before .loop .inv) (c .before .before .before .before .before .loop-test .taken) (c .before .before .put-u16 .ensures)
+loop-again c =
+    let p = at-put c in
+    let t = at-turn p in
+    even-more 2 (λ j. u16-length _) (t .before .loop .inv) (t .loop-test .taken) (p .put-u16 .ensures)
 
 returns : tie.Need-returns Inv-loop μ-loop
 unfolding cellBytes

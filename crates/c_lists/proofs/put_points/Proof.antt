@@ -1,3 +1,5 @@
+-- `put_points` meets its contract: k points are stored, from the list's front to k * 2 (`Stored`), and a turn stores the next one (`stored-more`).
+-- The measure is the points left.
 use Prim.Native.Nat.{_-_, _*_}
 use mir.Facts.{toZ-ofZ}
 use mir.Syntax.{w16}
@@ -17,11 +19,26 @@ Inv-loop points n out₀ k₀ out k = Stored (λ j. i16Bytes (on points j)) n 0 
 abbrev μ-loop : tie.MeasureT-loop
 μ-loop points n out₀ k₀ out k = n - k
 
+-- the places of a turn: the point is put, the turn begins, and the start before all turns
+abbrev at-put : tie.After-slice-known2 Inv-loop μ-loop → tie.After-put-i16 Inv-loop μ-loop
+at-put c = c .before .before
+
+abbrev at-turn : tie.After-put-i16 Inv-loop μ-loop → tie.In-loop Inv-loop μ-loop
+at-turn c = c .before .before .before
+
+abbrev at-start : tie.At-loop Inv-loop μ-loop → tie.Start Inv-loop μ-loop
+at-start c = c .before .before
+
 loop-holds : tie.Need-loop-holds Inv-loop μ-loop
 loop-holds c = stored-none
 
 loop-again : tie.Need-loop-again Inv-loop μ-loop
-loop-again c = stored-more (c .before .before .before .before .before .before .loop .inv) (c .before .before .before .before .before .loop-test .taken) (rw (toZ-ofZ (sfits-of {w = w16} (c .before .before .before .put-i16-arg2 .given))) at (c .before .before .put-i16 .ensures), omega (arith, i16-length (on (c .before .before .before .before .before .before .before .before .args .points .now) (c .before .before .before .before .before .before .loop .k))))
+loop-again c =
+    let p = at-put c in
+    let t = at-turn p in
+    let l = t .before in
+    let bytes = rw (toZ-ofZ (sfits-of {w = w16} (p .before .put-i16-arg2 .given))) at (p .put-i16 .ensures) in
+    stored-more (l .loop .inv) (t .loop-test .taken) (bytes, omega (arith, i16-length (on (at-start l .args .points .now) (l .loop .k))))
 
 returns : tie.Need-returns Inv-loop μ-loop
 unfolding pointBytes

@@ -1,3 +1,4 @@
+-- `inspect` meets its contract: what `judge` found, by the numbers that `number` gives it.
 use borrow.Author.Needs.{needs}
 use Rattle.c_schedules.proofs.inspect.Statement.{statement}
 use Rattle.c_schedules.proofs.inspect.Tie as tie

@@ -1,61 +1,112 @@
+-- `open_lists` meets its contract: each array holds its list's points (`Held`), so that its lent part is the profile's list.
 use Prim.Native.Nat.{_-_}
 use lib.ListN.{length}
 use mir.Facts.{toZ-ofZ}
-use Rattle.c_lists.proofs.Laws.{Long, long, Held, held}
 use native.Mathlib.Omega.{arith}
 use borrow.Author.Needs.{needs}
+use Rattle.c_lists.proofs.Laws.{Long, long, Held, held}
 use Rattle.c_sessions.proofs.open_lists.Statement.{statement}
 use Rattle.c_sessions.proofs.open_lists.Tie as tie
 
--- past 1 and 2
-sizes : (c : tie.Start) → Long (c .args .days) (length (c .args .floors .now)) (length (c .args .ceilings .now)) (length (c .args .rises .now))
-sizes c = long _ _ _ _ (c .pre)
+-- ---- the places on the way, each from the next: an array is made, and holds the floors, the ceilings, the rises; then a part of each is lent
 
--- the arrays
-low : (c : tie.After-points) → Held (c .before .before .before .before .before .args .floors .now) (c .before .before .before .before .before .args .days) (c .points .last .1 .1 .0)
-low c = held _ _ (sizes (c .before .before .before .before .before) .few) (c .points .ensures)
+abbrev at-start : tie.After-low → tie.Start
+at-start c = c .before .before .before .before
 
-high : (c : tie.After-points2) → Held (c .before .before .before .before .before .before .before .args .ceilings .now) (c .before .before .before .before .before .before .before .args .days) (c .points2 .last .1 .1 .0)
-high c = held _ _ (sizes (c .before .before .before .before .before .before .before) .few) (c .points2 .ensures)
+abbrev at-low : tie.After-points → tie.After-low
+at-low c = c .before
 
-steps : (c : tie.After-points3) → Held (c .before .before .before .before .before .before .before .before .before .args .rises .now) (c .before .before .before .before .before .before .before .before .before .args .days - 1) (c .points3 .last .1 .1 .0)
-steps c = held _ _ (omega (arith, sizes (c .before .before .before .before .before .before .before .before .before) .few)) (c .points3 .ensures)
+abbrev at-floors : tie.After-high → tie.After-points
+at-floors c = c .before
+
+abbrev at-high : tie.After-points2 → tie.After-high
+at-high c = c .before
+
+abbrev at-ceilings : tie.After-steps → tie.After-points2
+at-ceilings c = c .before
+
+abbrev at-steps : tie.After-points3 → tie.After-steps
+at-steps c = c .before
+
+abbrev at-rises : tie.After-low2 → tie.After-points3
+at-rises c = c .before
+
+abbrev at-low-lent : tie.After-high2 → tie.After-low2
+at-low-lent c = c .before
+
+abbrev at-high-lent : tie.After-steps2 → tie.After-high2
+at-high-lent c = c .before
+
+abbrev at-steps-lent : tie.After-open → tie.After-steps2
+at-steps-lent c = c .before
+
+-- ---- what was handed over, and its lengths, past 1 and 2
+
+abbrev from-floors : tie.After-points → tie.Start
+from-floors c = at-start (at-low c)
+
+abbrev from-ceilings : tie.After-points2 → tie.Start
+from-ceilings c = from-floors (at-floors (at-high c))
+
+abbrev from-rises : tie.After-points3 → tie.Start
+from-rises c = from-ceilings (at-ceilings (at-steps c))
+
+sizes : (s : tie.Start) → let a = s .args in Long (a .days) (length (a .floors .now)) (length (a .ceilings .now)) (length (a .rises .now))
+sizes s = long _ _ _ _ (s .pre)
+
+-- ---- what the arrays hold
+
+low : (c : tie.After-points) → let a = from-floors c .args in Held (a .floors .now) (a .days) (c .points .last .1 .1 .0)
+low c = held _ _ (sizes (from-floors c) .few) (c .points .ensures)
+
+high : (c : tie.After-points2) → let a = from-ceilings c .args in Held (a .ceilings .now) (a .days) (c .points2 .last .1 .1 .0)
+high c = held _ _ (sizes (from-ceilings c) .few) (c .points2 .ensures)
+
+steps : (c : tie.After-points3) → let a = from-rises c .args in Held (a .rises .now) (a .days - 1) (c .points3 .last .1 .1 .0)
+steps c = held _ _ (omega (arith, sizes (from-rises c) .few)) (c .points3 .ensures)
+
+-- ---- what the calls ask
 
 points-requires : tie.Need-points-requires
-points-requires c κs = let z = sizes (c .before .before .before .before) in omega arith
+points-requires c κs = let z = sizes (at-start c) in omega arith
 
 points-requires-2 : tie.Need-points-requires-2
-points-requires-2 c κs = let z = sizes (c .before .before .before .before .before .before) in omega arith
+points-requires-2 c κs = let z = sizes (from-floors (at-floors c)) in omega arith
 
 sub-points : tie.Need-sub-points
-sub-points c = omega (arith, sizes (c .before .before .before .before .before .before .before) .some)
+sub-points c = omega (arith, sizes (from-ceilings c) .some)
 
 points-requires-3 : tie.Need-points-requires-3
-points-requires-3 c κs = let z = sizes (c .before .before .before .before .before .before .before .before) in omega arith
+points-requires-3 c κs = let z = sizes (from-ceilings (at-ceilings c)) in omega arith
 
 array-share-prefix-low : tie.Need-array-share-prefix-low
-array-share-prefix-low c = low (c .before .before .before .before) .room
+array-share-prefix-low c = low (at-floors (at-high (at-ceilings (at-steps c)))) .room
 
 slice-aggregate-open : tie.Need-slice-aggregate-open
-slice-aggregate-open c = low (c .before .before .before .before .before) .long
+slice-aggregate-open c = low (at-floors (at-high (at-ceilings (at-steps (at-rises c))))) .long
 
 array-share-prefix-high : tie.Need-array-share-prefix-high
-array-share-prefix-high c = high (c .before .before .before) .room
+array-share-prefix-high c = high (at-ceilings (at-steps (at-rises c))) .room
 
 slice-aggregate-open-2 : tie.Need-slice-aggregate-open-2
-slice-aggregate-open-2 c = high (c .before .before .before .before) .long
+slice-aggregate-open-2 c = high (at-ceilings (at-steps (at-rises (at-low-lent c)))) .long
 
 sub-steps : tie.Need-sub-steps
-sub-steps c = omega (arith, sizes (c .before .before .before .before .before .before .before .before .before .before .before) .some)
+sub-steps c = omega (arith, sizes (from-rises (at-rises (at-low-lent c))) .some)
 
 array-share-prefix-steps : tie.Need-array-share-prefix-steps
-array-share-prefix-steps c = steps (c .before .before) .room
+array-share-prefix-steps c = steps (at-rises (at-low-lent c)) .room
 
 slice-aggregate-open-3 : tie.Need-slice-aggregate-open-3
-slice-aggregate-open-3 c = steps (c .before .before .before) .long
+slice-aggregate-open-3 c = steps (at-rises (at-low-lent (at-high-lent c))) .long
 
 returns : tie.Need-returns
-returns c = rw (toZ-ofZ (c .before .before .before .before .before .before .before .before .before .before .before .before .before .fits .lowest), toZ-ofZ (c .before .before .before .before .before .before .before .before .before .before .before .before .before .fits .highest), low (c .before .before .before .before .before .before .before .before) .same, high (c .before .before .before .before .before .before) .same, steps (c .before .before .before .before) .same) at (c .«open» .ensures)
+returns c =
+    let r = at-rises (at-low-lent (at-high-lent (at-steps-lent c))) in
+    let h = at-ceilings (at-steps r) in
+    let l = at-floors (at-high h) in
+    let f = from-floors l .fits in
+    rw (toZ-ofZ (f .lowest), toZ-ofZ (f .highest), low l .same, high h .same, steps r .same) at (c .«open» .ensures)
 
 pub open-lists-spec : {M : Type 1} → statement M
 open-lists-spec =
