@@ -23,10 +23,10 @@ at-session c = c .before
 abbrev at-decoded : tie.After-min → tie.After-decode
 at-decoded c = c .before
 
-abbrev at-low-room : tie.After-least2 → tie.After-min
+abbrev at-low-room : tie.After-min2 → tie.After-min
 at-low-room c = c .before
 
-abbrev at-high-room : tie.After-high → tie.After-least2
+abbrev at-high-room : tie.After-high → tie.After-min2
 at-high-room c = c .before .before
 
 abbrev at-lent : tie.After-show → tie.After-high
@@ -94,7 +94,7 @@ low : (c : tie.After-put-points)
     Put (m .show .result .refusal) (floorOn s) (s .days) (floors (from-shown m)) (c .put-points .last .1 .1 .0)
 low c =
     let m = from-floors c in
-    let l = at-low-room (at-high-room (at-lent m)) .least in
+    let l = at-low-room (at-high-room (at-lent m)) .min in
     let f = fits (at-passed (c .before)) in
     put (l .result) _ (omega (arith, f, l .ensures)) (omega (arith, l .ensures)) (m .show .ensures .1 .0) (c .put-points .ensures)
 
@@ -104,7 +104,7 @@ high : (c : tie.After-put-points2)
     Put (m .show .result .refusal) (ceilingOn s) (s .days) (ceilings (from-shown m)) (c .put-points2 .last .1 .1 .0)
 high c =
     let m = from-floors (from-ceilings c) in
-    let h = at-high-room (at-lent m) .least2 in
+    let h = at-high-room (at-lent m) .min2 in
     let f = fits (at-passed (from-ceilings c .before)) in
     put (h .result) _ (omega (arith, f, h .ensures)) (omega (arith, h .ensures)) (m .show .ensures .1 .1) (c .put-points2 .ensures)
 
