@@ -25,7 +25,7 @@ def anchors(document):
 def faults():
     for document in documents():
         name, text = relative(document), FENCE.sub("", document.read_text())
-        for target in LINK.findall(text):
+        for target in dict.fromkeys(LINK.findall(text)):
             path, _, anchor = target.partition("#")
             linked = document.parent / path if path else document
             if SCHEME.match(target):
