@@ -35,8 +35,8 @@
 extern "C" {
 #endif
 
-/* The version, 100 for 1.00. The hundreds change where a session's bytes, the profile file or the parameters of an entry do, else the last two digits: a
- * stored session is one of this header's where the hundreds are the same. CHANGELOG.md has an entry for each. */
+/* The version, 100 for 1.00. The hundreds change where a session's bytes, the profile file or the parameters of an entry do, else the last two digits:
+ * versions with the same hundreds take each other's sessions and files. CHANGELOG.md has an entry for each. */
 #define CLOVERDRUM_VERSION 100
 
 /* Bounds of an entry. */

@@ -6,7 +6,7 @@
 
 #include <stdio.h>
 
-/* The version is no number of the library's: a caller compares it before it compiles. */
+/* The version is no number of the library's: a caller compares it in the preprocessor. */
 #if CLOVERDRUM_VERSION / 100 != 1
 #error "this program is for the session's bytes, the file and the entries of 1.00"
 #endif
