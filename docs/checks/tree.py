@@ -20,8 +20,8 @@ NOT_CODE = re.compile(r'b"(?:[^"\\]|\\.)*"|//[^\n]*|⌜[^⌝]*⌝', re.S)
 IMPL = re.compile(r"^impl (\w+) \{\n(.*?)^\}", re.M | re.S)
 FUNCTION = re.compile(r'^( *)(?:(pub(?:\(crate\))?) )?(extern "C" )?fn (\w+)(.*?)^\1\}', re.M | re.S)
 
-# A public name of specs/: a definition, a record, a data type or a law. Fields and cases are indented.
-PUBLIC_NAME = re.compile(r"^(?:abbrev |unfoldable )?pub (?:record |data )?(?!mod |use )([^\s:({]+)", re.M)
+# A declaration of specs/: a definition, a record, a data type or a law.
+DECLARED = re.compile(r"(?:abbrev |unfoldable )?(pub )?(?:(record|data) )?([^\s:({]+)")
 
 # The first lines of an edit.
 NOTE = re.compile(r"# (For|Fails|Trap): (.*)")
@@ -90,7 +90,17 @@ def functions():
 
 
 def public_names(module):
-    return PUBLIC_NAME.findall(module.read_text())
+    """The public names that a module of specs/ declares. What is indented below a record or a data type is a field or a case, and no name of its own."""
+    type_indent = None
+    for line in module.read_text().splitlines():
+        text = line.lstrip()
+        indent = len(line) - len(text)
+        if not text or type_indent is not None and indent > type_indent:
+            continue
+        declared = DECLARED.match(text)
+        type_indent = indent if declared and declared[2] else None
+        if declared and declared[1] and declared[3] not in ("mod", "use"):
+            yield declared[3]
 
 
 @dataclass
