@@ -11,14 +11,16 @@
  *
  * Lists. A list is a byte string, given by its address and its count of bytes. Its elements have 2 bytes each, the low byte first: points and rises are
  * signed, days are unsigned. A list of cuts has 8 bytes for each cut, as in a profile file: kind (2 bytes), day (2), value (4, signed).
- *     "n long"          exactly 2n bytes
- *     "at least n long" 2n bytes or more; an odd last byte counts for nothing
- * What lies past the elements that an entry writes is left as it is. An address may be anything where its count is 0, else it must not be null; nor may
- * the address of a number that an entry stores. No two of
- * the byte strings and numbers of one call may overlap, unless the call only reads both.
+ *     "n long"         exactly 2n bytes
+ *     "shorter than n" under 2n bytes; an odd last byte counts for nothing
+ * n is the profile's day count. What lies past the elements that an entry writes is left as it is. An address may be anything where its count is 0, else it
+ * must not be null; nor may the address of a number that an entry stores. No two of the byte strings and numbers of one call may overlap, unless the call
+ * only reads both.
  *
- * Results. An entry returns 0, or the number of the first refusal that applies, in the order in which the entry names them. Other results are stored
- * through pointers; beside a refusal they are 0. A refusal changes no list and no session, but for 8 at a cut, which marks the session spent.
+ * Results. An entry returns 0, or the number of the first refusal that applies, in the order in which the entry names them; enum cloverdrum_refusal has the
+ * causes, and the entry says in brackets what more there is to say. A session of another length is one whose session_length is not CLOVERDRUM_SESSION_BYTES.
+ * Other results are stored through pointers; beside a refusal they are 0. A refusal changes no list and no session, but for 8 at a cut, which marks the
+ * session spent.
  *
  * No entry allocates, keeps anything between calls, or calls anything outside itself but memcpy and memset. Two threads may call at once on
  * different sessions. docs/PERFORMANCE.md has the stack that each entry takes.
@@ -32,6 +34,10 @@
 #ifdef __cplusplus
 extern "C" {
 #endif
+
+/* The version, 100 for 1.00. The hundreds change where a session's bytes, the profile file or the parameters of an entry do, else the last two digits:
+ * versions with the same hundreds take each other's sessions and files. CHANGELOG.md has an entry for each. */
+#define CLOVERDRUM_VERSION 100
 
 /* Bounds of an entry. */
 #define CLOVERDRUM_MOST_DAYS 512
@@ -86,14 +92,8 @@ enum cloverdrum_rule {
 size_t cloverdrum_session_bytes(void);
 
 /* Opens a profile: on 0 all bytes of the session are written, with every range tightened. `rises` has the least rise from day i to day i + 1 at place i.
- *   2   session_length is not CLOVERDRUM_SESSION_BYTES
- *   1   days is 0 or over 512
- *   2   floors or ceilings is not n long, or rises is not n - 1 long (n = days)
- *   3   a floor or a ceiling is outside the bounds of a point
- *   4   a rise is outside its bounds
- *   5   total_floor or total_ceiling is outside its bounds
- *   6   a day's floor is above its ceiling, or total_floor above total_ceiling
- *   8   no schedule keeps the profile
+ * Refusals, in order: 2 (a session of another length); 1 (days is 0 or over 512); 2 (floors or ceilings not n long, rises not n - 1); 3 (a floor or a
+ * ceiling); 4; 5 (total_floor or total_ceiling); 6; 8.
  * A refusal leaves every byte of the session. */
 uint8_t cloverdrum_open(uint8_t *session, size_t session_length, size_t days, const uint8_t *floors, size_t floors_length, const uint8_t *ceilings,
                         size_t ceilings_length, const uint8_t *rises, size_t rises_length, int32_t total_floor, int32_t total_ceiling);
@@ -102,78 +102,48 @@ uint8_t cloverdrum_open(uint8_t *session, size_t session_length, size_t days, co
  * `day` is 0 for the total's kinds. A cut that is looser than the present range is accepted and changes nothing. On 0 *changed_days is the number of days
  * whose floor or ceiling differs from before, and the list `changed` begins with these days, each one time, in any order; the list has to be lent whether the
  * caller reads it or not. `kind` is a cloverdrum_kind.
- *   2   session_length is not CLOVERDRUM_SESSION_BYTES
- *   12  the kind is unknown, or a total's cut has a day other than 0
- *   7   a day's cut has a day that is not in the profile
- *   3   the value of a day's cut is outside the bounds of a point
- *   5   the value of a total's cut is outside the bounds of a total
- *   2   changed is not at least n long
- *   9   the session is spent
- *   8   no schedule keeps the cut: the session is now spent, and shows the ranges that it had when opened
+ * Refusals, in order: 2 (a session of another length); 12 (an unknown kind, or a total's cut whose day is not 0); 7 (of a day's cut); 3 (a day's value);
+ * 5 (a total's value); 2 (the list for changed days shorter than n); 9; 8 (the session is now spent, and shows the ranges that it had when opened).
  * A refusal leaves the list, and all but 8 leave every byte of the session. */
 uint8_t cloverdrum_cut(uint8_t *session, size_t session_length, size_t kind, size_t day, int32_t value, uint8_t *changed, size_t changed_length,
                        size_t *changed_days);
 
 /* Reads the ranges of a session: the floor and the ceiling of each day into the lists, those of the total, and whether the session is spent (1) or not (0).
  * A spent session shows the ranges that it had when opened.
- *   2   session_length is not CLOVERDRUM_SESSION_BYTES
- *   2   floors or ceilings is not at least n long
+ * Refusals, in order: 2 (a session of another length); 2 (a list shorter than n).
  * A refusal leaves both lists. */
 uint8_t cloverdrum_read(const uint8_t *session, size_t session_length, uint8_t *floors, size_t floors_length, uint8_t *ceilings, size_t ceilings_length,
                         int32_t *total_floor, int32_t *total_ceiling, uint8_t *spent);
 
 /* Writes a schedule that keeps every range and rise of the session and has this value on this day. Which one it is, is not said.
- *   2   session_length is not CLOVERDRUM_SESSION_BYTES
- *   2   schedule is not n long
- *   7   the day is not in the profile
- *   9   the session is spent
- *   10  the value is outside the day's present range
+ * Refusals, in order: 2 (a session of another length); 2 (the list not n long); 7; 9; 10.
  * A refusal leaves the list. */
 uint8_t cloverdrum_write_day(const uint8_t *session, size_t session_length, size_t day, int32_t value, uint8_t *schedule, size_t schedule_length);
 
 /* Writes a schedule that keeps every range and rise of the session and has this sum.
- *   2   session_length is not CLOVERDRUM_SESSION_BYTES
- *   2   schedule is not n long
- *   9   the session is spent
- *   10  the value is outside the total's present range
+ * Refusals, in order: 2 (a session of another length); 2 (the list not n long); 9; 10.
  * A refusal leaves the list. */
 uint8_t cloverdrum_write_total(const uint8_t *session, size_t session_length, int32_t value, uint8_t *schedule, size_t schedule_length);
 
 /* Inspects a schedule that somebody wrote. On 0 *rule, a cloverdrum_rule, says whether it is kept or which rule it breaks first: days in order, then rises in
  * order, then the total; *place is the number of the day, or of the rise (from day *place to the next), and else 0. Days and the total are judged by the
  * session's present ranges. Setpoints may be any numbers of 2 bytes.
- *   2   session_length is not CLOVERDRUM_SESSION_BYTES
- *   2   schedule is not n long
- *   9   the session is spent */
+ * Refusals, in order: 2 (a session of another length); 2 (the list not n long); 9. */
 uint8_t cloverdrum_inspect(const uint8_t *session, size_t session_length, const uint8_t *schedule, size_t schedule_length, size_t *rule, size_t *place);
 
 /* Reads a profile file into lists that cloverdrum_open and cloverdrum_cut take: n = *days floors and ceilings, n - 1 rises, and *cuts_count cuts of 8 bytes.
  * Values are not judged: opening and cutting do that.
- *   11  the file has under 16 bytes
- *   1   the day count is 0 or over 512, or there are more than 512 cuts
- *   11  an offset in the header, or the file's length, is wrong
- *   12  the last day's rise is not 0, a cut's kind is unknown, or a total's cut has a day other than 0
- *   2   floors or ceilings is not at least n long, rises not at least n - 1 long, or cuts shorter than 8 bytes for each cut
+ * Refusals, in order: 11 (under 16 bytes); 1; 11 (offsets, length); 12; 2 (a list too short for what it would hold).
  * A refusal leaves all lists. */
 uint8_t cloverdrum_read_file(const uint8_t *file, size_t file_length, uint8_t *floors, size_t floors_length, uint8_t *ceilings, size_t ceilings_length,
                              uint8_t *rises, size_t rises_length, uint8_t *cuts, size_t cuts_length, size_t *days, size_t *cuts_count,
                              int32_t *total_floor, int32_t *total_ceiling);
 
-/* Writes a profile and its cuts, 8 bytes each, as a profile file. On 0 *file_bytes is the file's length. Whether a
- * schedule exists is not judged.
- *   1   days is 0 or over 512, or cuts_length / 8 (rounded down) is over 512
- *   2   floors or ceilings is not n long, rises is not n - 1 long (n = days), or cuts_length is no multiple of 8
- *   3   a floor or a ceiling is outside the bounds of a point
- *   4   a rise is outside its bounds
- *   5   total_floor or total_ceiling is outside its bounds
- *   6   a day's floor is above its ceiling, or total_floor above total_ceiling
- *   then for each cut in order:
- *   12  the kind is unknown, or a total's cut has a day other than 0
- *   7   a day's cut has a day that is not in the profile
- *   3   the value of a day's cut is outside the bounds of a point
- *   5   the value of a total's cut is outside the bounds of a total
- *   and at last:
- *   2   file is shorter than what is to be written
+/* Writes a profile and its cuts as a profile file. On 0 *file_bytes is the file's length. The profile's lists are those of cloverdrum_open; `cuts` has 8 bytes
+ * for each cut, and a length that is no multiple of 8 is 2 with the profile's lists. Whether a schedule exists is not judged.
+ * Refusals, in order: 1 (days, or cuts_length / 8 rounded down, over 512, or days 0); 2 (the profile's lists); 3 (a floor or a ceiling); 4; 5 (total_floor or
+ * total_ceiling); 6; of each cut in order 12 (an unknown kind, or a total's cut whose day is not 0); 7 (of a day's cut); 3 (a day's value); 5 (a total's
+ * value); 2 (the output too short).
  * A refusal leaves every byte of the file. */
 uint8_t cloverdrum_write_file(size_t days, const uint8_t *floors, size_t floors_length, const uint8_t *ceilings, size_t ceilings_length,
                               const uint8_t *rises, size_t rises_length, int32_t total_floor, int32_t total_ceiling, const uint8_t *cuts,

@@ -6,6 +6,11 @@
 
 #include <stdio.h>
 
+/* The version is no number of the library's: a caller compares it in the preprocessor. */
+#if CLOVERDRUM_VERSION / 100 != 1
+#error "this program is for the session's bytes, the file and the entries of 1.00"
+#endif
+
 enum {
     POINT_BYTES = CLOVERDRUM_LIST_BYTES / CLOVERDRUM_MOST_DAYS,
     CUT_BYTES = CLOVERDRUM_CUTS_BYTES / CLOVERDRUM_MOST_CUTS
