@@ -68,7 +68,7 @@ module _ (w : ℕ → Bool) (n : ℕ) (g : ℕ → ℕ) (gaps : (k : ℕ) → 1 
   floor = floorOf w n g a ceil L top
 
   pub floor-bounds : (y : ℕ → ℕ) → Sched w n g a b L U y → Below n floor y
-  floor-bounds y s = Floors.floor-bounds w n g a ceil ca ceil-chain ceil-above L ceil-reaches top ceil-cap y (s .chain) (s .above) (ceil-bounds y s) (s .least)
+  floor-bounds y s = Floors.floors-bound w n g a ceil ca ceil-chain ceil-above L ceil-reaches top ceil-cap y (s .chain) (s .above) (ceil-bounds y s) (s .least)
 
   floor-above : Below n a floor
   floor-above = Floors.floor-above w n g a ceil ca ceil-chain ceil-above L ceil-reaches top ceil-cap
@@ -91,7 +91,7 @@ module _ (w : ℕ → Bool) (n : ℕ) (g : ℕ → ℕ) (gaps : (k : ℕ) → 1 
       }
 
   abbrev high : ℕ → ℕ → ℕ → ℕ
-  high = Floors.below w n g a ceil ca ceil-chain ceil-above L ceil-reaches top ceil-cap
+  high = Floors.beneath w n g a ceil ca ceil-chain ceil-above L ceil-reaches top ceil-cap
 
   pub day-taken : (i v : ℕ) → i < n → floor i ≤ v → v ≤ ceil i → DayTaken w n g a b L U i v
   day-taken i v h lo hi =

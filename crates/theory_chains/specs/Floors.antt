@@ -62,8 +62,8 @@ module _ (w : ℕ → Bool) (n : ℕ) (g a c : ℕ → ℕ) (ca : Chain n g a) (
   abbrev floor : ℕ → ℕ
   floor = floorOf w n g a c L top
 
-  pub floor-bounds : (y : ℕ → ℕ) → Chain n g y → Below n a y → Below n y c → L ≤ sum w n y → Below n floor y
-  floor-bounds y cy ay yc t k h =
+  pub floors-bound : (y : ℕ → ℕ) → Chain n g y → Below n a y → Below n y c → L ≤ sum w n y → Below n floor y
+  floors-bound y cy ay yc t k h =
       let ycap : Below n y (λ _. top) = λ m l. omega (arith, yc m l, cap m l) in
       let met : Below n (mirror n top y) ceil* =
       ceiling-bounds n g* w* a* b* ca* cb* ab* U* room* (mirror n top y) (mirror-chain n top g y cy ycap)
@@ -78,32 +78,32 @@ module _ (w : ℕ → Bool) (n : ℕ) (g a c : ℕ → ℕ) (ca : Chain n g a) (
   floor-above k h = omega (arith, best* k h .most, ap a (flip-flip n k h), a-cap k h)
 
   -- ---- the greatest chain below the ceilings that is at v on day i
-  abbrev pub below : ℕ → ℕ → ℕ → ℕ
-  below i v = mirror n top (through g* a* (flip n i) (top - v))
+  abbrev pub beneath : ℕ → ℕ → ℕ → ℕ
+  beneath i v = mirror n top (through g* a* (flip n i) (top - v))
 
   through*-cap : (i v : ℕ) → Below n (through g* a* (flip n i) (top - v)) (λ _. top)
   through*-cap i v k l = omega arith
 
-  pub below-chain : (i v : ℕ) → Chain n g (below i v)
+  pub below-chain : (i v : ℕ) → Chain n g (beneath i v)
   below-chain i v = unmirror n top g (through g* a* (flip n i) (top - v)) (through-chain n g* a* ca* (flip n i) (top - v)) (through*-cap i v)
 
-  pub below-below : (i v : ℕ) → Below n (below i v) c
+  pub below-below : (i v : ℕ) → Below n (beneath i v) c
   below-below i v k h = omega (arith, ap c (flip-flip n k h), cap k h)
 
-  pub below-at : (i v : ℕ) → i < n → v ≤ c i → below i v i ≡ v
+  pub below-at : (i v : ℕ) → i < n → v ≤ c i → beneath i v i ≡ v
   below-at i v h l =
       let e : through g* a* (flip n i) (top - v) (flip n i) ≡ top - v = through-at n g* a* (flip n i) (top - v) (omega (arith, ap c (flip-flip n i h))) in
       omega (arith, cap i h)
 
-  pub below-greatest : (i v : ℕ) → i < n → (y : ℕ → ℕ) → Chain n g y → Below n y c → y i ≤ v → Below n y (below i v)
+  pub below-greatest : (i v : ℕ) → i < n → (y : ℕ → ℕ) → Chain n g y → Below n y c → y i ≤ v → Below n y (beneath i v)
   below-greatest i v h y cy yc l k u =
       let ycap : Below n y (λ _. top) = λ m q. omega (arith, yc m q, cap m q) in
       let least = through-least n g* (mirror n top y) (mirror-chain n top g y cy ycap) a* (mirror-below n top y c yc) (flip n i) (top - v) (omega arith) (omega (arith, ap y (flip-flip n i h))) in
       swap (least (flip n k) (omega arith)) (ap y (flip-flip n k u)) (ycap k u)
 
-  pub below-total : (i v : ℕ) → i < n → floor i ≤ v → L ≤ sum w n (below i v)
+  pub below-total : (i v : ℕ) → i < n → floor i ≤ v → L ≤ sum w n (beneath i v)
   below-total i v h l =
       let under : sum w* n (through g* a* (flip n i) (top - v)) ≤ U* = ceiling-taken n g* w* a* b* ca* cb* ab* U* room* (flip n i) (top - v) (omega arith) (omega arith) in
-      let whole : sum w n (below i v) + sum w* n (through g* a* (flip n i) (top - v)) ≡ sum w n (λ _. top) = mirror-sum-back w n top (through g* a* (flip n i) (top - v)) (through*-cap i v) in
+      let whole : sum w n (beneath i v) + sum w* n (through g* a* (flip n i) (top - v)) ≡ sum w n (λ _. top) = mirror-sum-back w n top (through g* a* (flip n i) (top - v)) (through*-cap i v) in
       let most : sum w n c ≤ sum w n (λ _. top) = sum-le w n c (λ _. top) cap in
       omega arith
