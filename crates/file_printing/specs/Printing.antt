@@ -1,13 +1,14 @@
 -- Document 01: what the program `ranges` prints for a file.
 use mathlib.Core.Path.{_≡_}
 use mathlib.Core.Bool.{cond}
-use mathlib.Core.List.{List, [], _∷_, _++_}
+use mathlib.Core.List.{List, _++_}
 use Prim.Native.Nat.{ℕ, zero, suc, _<_, _+_}
 use lib.IntN.{ℤ}
 use lib.Dec.{eqb}
 use lib.ListN.{length, take}
 use Rattle.limits.specs.Limits.{mostDays}
 use Rattle.theory_lists.specs.Rows.{rows}
+use Rattle.base_text.specs.Ascii.{ascii}
 use Rattle.base_text.specs.Numbers.{decimal, number}
 use Rattle.session.specs.Opening.{opened, refusedWith}
 use Rattle.session.specs.Showing.{floorOn, ceilingOn, totalFloor, totalCeiling}
@@ -46,19 +47,19 @@ totalLineLength = 22
 abbrev pub dayLineLength : ℕ
 dayLineLength = 20
 
--- ---- the text: "total", "day", "refused", a space between fields, a line feed after each line
+-- ---- the text: a space between fields, a line feed after each line
 
 abbrev pub range : ℤ → ℤ → List ℕ
-range low high = 32 ∷ number low ++ 32 ∷ number high ++ 10 ∷ []
+range low high = ascii " " ++ number low ++ ascii " " ++ number high ++ ascii "\n"
 
 unfoldable pub totalLine : ℤ → ℤ → List ℕ
-totalLine low high = (116 ∷ 111 ∷ 116 ∷ 97 ∷ 108 ∷ []) ++ range low high
+totalLine low high = ascii "total" ++ range low high
 
 unfoldable pub dayLine : ℕ → ℤ → ℤ → List ℕ
-dayLine day low high = (100 ∷ 97 ∷ 121 ∷ 32 ∷ []) ++ decimal day ++ range low high
+dayLine day low high = ascii "day " ++ decimal day ++ range low high
 
 unfoldable pub refusedLine : ℕ → List ℕ
-refusedLine refusal = (114 ∷ 101 ∷ 102 ∷ 117 ∷ 115 ∷ 101 ∷ 100 ∷ 32 ∷ []) ++ decimal refusal ++ 10 ∷ []
+refusedLine refusal = ascii "refused " ++ decimal refusal ++ ascii "\n"
 
 -- the total's range, then each day's
 unfoldable pub rangesText : Session → List ℕ

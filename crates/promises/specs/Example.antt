@@ -1,6 +1,6 @@
 -- What is printed for document 01's example.
 use mathlib.Core.Path.{_≡_, refl}
-use mathlib.Core.List.{List, [], _∷_, _++_}
+use mathlib.Core.List.{List, _++_}
 use Prim.Native.Nat.{ℕ}
 use Rattle.theory_lists.specs.Sum.{sumFor}
 use Rattle.theory_lists.specs.Written.{written}
@@ -18,16 +18,12 @@ use Rattle.session_cutting.specs.Cutting.{afterCut, earlyCutting, clipped}
 use Rattle.file_format.specs.Example.{doc01}
 use Rattle.file_format.specs.Format.{profileIn, cutsIn}
 use Rattle.file_format.specs.Reading.{earlyReading}
+use Rattle.base_text.specs.Ascii.{ascii}
 use Rattle.base_text.specs.Numbers.{number, decimal, digits}
 use Rattle.file_printing.specs.Printing.{cutOnce, cutAll, fileOpened, totalLine, dayLine, refusedLine, rangesText, answerText, printed}
 
--- total 11 11, day 0 3 3, day 1 4 4, day 2 4 4
 lines : List ℕ
-lines =
-    (116 ∷ 111 ∷ 116 ∷ 97 ∷ 108 ∷ 32 ∷ 49 ∷ 49 ∷ 32 ∷ 49 ∷ 49 ∷ 10 ∷ [])
-    ++ (100 ∷ 97 ∷ 121 ∷ 32 ∷ 48 ∷ 32 ∷ 51 ∷ 32 ∷ 51 ∷ 10 ∷ [])
-    ++ (100 ∷ 97 ∷ 121 ∷ 32 ∷ 49 ∷ 32 ∷ 52 ∷ 32 ∷ 52 ∷ 10 ∷ [])
-    ++ (100 ∷ 97 ∷ 121 ∷ 32 ∷ 50 ∷ 32 ∷ 52 ∷ 32 ∷ 52 ∷ 10 ∷ [])
+lines = ascii "total 11 11\n" ++ ascii "day 0 3 3\n" ++ ascii "day 1 4 4\n" ++ ascii "day 2 4 4\n"
 
 example : printed doc01 ≡ lines
 unfolding doc01 lines printed answerText rangesText totalLine dayLine refusedLine number decimal digits rows fileOpened cutAll cutOnce profileIn cutsIn listOf earlyReading u16At u32At i16At i32At numbered opened earlyOpening tightened tightCeilings tightFloors raised loweredFrom firstWhere carried written sumFor fitFrom shiftFrom afterCut earlyCutting clipped daysWhere
