@@ -17,6 +17,13 @@ pub enum Coded {
     Outside,
 }
 
+// A profile's numbers as codes: the day count, and the total's bounds as they are held.
+pub struct CodedNumbers {
+    pub days: usize,
+    pub lowest: usize,
+    pub highest: usize,
+}
+
 pub fn code(z: i32, low: i32, high: i32) -> Coded
     requires { ⌜ code low high ≤ 2147483647 ⌝ }
     ensures { λ r. ⌜ r ≡ coded low high z ⌝ }

@@ -15,10 +15,10 @@ use Rattle.base_codes.specs.Code.{code, decoded, on}
 use Rattle.base_codes.proofs.Offset.{Less, less-le, le-less, less-order, less-shift, less-same, less-add}
 use Rattle.base_codes.proofs.Laws.{point-less, total-less, code-less, decoded-less}
 use Rattle.theory_chains.specs.Spans as Codes
-use Rattle.theory_method.specs.Filter.{held}
+use Rattle.theory_method.specs.Filter.{box, held}
 use Rattle.theory_method.specs.Levels.{Levels}
 use Rattle.session.specs.Profile.{Profile, Schedule, Spans, total}
-use Rattle.session.specs.Opening.{codes}
+use Rattle.session.specs.Opening.{boxIn, codes}
 use Rattle.session.specs.declared.Session.{Session}
 use Rattle.promises.specs.Demands.{Exact}
 use Rattle.session.proofs.Lists as Lists
@@ -67,7 +67,7 @@ module _ {p : Profile} {fs cs rs : List ℕ} {L U : ℕ} (g : Coding p fs cs rs 
   most-same : (total x ≤ℤ p .highest) ↔ (held (p .days) c ≤ U)
   most-same = less-order (total x) (p .highest) (held (p .days) c) U 512000 sum-less (g .highest)
 
-  pub to-levels : Schedule p x → Levels fs cs rs (p .days) L U c
+  pub to-levels : Schedule p x → Levels (box fs cs rs (p .days) L U) c
   to-levels s = record {
     floor = λ k h. floor-same k h .0 (s .floor k h);
     ceiling = λ k h. ceiling-same k h .0 (s .ceiling k h);
@@ -76,7 +76,7 @@ module _ {p : Profile} {fs cs rs : List ℕ} {L U : ℕ} (g : Coding p fs cs rs 
     most = most-same .0 (s .most);
   }
 
-  pub of-levels : Levels fs cs rs (p .days) L U c → Schedule p x
+  pub of-levels : Levels (box fs cs rs (p .days) L U) c → Schedule p x
   of-levels s = record {
     whole = whole;
     floor = λ k h. floor-same k h .1 (s .floor k h);
@@ -94,13 +94,12 @@ levels-of {p} {fs} g x s i h =
     (≤ℤ-trans lowestPoint (on (p .floors) i) (on x i) (less-le lowestPoint (on (p .floors) i) 0 (at fs i) 1000 point-less (g .floor i h) (omega arith)) (s .floor i h))
 
 pub codes-of : {p : Profile} {fs cs rs : List ℕ} {L U : ℕ} → Coding p fs cs rs L U → (x : List ℤ) → Schedule p x
-    → Levels fs cs rs (p .days) L U (λ k. code lowestPoint (on x k))
+    → Levels (box fs cs rs (p .days) L U) (λ k. code lowestPoint (on x k))
 codes-of g x s = to-levels g x (s .whole) (λ k. code lowestPoint (on x k)) (levels-of g x s) s
 
 module _ (p : Profile) (d : Entered p) where
   abbrev pub CodesOf : (ℕ → ℕ) → Type 0
-  CodesOf = Levels (codes lowestPoint (p .floors) (p .days)) (codes lowestPoint (p .ceilings) (p .days))
-      (codes lowestRise (p .rises) (p .days - 1)) (p .days) (code lowestTotal (p .lowest)) (code lowestTotal (p .highest))
+  CodesOf = Levels (boxIn p)
 
   pub coding : Coding p (codes lowestPoint (p .floors) (p .days)) (codes lowestPoint (p .ceilings) (p .days))
       (codes lowestRise (p .rises) (p .days - 1)) (code lowestTotal (p .lowest)) (code lowestTotal (p .highest))

@@ -6,7 +6,7 @@ use native.Mathlib.Omega.{arith}
 use lib.ListN.{set}
 use Rattle.theory_lists.specs.Sum.{at}
 use Rattle.theory_lists.specs.Written.{written, written-below, lastWritten, last-none, last-more, last-before, last-all}
-use Rattle.theory_method.specs.Filter.{InBounds, held}
+use Rattle.theory_method.specs.Filter.{box, InBounds, held}
 use Rattle.schedule_raising.specs.Raising.{raisedDay, raisedFrom, raisedTo}
 use Rattle.schedule_raising.specs.declared.Raised.{Raised}
 
@@ -67,7 +67,7 @@ module _ {fs cs rs : List ℕ} {n rest : ℕ} where
 
 -- a turn reads the floor x, the ceiling y and the rise z of the day before
 pub record Reading (fs cs rs : List ℕ) (n rest L U : ℕ) (out : List ℕ) (day : Raised) (k x y z : ℕ) : Type 0 where
-  pub bounds : InBounds fs cs rs n L U
+  pub bounds : InBounds (box fs cs rs n L U)
   pub head : Raising fs cs rs n rest out day k
   pub more : 0 < k
   pub floor : x ≡ at out (k - 1)
@@ -115,7 +115,7 @@ module _ {fs cs rs : List ℕ} {n rest L U : ℕ} {out : List ℕ} {day : Raised
 
 -- ---- the raised levels, as they stand in an array
 
-module _ {fs cs rs : List ℕ} {n L U : ℕ} (b : InBounds fs cs rs n L U) where
+module _ {fs cs rs : List ℕ} {n L U : ℕ} (b : InBounds (box fs cs rs n L U)) where
   level-small : (rest k : ℕ) → k < n → raisedFrom fs cs rs n rest (n - k) .level ≤ 5000
   level-small rest k h =
       rw (raised-at fs cs rs n rest k h)

@@ -7,7 +7,7 @@ use native.Mathlib.Omega.{arith}
 use native.Mathlib.Decide.{decLt}
 use Rattle.theory_lists.specs.Sum.{at}
 use Rattle.theory_chains.specs.Sum.{sum, all, sum-le}
-use Rattle.theory_method.specs.Filter.{held}
+use Rattle.theory_method.specs.Filter.{box, held}
 use Rattle.theory_method.specs.Levels.{Levels}
 use Rattle.theory_method.specs.Stages.{Ready}
 use Rattle.schedule_raising.specs.Raising.{raisedDay, raisedFrom, raisedTo}
@@ -106,8 +106,8 @@ module _ {fs cs rs : List ℕ} {n : ℕ} (r : Ready fs cs rs n) (rest : ℕ) whe
         go (no l) = omega arith
 
 -- where some levels have the total t, or more, the raised ones have it, or that of the floors if it is larger
-pub raised-levels : {fs cs rs : List ℕ} {n : ℕ} → Ready fs cs rs n → (t U : ℕ) (z : ℕ → ℕ) → Levels fs cs rs n t U z
-    → Levels fs cs rs n (max t (held n (at fs))) (max t (held n (at fs))) (raisedTo fs cs rs n t)
+pub raised-levels : {fs cs rs : List ℕ} {n : ℕ} → Ready fs cs rs n → (t U : ℕ) (z : ℕ → ℕ) → Levels (box fs cs rs n t U) z
+    → Levels (box fs cs rs n (max t (held n (at fs))) (max t (held n (at fs)))) (raisedTo fs cs rs n t)
 raised-levels {fs} {cs} {rs} {n} r t U z l =
     record {
       floor = λ k h. day r rest k h .0;

@@ -4,7 +4,7 @@ ghost use Prim.Native.Nat.{_+_, _-_, _≤_};
 ghost use Rattle.limits.specs.Limits.{mostDays, highestLevel, riseOffset, highestRiseCode, highestTotalCode, freeLevel};
 ghost use Rattle.theory_lists.specs.Sum.{at};
 ghost use Rattle.theory_lists.specs.Written.{written};
-ghost use Rattle.theory_method.specs.Filter.{InBounds, held};
+ghost use Rattle.theory_method.specs.Filter.{box, InBounds, held};
 ghost use Rattle.schedule_raising.specs.Raising.{raisedDay, raisedTo};
 use base_numbers::max;
 use base_numbers::min;
@@ -67,7 +67,7 @@ pub fn raise_to(
     n: usize,
     total: usize,
 )
-    requires { ⌜ InBounds (now floors) (now ceilings) (now rises) n 0 total ⌝ }
+    requires { ⌜ InBounds (box (now floors) (now ceilings) (now rises) n 0 total) ⌝ }
     ensures { λ _. ⌜ now (floors .exit) ≡ written (raisedTo (now (floors .entry)) (now (ceilings .entry)) (now (rises .entry)) n total) n (now (floors .entry)) ⌝ }
 {
     let mut day = Raised {

@@ -17,7 +17,7 @@ use Rattle.base_codes.specs.declared.Coded.{Coded}
 use Rattle.base_codes.proofs.Offset.{Less, less-le}
 use Rattle.base_codes.proofs.Laws.{point-less, total-less, code-decoded, decoded-code, decoded-less, code-most, within-yes, within-no, within-less}
 use Rattle.base_codes.proofs.Order.{≤ℤ-trans, within-test}
-use Rattle.theory_method.specs.Filter.{InBounds, carried, firstCrossed}
+use Rattle.theory_method.specs.Filter.{box, InBounds, carried, firstCrossed}
 use Rattle.theory_method.specs.Levels.{refit, refit-day}
 use Rattle.theory_method.specs.Stages.{crossing}
 use Rattle.tighten_carry.specs.Carriable.{Carriable}
@@ -132,14 +132,14 @@ total-judged s value bounds ev eq er =
 
 -- ---- write
 
-pub raised-shown : {fs cs rs : List ℕ} {n L U : ℕ} → InBounds fs cs rs n L U → (t : ℕ) {out : List ℕ} → out ≡ written (raisedTo fs cs rs n t) n fs → (l : List ℤ)
+pub raised-shown : {fs cs rs : List ℕ} {n L U : ℕ} → InBounds (box fs cs rs n L U) → (t : ℕ) {out : List ℕ} → out ≡ written (raisedTo fs cs rs n t) n fs → (l : List ℤ)
     → written (λ k. decoded lowestPoint (at out k)) n l ≡ written (λ k. decoded lowestPoint (raisedTo fs cs rs n t k)) n l
 raised-shown b t e l = written-same _ _ _ l (λ k h. ap (decoded lowestPoint) (raised-stands b t e k h))
 
 -- ---- write_through
 
 -- floors carried up to the first crossing are at most 5,000: below it they are at most their ceilings
-module _ {fs cs rs : List ℕ} {n L U : ℕ} (b : InBounds fs cs rs n L U) {r : ℕ} (er : r ≡ firstCrossed (carried fs rs) (at cs) n)
+module _ {fs cs rs : List ℕ} {n L U : ℕ} (b : InBounds (box fs cs rs n L U)) {r : ℕ} (er : r ≡ firstCrossed (carried fs rs) (at cs) n)
     {gs : List ℕ} (eg : gs ≡ written (carried fs rs) r fs) where
   carried-small : (k : ℕ) → k < n → at gs k ≤ 5000
   carried-small k h = rw eg (go (decLt k r))
@@ -157,7 +157,7 @@ module _ {fs cs rs : List ℕ} {n L U : ℕ} (b : InBounds fs cs rs n L U) {r : 
           )
       go (no l) = omega (arith, written-past (carried fs rs) 0 r fs k (omega arith), b .floor k h)
 
-  carried-bounds : (t : ℕ) → t ≤ 2560000 → InBounds gs cs rs n 0 t
+  carried-bounds : (t : ℕ) → t ≤ 2560000 → InBounds (box gs cs rs n 0 t)
   carried-bounds t = refit b (ap length eg ∙ length-written (carried fs rs) r fs ∙ b .floors) (b .ceilings) carried-small (b .ceiling) (omega arith)
 
 -- the day's floor and ceiling are set to the level
@@ -175,14 +175,14 @@ pub record LevelCarried (s : Session) (day level : ℕ) (fs cs : List ℕ) (r : 
   pub carried : gs ≡ written (carried fs (s .rises)) r fs
 
 module _ {s : Session} {day level : ℕ} {fs cs : List ℕ} (d : LevelSet s day level fs cs) where
-  set-bounds : InBounds fs cs (s .rises) (s .days) (s .present .least) (s .present .most)
+  set-bounds : InBounds (box fs cs (s .rises) (s .days) (s .present .least) (s .present .most))
   set-bounds = rw (d .floors, d .ceilings) (refit-day (d .bounds .present) day level (d .known) (d .small))
 
   pub through-carriable : Carriable cs (s .rises) (s .days)
   through-carriable = record { most = set-bounds .most; ceiling = set-bounds .ceiling; rise = set-bounds .rise }
 
 module _ {s : Session} {day level : ℕ} {fs cs : List ℕ} {r : ℕ} {gs : List ℕ} (d : LevelCarried s day level fs cs r gs) where
-  pub through-bounds : InBounds gs cs (s .rises) (s .days) 0 (s .present .least)
+  pub through-bounds : InBounds (box gs cs (s .rises) (s .days) 0 (s .present .least))
   through-bounds = carried-bounds (set-bounds (d .before)) (d .first) (d .carried) (s .present .least) (set-bounds (d .before) .lowest)
 
   through-levels : raisedTo gs cs (s .rises) (s .days) (s .present .least) ≡ dayLevels s day (decoded lowestPoint level)
@@ -234,7 +234,7 @@ module _ (s : Session) (day : ℕ) (value : ℤ) (l : List ℤ) where
 abbrev TotalAnswer : Session → ℤ → List ℤ → ℕ → List ℤ → Type 0
 TotalAnswer s value l r l′ = (r ≡ totalWriteRefusal s value (length l)) × (l′ ≡ totalWritten s value l)
 
-pub total-bounds : {s : Session} {t : ℕ} → SessionInBounds s → t ≤ 2560000 → InBounds (s .present .floors) (s .present .ceilings) (s .rises) (s .days) 0 t
+pub total-bounds : {s : Session} {t : ℕ} → SessionInBounds s → t ≤ 2560000 → InBounds (box (s .present .floors) (s .present .ceilings) (s .rises) (s .days) 0 t)
 total-bounds bounds = let b = bounds .present in refit b (b .floors) (b .ceilings) (b .floor) (b .ceiling) (omega arith)
 
 module _ (s : Session) (value : ℤ) (l : List ℤ) where

@@ -11,7 +11,7 @@ use Rattle.theory_lists.specs.Sum.{at}
 use Rattle.theory_lists.specs.Written.{by-cell}
 use Rattle.theory_chains.specs.Sum.{all, sum-le}
 use Rattle.theory_chains.specs.Spans.{NatSpans}
-use Rattle.theory_method.specs.Filter.{carried, firstCrossed, forwarded, held}
+use Rattle.theory_method.specs.Filter.{box, carried, firstCrossed, forwarded, held}
 use Rattle.theory_method.specs.Levels.{Levels, refit-day, rebound}
 use Rattle.theory_method.specs.Stages.{Ready, Rising, crossing, carried-above, forwarded-at, ready}
 use Rattle.theory_method.proofs.Exact.{carried-least}
@@ -84,7 +84,7 @@ module _ {rs : List ℕ} {n : ℕ} {r : Ranges} (s : Supported rs n r) where
     z : (x : ℕ → ℕ) × Within rs n r x × (x d ≡ v)
     z = s .day d h .taken v low high
 
-    pinned : Levels fs cs rs n (r .least) (r .most) (z .0)
+    pinned : Levels (box fs cs rs n (r .least) (r .most)) (z .0)
     pinned =
         let l = z .1 in
         rebound l (λ k u. by-cell (λ j a. a ≤ z .0 j) 0 (r .floors) d v in-floors (omega (arith, z .2)) k (l .floor k u))
@@ -104,10 +104,10 @@ module _ {rs : List ℕ} {n : ℕ} {r : Ranges} (s : Supported rs n r) where
     at-carried : (k : ℕ) → k < n → at (forwarded fs rs n) k ≡ carried fs rs k
     at-carried = forwarded-at fits uncrossed
 
-    over : Levels (forwarded fs rs n) cs rs n (r .least) (r .most) (z .0)
+    over : Levels (box (forwarded fs rs n) cs rs n (r .least) (r .most)) (z .0)
     over = rebound pinned (λ k l. omega (arith, at-carried k l, carried-least (z .0) pinned k l)) (pinned .ceiling) (pinned .least) (pinned .most)
 
-    raised : Levels (forwarded fs rs n) cs rs n (max (r .least) (held n (at (forwarded fs rs n)))) (max (r .least) (held n (at (forwarded fs rs n)))) y
+    raised : Levels (box (forwarded fs rs n) cs rs n (max (r .least) (held n (at (forwarded fs rs n)))) (max (r .least) (held n (at (forwarded fs rs n))))) y
     raised = raised-levels (ready fits uncrossed) (r .least) (r .most) (z .0) over
 
     floor : (k : ℕ) → k < n → at fs k ≤ y k

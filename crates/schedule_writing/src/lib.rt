@@ -6,7 +6,7 @@ ghost use lib.ListN.{length, set};
 ghost use Rattle.limits.specs.Limits.{mostDays, lowestPoint, highestLevel};
 ghost use Rattle.theory_lists.specs.Written.{written};
 ghost use Rattle.base_codes.specs.Code.{decoded};
-ghost use Rattle.theory_method.specs.Filter.{InBounds};
+ghost use Rattle.theory_method.specs.Filter.{box, InBounds};
 ghost use Rattle.session.specs.Showing.{SessionInBounds};
 ghost use Rattle.schedule_raising.specs.Raising.{raisedTo};
 ghost use Rattle.schedule_writing.specs.Writing.{dayWriteRefusal, totalWriteRefusal, dayLevels, dayWritten, totalWritten};
@@ -32,7 +32,7 @@ fn write(
     total: usize,
     list: &mut [i16],
 )
-    requires { ⌜ InBounds floors (now ceilings) (now rises) n 0 total × (n ≤ length (now list)) ⌝ }
+    requires { ⌜ InBounds (box floors (now ceilings) (now rises) n 0 total) × (n ≤ length (now list)) ⌝ }
     ensures { λ _. ⌜ now (list .exit) ≡ written (λ k. decoded lowestPoint (raisedTo floors (now (ceilings .entry)) (now (rises .entry)) n total k)) n (now (list .entry)) ⌝ }
 {
     let mut levels = floors;

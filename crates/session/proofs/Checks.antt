@@ -17,10 +17,10 @@ use Rattle.base_codes.specs.Code.{within, code, on, firstOutside, coded}
 use Rattle.base_codes.proofs.Laws.{first-most, first-before, first-here, coded-code, coded-outside}
 use Rattle.base_codes.specs.declared.Coded.{Coded}
 use Rattle.base_codes.specs.declared.Coded.the-variants.{Code, Outside}
-use Rattle.theory_method.specs.Filter.{InBounds, firstCrossed, zeros}
+use Rattle.theory_method.specs.Filter.{box, InBounds, firstCrossed, zeros}
 use Rattle.theory_method.specs.Stages.{Crossing, crossing}
 use Rattle.session.specs.Profile.{Profile}
-use Rattle.session.specs.Opening.{narrowed, openedWith, every, crossed, earlyOpening, opened, refusedWith, codes, badCount, badLength, badPoint, badRise, badTotal, badRange}
+use Rattle.session.specs.Opening.{boxIn, narrowed, openedWith, every, crossed, earlyOpening, opened, refusedWith, codes, badCount, badLength, badPoint, badRise, badTotal, badRange}
 use Rattle.session.specs.Stages.{openedCodes, lengthRefusal}
 use Rattle.base_codes.proofs.Order.{less-test}
 use Rattle.session.proofs.Entered.{Entered, every-on, Sized, sized, Unrefused, passed, codes-bounds, or-true, floor-less, ceiling-less, lowest-less, highest-less}
@@ -119,15 +119,14 @@ module _ (p : Profile) where
         totals-refused h = refused-by 4 (rw (whole e .0, whole e .1, points, rises, h))
 
   module _ (u : Unrefused p) where
-    codes-opened : openedCodes (p .days) (codes lowestPoint (p .floors) (p .days)) (codes lowestPoint (p .ceilings) (p .days))
-        (codes lowestRise (p .rises) (p .days - 1)) (code lowestTotal (p .lowest)) (code lowestTotal (p .highest)) ≡ opened p
+    codes-opened : openedCodes (boxIn p) ≡ opened p
     unfolding openedCodes opened earlyOpening
     codes-opened =
         rw (u .count, u .lengths, u .points, u .rises, u .totals, sym (range-test p (passed p u)))
         (go (badRange p))
       where
-        go : (b : Bool) → cond b (refusedWith 6) (openedWith (p .days) (codes lowestRise (p .rises) (p .days - 1)) (narrowed p))
-            ≡ cond (eqb (cond b 6 0) 0) (openedWith (p .days) (codes lowestRise (p .rises) (p .days - 1)) (narrowed p)) (refusedWith (cond b 6 0))
+        go : (b : Bool) → cond b (refusedWith 6) (openedWith (boxIn p) (narrowed p))
+            ≡ cond (eqb (cond b 6 0) 0) (openedWith (boxIn p) (narrowed p)) (refusedWith (cond b 6 0))
         go true = refl
         go false = refl
 
@@ -262,12 +261,12 @@ module _ {p : Profile} {fs cs rs : List ℕ} {L U : ℕ} (d : HighestPassed p fs
         totals = no-and-no (total (p .lowest)) (total (p .highest)) (d .before .lowest .inside) (d .highest .inside);
       }
 
-  pub in-bounds : InBounds fs cs rs (p .days) L U
+  pub in-bounds : InBounds (box fs cs rs (p .days) L U)
   in-bounds =
       rw (ceilings-passed .before .floors .stored, ceilings-passed .ceilings .stored, rises-passed .rises .stored, d .before .lowest .stored, d .highest .stored)
       (codes-bounds p (passed p all-passed))
 
-  pub all-opened : openedCodes (p .days) fs cs rs L U ≡ opened p
+  pub all-opened : openedCodes (box fs cs rs (p .days) L U) ≡ opened p
   all-opened =
       rw (ceilings-passed .before .floors .stored, ceilings-passed .ceilings .stored, rises-passed .rises .stored, d .before .lowest .stored, d .highest .stored)
       (codes-opened p all-passed)

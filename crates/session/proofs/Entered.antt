@@ -18,7 +18,7 @@ use Rattle.base_codes.proofs.Offset.{Less}
 use Rattle.base_codes.proofs.Laws.{point-less, rise-less, total-less, within-less, point-most, rise-most, total-most}
 use Rattle.theory_method.specs.Filter.{InBounds, zeros}
 use Rattle.session.specs.Profile.{Profile}
-use Rattle.session.specs.Opening.{earlyOpening, every, badCount, badLength, badPoint, badRise, badTotal, codes}
+use Rattle.session.specs.Opening.{boxIn, earlyOpening, every, badCount, badLength, badPoint, badRise, badTotal, codes}
 
 pub or-true : (a b : Bool) → b ≡ true → (a || b) ≡ true
 or-true true b e = refl
@@ -122,8 +122,7 @@ module _ (p : Profile) (d : Entered p) where
   rise-small k h (no l) =
       omega (arith, written-past (λ j. code lowestRise (on (p .rises) j)) 0 (p .days - 1) zeros k (omega arith), getD-replicate {A = ℕ} 512 k 0 0 (omega (arith, d .sized .few)))
 
-  pub codes-bounds : InBounds (codes lowestPoint (p .floors) (p .days)) (codes lowestPoint (p .ceilings) (p .days))
-      (codes lowestRise (p .rises) (p .days - 1)) (p .days) (code lowestTotal (p .lowest)) (code lowestTotal (p .highest))
+  pub codes-bounds : InBounds (boxIn p)
   codes-bounds = record {
     some = d .sized .some;
     most = d .sized .few;

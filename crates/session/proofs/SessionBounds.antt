@@ -14,7 +14,7 @@ use Rattle.base_codes.specs.Code.{code}
 use Rattle.theory_method.specs.Filter.{zeros}
 use Rattle.theory_method.proofs.Exact.{exact, exact-in-bounds}
 use Rattle.session.specs.Profile.{Profile}
-use Rattle.session.specs.Opening.{earlyOpening, badCount, badLength, badPoint, badRise, badTotal, badRange, opened, openedWith, refusedWith, narrowed, allZero, codes}
+use Rattle.session.specs.Opening.{boxIn, earlyOpening, badCount, badLength, badPoint, badRise, badTotal, badRange, opened, openedWith, refusedWith, narrowed, allZero, codes}
 use Rattle.session.specs.Showing.{Fits, SessionInBounds}
 use Rattle.session.proofs.Entered.{entered, codes-bounds}
 
@@ -72,7 +72,7 @@ unfolding opened
 opened-in-bounds p = go (eqb (earlyOpening p) 0) (narrowed p .found) refl refl
   where
     go : (early found : Bool) → eqb (earlyOpening p) 0 ≡ early → narrowed p .found ≡ found
-        → SessionInBounds (cond early (openedWith (p .days) (codes lowestRise (p .rises) (p .days - 1)) (narrowed p)) (refusedWith (earlyOpening p)) .session)
+        → SessionInBounds (cond early (openedWith (boxIn p) (narrowed p)) (refusedWith (earlyOpening p)) .session)
     go true true e f =
         let d = entered p (eqb-true (earlyOpening p) 0 e) in
         let b = exact-in-bounds (exact (codes-bounds p d) f) (codes-bounds p d) in

@@ -2,8 +2,9 @@
 use mathlib.Core.List.{List}
 use Prim.Native.Nat.{ℕ}
 use Rattle.theory_method.specs.Levels.{Levels}
+use Rattle.session.specs.Showing.{boxOf}
 use Rattle.session.specs.declared.Ranges.{Ranges}
 
 -- n days' levels are within ranges, and keep the rises
 abbrev pub Within : List ℕ → ℕ → Ranges → (ℕ → ℕ) → Type 0
-Within rs n r = Levels (r .floors) (r .ceilings) rs n (r .least) (r .most)
+Within rs n r = Levels (boxOf rs n r)

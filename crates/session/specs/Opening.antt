@@ -9,7 +9,7 @@ use lib.Signed.{ltZ}
 use Rattle.limits.specs.Limits.{mostDays, lowestPoint, highestPoint, lowestRise, highestRise, lowestTotal, highestTotal}
 use Rattle.theory_lists.specs.Written.{written}
 use Rattle.base_codes.specs.Code.{within, code, on}
-use Rattle.theory_method.specs.Filter.{Tight, tightened, zeros}
+use Rattle.theory_method.specs.Filter.{Box, box, Tight, tightened, zeros}
 use Rattle.session.specs.Profile.{Profile}
 use Rattle.session.specs.declared.Ranges.{Ranges}
 use Rattle.session.specs.declared.Session.{Session}
@@ -71,11 +71,15 @@ earlyOpening p =
 abbrev pub codes : ℤ → List ℤ → ℕ → List ℕ
 codes low zs n = written (λ k. code low (on zs k)) n zeros
 
+-- a profile as what tightening takes
+abbrev pub boxIn : Profile → Box
+boxIn p =
+    box (codes lowestPoint (p .floors) (p .days)) (codes lowestPoint (p .ceilings) (p .days))
+    (codes lowestRise (p .rises) (p .days - 1)) (p .days) (code lowestTotal (p .lowest)) (code lowestTotal (p .highest))
+
 -- the ranges of the days and of the total, tightened
 abbrev pub narrowed : Profile → Tight
-narrowed p =
-    tightened (codes lowestPoint (p .floors) (p .days)) (codes lowestPoint (p .ceilings) (p .days))
-    (codes lowestRise (p .rises) (p .days - 1)) (p .days) (code lowestTotal (p .lowest)) (code lowestTotal (p .highest))
+narrowed p = tightened (boxIn p)
 
 -- a fresh session: an opened profile with its tightened ranges, not spent
 abbrev pub fresh : ℕ → List ℕ → Ranges → Session
@@ -98,9 +102,9 @@ abbrev pub refusedWith : ℕ → Opened
 refusedWith number = record { refusal = number; session = record { days = 1; rises = zeros; opened = allZero; present = allZero; spent = true } }
 
 -- with no earlier refusal: 8 where there is no schedule
-abbrev pub openedWith : ℕ → List ℕ → Tight → Opened
-openedWith n rs t = cond (t .found) (record { refusal = 0; session = fresh n rs (rangesOf t) }) (refusedWith 8)
+abbrev pub openedWith : Box → Tight → Opened
+openedWith b t = cond (t .found) (record { refusal = 0; session = fresh (b .days) (b .rises) (rangesOf t) }) (refusedWith 8)
 
 unfoldable pub opened : Profile → Opened
 opened p =
-    cond (eqb (earlyOpening p) 0) (openedWith (p .days) (codes lowestRise (p .rises) (p .days - 1)) (narrowed p)) (refusedWith (earlyOpening p))
+    cond (eqb (earlyOpening p) 0) (openedWith (boxIn p) (narrowed p)) (refusedWith (earlyOpening p))

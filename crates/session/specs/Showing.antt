@@ -7,7 +7,7 @@ use lib.Dec.{ltb}
 use Rattle.limits.specs.Limits.{lowestPoint, lowestRise, lowestTotal}
 use Rattle.theory_lists.specs.Sum.{at}
 use Rattle.base_codes.specs.Code.{decoded}
-use Rattle.theory_method.specs.Filter.{InBounds}
+use Rattle.theory_method.specs.Filter.{Box, box, InBounds}
 use Rattle.session.specs.declared.Ranges.{Ranges}
 use Rattle.session.specs.declared.Session.{Session}
 use Rattle.session.specs.declared.Shown.{Shown}
@@ -39,9 +39,13 @@ shown s floors ceilings =
     cond (ltb floors (s .days) || ltb ceilings (s .days)) listTooShort
     (record { refusal = 0; least = totalFloor s; most = totalCeiling s; spent = s .spent })
 
+-- ranges of n days, with the rises between them, as what tightening takes
+abbrev pub boxOf : List ℕ → ℕ → Ranges → Box
+boxOf rs n r = box (r .floors) (r .ceilings) rs n (r .least) (r .most)
+
 -- ranges of n days are in bounds, with the rises between the days
 abbrev pub Fits : List ℕ → ℕ → Ranges → Type 0
-Fits rs n r = InBounds (r .floors) (r .ceilings) rs n (r .least) (r .most)
+Fits rs n r = InBounds (boxOf rs n r)
 
 -- the numbers of a session are in bounds
 pub record SessionInBounds (s : Session) : Type 0 where

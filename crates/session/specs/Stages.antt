@@ -5,7 +5,7 @@ use Prim.Native.Nat.{ℕ, _-_}
 use lib.Dec.{eqb, ltb}
 use Rattle.limits.specs.Limits.{mostDays}
 use Rattle.theory_lists.specs.Sum.{at}
-use Rattle.theory_method.specs.Filter.{tightened, firstCrossed}
+use Rattle.theory_method.specs.Filter.{Box, tightened, firstCrossed}
 use Rattle.session.specs.Opening.{openedWith, refusedWith}
 use Rattle.session.specs.declared.Opened.{Opened}
 
@@ -16,6 +16,7 @@ lengthRefusal days floors ceilings rises =
     (cond (not (eqb floors days && eqb ceilings days && eqb rises (days - 1))) 2 0)
 
 -- 6 and 8, over codes
-unfoldable pub openedCodes : ℕ → List ℕ → List ℕ → List ℕ → ℕ → ℕ → Opened
-openedCodes n fs cs rs L U =
-    cond (ltb (firstCrossed (at fs) (at cs) n) n || ltb U L) (refusedWith 6) (openedWith n rs (tightened fs cs rs n L U))
+unfoldable pub openedCodes : Box → Opened
+openedCodes b =
+    cond (ltb (firstCrossed (at (b .floors)) (at (b .ceilings)) (b .days)) (b .days) || ltb (b .highest) (b .lowest)) (refusedWith 6)
+    (openedWith b (tightened b))

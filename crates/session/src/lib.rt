@@ -3,10 +3,12 @@ ghost use mathlib.Core.Path.{_≡_};
 ghost use lib.ListN.{length};
 ghost use Rattle.theory_lists.specs.Lent.{lentList};
 ghost use Rattle.theory_method.specs.Filter.{InBounds};
+ghost use Rattle.tighten_filtering.specs.Boxed.{boxed};
 ghost use Rattle.session.specs.Opening.{opened, refusedWith, profile};
 ghost use Rattle.session.specs.Stages.{openedCodes, lengthRefusal};
 ghost use Rattle.session.specs.Showing.{SessionInBounds, shown, listTooShort, floorOn, ceilingOn};
 use base_codes::Coded;
+use base_codes::CodedNumbers;
 use limits::MOST_DAYS;
 use limits::TOTAL_OFFSET;
 
@@ -92,25 +94,26 @@ fn length_refusal(days: usize, floors: usize, ceilings: usize, rises: usize) -> 
 
 // Opens what has passed the checks on lengths and bounds: 6, then 8.
 fn open_codes(
-    days: usize,
+    numbers: CodedNumbers,
     floors: [u16; MOST_DAYS],
     ceilings: [u16; MOST_DAYS],
     rises: [u16; MOST_DAYS],
-    least: usize,
-    most: usize,
 ) -> Opened
-    requires { ⌜ InBounds floors ceilings rises days least most ⌝ }
-    ensures { λ r. ⌜ r ≡ openedCodes days floors ceilings rises least most ⌝ }
+    requires { ⌜ InBounds (boxed floors ceilings rises numbers) ⌝ }
+    ensures { λ r. ⌜ r ≡ openedCodes (boxed floors ceilings rises numbers) ⌝ }
 {
+    let days = numbers.days;
+    let lowest = numbers.lowest;
+    let highest = numbers.highest;
     if tighten_carry::first_crossed(&floors, &ceilings, days) < days {
         return refused(6);
     }
-    if most < least {
+    if highest < lowest {
         return refused(6);
     }
     let mut low = floors;
     let mut high = ceilings;
-    let t = tighten_filtering::tighten(&mut low, &mut high, &rises, days, least, most);
+    let t = tighten_filtering::tighten(&mut low, &mut high, &rises, numbers);
     if t.found {
         let ranges = Ranges {
             floors: low,
@@ -207,7 +210,12 @@ impl Session {
         else {
             return refused(5);
         };
-        open_codes(days, low, high, steps, least, most)
+        let codes = CodedNumbers {
+            days,
+            lowest: least,
+            highest: most,
+        };
+        open_codes(codes, low, high, steps)
     }
 
     // Fills both lists with the present range of each day, or, where either is too short, neither (2).

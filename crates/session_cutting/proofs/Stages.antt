@@ -18,7 +18,7 @@ use Rattle.base_codes.specs.declared.Coded.{Coded}
 use Rattle.base_codes.specs.declared.Coded.the-variants.{Code, Outside}
 use Rattle.theory_method.specs.Filter.{Tight, tightened}
 use Rattle.session.specs.Opening.{rangesOf}
-use Rattle.session.specs.Showing.{Fits, SessionInBounds}
+use Rattle.session.specs.Showing.{Fits, SessionInBounds, boxOf}
 use Rattle.session.specs.declared.Ranges.{Ranges}
 use Rattle.session.specs.declared.Session.{Session}
 use Rattle.session_cuts.specs.declared.Cut.{Cut}
@@ -81,7 +81,7 @@ module _ (s : Session) (c : Cut) {r : Ranges} (clip : r ≡ clipped (s .present)
   pub again-bounds : SessionInBounds s → malformed (s .days) c ≡ 0 → Fits (s .rises) (s .days) r
   again-bounds bounds e = rw clip (clipped-in-bounds (s .rises) (s .days) (s .present) c (bounds .present) e)
 
-  pub again : {t : Tight} → t ≡ tightened (r .floors) (r .ceilings) (s .rises) (s .days) (r .least) (r .most) → t ≡ retightened s (clipped (s .present) c)
+  pub again : {t : Tight} → t ≡ tightened (boxOf (s .rises) (s .days) r) → t ≡ retightened s (clipped (s .present) c)
   again tight = rw clip at tight
 
 module _ (s : Session) (c : Cut) {t : Tight} (e : t ≡ retightened s (clipped (s .present) c)) where

@@ -9,6 +9,7 @@ use Rattle.limits.specs.Limits.{lowestPoint, highestPoint, lowestTotal, highest
 use Rattle.theory_lists.specs.Sum.{at}
 use Rattle.base_codes.specs.Code.{within, code}
 use Rattle.theory_method.specs.Filter.{Tight, tightened}
+use Rattle.session.specs.Showing.{boxOf}
 use Rattle.session.specs.Opening.{rangesOf}
 use Rattle.session.specs.declared.Ranges.{Ranges}
 use Rattle.session.specs.declared.Session.{Session}
@@ -56,7 +57,7 @@ clipped r (TotalCeiling day value) = record { floors = r .floors; ceilings = r .
 
 -- everything tightened again
 abbrev pub retightened : Session → Ranges → Tight
-retightened s r = tightened (r .floors) (r .ceilings) (s .rises) (s .days) (r .least) (r .most)
+retightened s r = tightened (boxOf (s .rises) (s .days) r)
 
 -- the days whose floor or ceiling differs
 abbrev pub changedDays : ℕ → Ranges → Ranges → List ℕ

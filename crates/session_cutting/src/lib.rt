@@ -9,6 +9,7 @@ ghost use Rattle.session.specs.Showing.{SessionInBounds};
 ghost use Rattle.session_cutting.specs.Cutting.{malformed, clipped, retightened, spend, withPresent, refusing, tightenedTo, afterCut, afterNumbered, listAfter};
 ghost use Rattle.session_cutting.specs.Stages.{checkedValue, checkedCut, Clips};
 use base_codes::Coded;
+use base_codes::CodedNumbers;
 use base_numbers::max;
 use base_numbers::min;
 use base_numbers::wide;
@@ -188,7 +189,12 @@ fn tighten_again(session: Session, cut: Cut, value: usize, changed: &mut [u16]) 
     let mut low = floors;
     let mut high = ceilings;
     let total = clip(cut, value, &mut low, &mut high, before.least, before.most);
-    let t = tighten_filtering::tighten(&mut low, &mut high, &rises, n, total.least, total.most);
+    let numbers = CodedNumbers {
+        days: n,
+        lowest: total.least,
+        highest: total.most,
+    };
+    let t = tighten_filtering::tighten(&mut low, &mut high, &rises, numbers);
     if !t.found {
         return spend(session);
     }

@@ -7,6 +7,7 @@ use native.Mathlib.Numerals.{add-one}
 use native.Mathlib.Nat.{le-refl}
 use native.Mathlib.Omega.{arith}
 use lib.ListN.{length}
+use Rattle.limits.specs.Limits.{mostDays, levelOffset}
 use Rattle.theory_lists.specs.Sum.{at}
 use Rattle.theory_lists.specs.Written.{length-written, written-past}
 use Rattle.theory_chains.specs.Sum.{sum, all, sum-eq, sum-le}
@@ -18,22 +19,22 @@ use Rattle.theory_chains.specs.Box.{high, low, Ranges, inward, total-kept, suff
 use Rattle.theory_chains.specs.Spans.{NatSpans, spans-same}
 use Rattle.theory_method.specs.Shift.{shift}
 use Rattle.theory_method.specs.Filter as Filter
-use Rattle.theory_method.specs.Filter.{InBounds, Tight, held, shifted, lowered, carried, firstCrossed, forwarded, loweredAll, raised, tightFloors, tightCeilings, tightened}
+use Rattle.theory_method.specs.Filter.{Box, box, InBounds, Tight, held, shifted, lowered, carried, firstCrossed, forwarded, loweredAll, raised, tightFloors, tightCeilings, tightened}
 use Rattle.theory_method.specs.Stages.{Ready, by-order, ready, crossing, carried-above, forwarded-at, lowered-ready, lowered-rising, floors-chain, raised-is}
 use Rattle.theory_method.specs.Levels.{Levels, refit, rebound, shiftedTotal, shifts-low, shifted-sum, shifted-sched, day-spans, total-spans}
 use Rattle.theory_method.proofs.Passes.{scale, within-scale, ceilings-are, floors-are}
 
 -- the ranges of t are the values that levels within the bounds take, and no others; past the last day nothing has changed
-pub record Exact (fs cs rs : List ℕ) (n L U : ℕ) (t : Tight) : Type 0 where
-  pub day : (k : ℕ) → k < n → NatSpans (Levels fs cs rs n L U) (λ x. x k) (at (t .floors) k) (at (t .ceilings) k)
-  pub total : NatSpans (Levels fs cs rs n L U) (held n) (t .least) (t .most)
-  pub floors : length (t .floors) ≡ 512
-  pub ceilings : length (t .ceilings) ≡ 512
-  pub floors-past : (k : ℕ) → n ≤ k → at (t .floors) k ≡ at fs k
-  pub ceilings-past : (k : ℕ) → n ≤ k → at (t .ceilings) k ≡ at cs k
+pub record Exact (b : Box) (t : Tight) : Type 0 where
+  pub day : (k : ℕ) → k < b .days → NatSpans (Levels b) (λ x. x k) (at (t .floors) k) (at (t .ceilings) k)
+  pub total : NatSpans (Levels b) (held (b .days)) (t .least) (t .most)
+  pub floors : length (t .floors) ≡ mostDays
+  pub ceilings : length (t .ceilings) ≡ mostDays
+  pub floors-past : (k : ℕ) → b .days ≤ k → at (t .floors) k ≡ at (b .floors) k
+  pub ceilings-past : (k : ℕ) → b .days ≤ k → at (t .ceilings) k ≡ at (b .ceilings) k
 
 -- so they are within the bounds themselves
-module _ {fs cs rs : List ℕ} {n L U : ℕ} {t : Tight} (e : Exact fs cs rs n L U t) where
+module _ {fs cs rs : List ℕ} {n L U : ℕ} {t : Tight} (e : Exact (box fs cs rs n L U) t) where
   pub floor-kept : (k : ℕ) → k < n → at fs k ≤ at (t .floors) k
   floor-kept k h = let z = e .day k h .taken (at (t .floors) k) (le-refl (at (t .floors) k)) (e .day k h .some) in omega (arith, z .1 .floor k h, z .2)
 
@@ -47,23 +48,23 @@ module _ {fs cs rs : List ℕ} {n L U : ℕ} {t : Tight} (e : Exact fs cs rs n L
   most-kept = let z = e .total .taken (t .most) (e .total .some) (le-refl (t .most)) in omega (arith, z .1 .most, z .2)
 
   -- the levels within them are the same
-  pub tighter : (x : ℕ → ℕ) → Levels fs cs rs n L U x → Levels (t .floors) (t .ceilings) rs n (t .least) (t .most) x
+  pub tighter : (x : ℕ → ℕ) → Levels (box fs cs rs n L U) x → Levels (box (t .floors) (t .ceilings) rs n (t .least) (t .most)) x
   tighter x l = rebound l (λ k h. e .day k h .inside x l .0) (λ k h. e .day k h .inside x l .1) (e .total .inside x l .0) (e .total .inside x l .1)
 
-  pub looser : (x : ℕ → ℕ) → Levels (t .floors) (t .ceilings) rs n (t .least) (t .most) x → Levels fs cs rs n L U x
+  pub looser : (x : ℕ → ℕ) → Levels (box (t .floors) (t .ceilings) rs n (t .least) (t .most)) x → Levels (box fs cs rs n L U) x
   looser x l =
       rebound l (λ k h. omega (arith, floor-kept k h, l .floor k h)) (λ k h. omega (arith, ceiling-kept k h, l .ceiling k h)) (omega (arith, least-kept, l .least))
       (omega (arith, most-kept, l .most))
 
-  pub exact-in-bounds : InBounds fs cs rs n L U → InBounds (t .floors) (t .ceilings) rs n (t .least) (t .most)
+  pub exact-in-bounds : InBounds (box fs cs rs n L U) → InBounds (box (t .floors) (t .ceilings) rs n (t .least) (t .most))
   exact-in-bounds b =
       refit b (e .floors) (e .ceilings) (λ k h. omega (arith, e .day k h .some, ceiling-kept k h, b .ceiling k h)) (λ k h. omega (arith, ceiling-kept k h, b .ceiling k h))
       (omega (arith, e .total .some, most-kept, b .highest)) (omega (arith, most-kept, b .highest))
 
 -- none found where there are no levels within the bounds, and exact ranges otherwise
-pub record Right (fs cs rs : List ℕ) (n L U : ℕ) (t : Tight) : Type 0 where
-  pub none : t .found ≡ false → (x : ℕ → ℕ) → Levels fs cs rs n L U x → ⊥
-  pub exact : t .found ≡ true → Exact fs cs rs n L U t
+pub record Right (b : Box) (t : Tight) : Type 0 where
+  pub none : t .found ≡ false → (x : ℕ → ℕ) → Levels b x → ⊥
+  pub exact : t .found ≡ true → Exact b t
 
 -- ---- with the floors carried and their total within
 
@@ -81,10 +82,10 @@ module _ {fs cs rs : List ℕ} {n : ℕ} (r : Ready fs cs rs n) (L U : ℕ) (wit
   highest = min U (held n (at cs′))
 
   -- a least total below that of the floors says nothing
-  with-lowest : (x : ℕ → ℕ) → Levels fs cs rs n L U x → Levels fs cs rs n lowest U x
+  with-lowest : (x : ℕ → ℕ) → Levels (box fs cs rs n L U) x → Levels (box fs cs rs n lowest U) x
   with-lowest x l = rebound l (l .floor) (l .ceiling) (omega (arith, l .least, sum-le all n (at fs) x (l .floor))) (l .most)
 
-  without-lowest : (x : ℕ → ℕ) → Levels fs cs rs n lowest U x → Levels fs cs rs n L U x
+  without-lowest : (x : ℕ → ℕ) → Levels (box fs cs rs n lowest U) x → Levels (box fs cs rs n L U) x
   without-lowest x l = rebound l (l .floor) (l .ceiling) (omega (arith, l .least)) (l .most)
 
   abbrev a₀ : ℕ → ℕ
@@ -135,11 +136,11 @@ module _ {fs cs rs : List ℕ} {n : ℕ} (r : Ready fs cs rs n) (L U : ℕ) (wit
   hi-sum : sum all n hi ≡ sum all n (at cs′) + sum all n (shift (at rs) n)
   hi-sum = sum-eq all n hi (shifted cs′ rs n) hi-is ∙ shifted-sum r (at cs′)
 
-  most-is : min U′ (sum all n b) + 1000 * (512 - n) ≡ highest + sum all n (shift (at rs) n)
+  most-is : min U′ (sum all n b) + levelOffset * (mostDays - n) ≡ highest + sum all n (shift (at rs) n)
   most-is = omega (arith, total-kept all n free a₀ b₀ 0 U′ top cap (λ k. omega arith) fits room, hi-sum, shifts-low r)
 
   -- no levels where the least total is above the greatest
-  crossed-totals : highest < lowest → (x : ℕ → ℕ) → Levels fs cs rs n L U x → ⊥
+  crossed-totals : highest < lowest → (x : ℕ → ℕ) → Levels (box fs cs rs n L U) x → ⊥
   crossed-totals h x l =
       let s = shifted-sched r lowest U x (with-lowest x l) in
       let t = inward all n free a₀ b₀ (shiftedTotal rs n lowest) U′ top cap (λ k. x k + shift (at rs) n k) s in
@@ -165,7 +166,7 @@ module _ {fs cs rs : List ℕ} {n : ℕ} (r : Ready fs cs rs n) (L U : ℕ) (wit
     ranges : Ranges all n free a₀ b₀ L′ U′ (low all n free a₀ b₀ L′ U′ top) hi (max L′ (sum all n a)) (min U′ (sum all n b))
     ranges = sufficient all n free a₀ b₀ L′ U′ top cap (λ k. omega arith) fits room (omega arith) reachable
 
-    ready-exact : Exact fs cs rs n L U (record { found = true; floors = fs′; ceilings = cs′; least = lowest; most = highest })
+    ready-exact : Exact (box fs cs rs n L U) (record { found = true; floors = fs′; ceilings = cs′; least = lowest; most = highest })
     ready-exact =
         record {
           day = λ k h. spans-same with-lowest without-lowest (day-spans r lowest U k h (at fs′ k) (at cs′ k) (ranges .day k h) (sym (lo-is k h)) (sym (hi-is k h)));
@@ -179,36 +180,36 @@ module _ {fs cs rs : List ℕ} {n : ℕ} (r : Ready fs cs rs n) (L U : ℕ) (wit
 -- ---- the stages of `tightened`
 
 module _ {fs cs rs : List ℕ} {n L U : ℕ} where
-  refused : {t : Tight} → t .found ≡ false → ((x : ℕ → ℕ) → Levels fs cs rs n L U x → ⊥) → Right fs cs rs n L U t
+  refused : {t : Tight} → t .found ≡ false → ((x : ℕ → ℕ) → Levels (box fs cs rs n L U) x → ⊥) → Right (box fs cs rs n L U) t
   refused e empty = record { none = λ _. empty; exact = λ f. absurd (true≢false (sym f ∙ e)) }
 
-  found : {t : Tight} → t .found ≡ true → Exact fs cs rs n L U t → Right fs cs rs n L U t
+  found : {t : Tight} → t .found ≡ true → Exact (box fs cs rs n L U) t → Right (box fs cs rs n L U) t
   found e exact = record { none = λ f. absurd (true≢false (sym e ∙ f)); exact = λ _. exact }
 
 module _ {fs cs rs : List ℕ} {n : ℕ} (r : Ready fs cs rs n) (L U : ℕ) where
-  floors-right : held n (at fs) ≤ U → Right fs cs rs n L U (tightFloors fs (loweredAll fs cs rs n (U - held n (at fs))) rs n L U)
+  floors-right : held n (at fs) ≤ U → Right (box fs cs rs n L U) (tightFloors (box fs (loweredAll fs cs rs n (U - held n (at fs))) rs n L U))
   unfolding tightFloors
   floors-right within =
-      by-order (Right fs cs rs n L U) (highest r L U within) (lowest r L U within) {t = Filter.none fs (loweredAll fs cs rs n (U - held n (at fs)))}
+      by-order (Right (box fs cs rs n L U)) (highest r L U within) (lowest r L U within) {t = Filter.none (box fs (loweredAll fs cs rs n (U - held n (at fs))) rs n L U)}
       (λ h. refused refl (crossed-totals r L U within h))
       (λ h. found refl (ready-exact r L U within h))
 
-  ceilings-right : Right fs cs rs n L U (tightCeilings fs cs rs n L U)
+  ceilings-right : Right (box fs cs rs n L U) (tightCeilings (box fs cs rs n L U))
   unfolding tightCeilings
   ceilings-right =
-      by-order (Right fs cs rs n L U) U (held n (at fs))
+      by-order (Right (box fs cs rs n L U)) U (held n (at fs))
       (λ h. refused refl (λ x l. omega (arith, l .most, sum-le all n (at fs) x (l .floor))))
       floors-right
 
 module _ {fs cs rs : List ℕ} {n L U : ℕ} where
-  pub carried-least : (x : ℕ → ℕ) → Levels fs cs rs n L U x → (k : ℕ) → k < n → carried fs rs k ≤ x k
+  pub carried-least : (x : ℕ → ℕ) → Levels (box fs cs rs n L U) x → (k : ℕ) → k < n → carried fs rs k ≤ x k
   unfolding carried
   carried-least x l zero h = l .floor 0 h
   carried-least x l (suc k) h =
       omega (arith, carried-least x l k (omega arith), rw add-one at (l .rise k (omega arith)), l .floor (suc k) h)
 
   -- levels over the floors are over the carried ones too
-  from-carried : InBounds fs cs rs n L U → n ≤ firstCrossed (carried fs rs) (at cs) n → {t : Tight} → Right (forwarded fs rs n) cs rs n L U t → Right fs cs rs n L U t
+  from-carried : InBounds (box fs cs rs n L U) → n ≤ firstCrossed (carried fs rs) (at cs) n → {t : Tight} → Right (box (forwarded fs rs n) cs rs n L U) t → Right (box fs cs rs n L U) t
   from-carried b h {t} s =
       record {
         none = λ e x l. s .none e x (up x l);
@@ -223,24 +224,24 @@ module _ {fs cs rs : List ℕ} {n L U : ℕ} where
             };
       }
     where
-      up : (x : ℕ → ℕ) → Levels fs cs rs n L U x → Levels (forwarded fs rs n) cs rs n L U x
+      up : (x : ℕ → ℕ) → Levels (box fs cs rs n L U) x → Levels (box (forwarded fs rs n) cs rs n L U) x
       up x l = rebound l (λ k u. omega (arith, forwarded-at b h k u, carried-least x l k u)) (l .ceiling) (l .least) (l .most)
 
-      down : (x : ℕ → ℕ) → Levels (forwarded fs rs n) cs rs n L U x → Levels fs cs rs n L U x
+      down : (x : ℕ → ℕ) → Levels (box (forwarded fs rs n) cs rs n L U) x → Levels (box fs cs rs n L U) x
       down x l = rebound l (λ k u. omega (arith, forwarded-at b h k u, carried-above fs rs k, l .floor k u)) (l .ceiling) (l .least) (l .most)
 
-pub right : {fs cs rs : List ℕ} {n L U : ℕ} → InBounds fs cs rs n L U → Right fs cs rs n L U (tightened fs cs rs n L U)
+pub right : {b : Box} → InBounds b → Right b (tightened b)
 unfolding tightened
-right {fs} {cs} {rs} {n} {L} {U} b =
-    by-order (Right fs cs rs n L U) r n
-    (λ h. refused refl (λ x l. omega (arith, crossing (carried fs rs) (at cs) n .here h, carried-least x l r h, l .ceiling r h)))
-    (λ h. from-carried b h (ceilings-right (ready b h) L U))
+right {b} h =
+    by-order (Right b) r (b .days)
+    (λ l. refused refl (λ x levels. omega (arith, crossing (carried (b .floors) (b .rises)) (at (b .ceilings)) (b .days) .here l, carried-least x levels r l, levels .ceiling r l)))
+    (λ l. from-carried h l (ceilings-right (ready h l) (b .lowest) (b .highest)))
   where
     r : ℕ
-    r = firstCrossed (carried fs rs) (at cs) n
+    r = firstCrossed (carried (b .floors) (b .rises)) (at (b .ceilings)) (b .days)
 
-pub none : {fs cs rs : List ℕ} {n L U : ℕ} → InBounds fs cs rs n L U → tightened fs cs rs n L U .found ≡ false → (x : ℕ → ℕ) → Levels fs cs rs n L U x → ⊥
-none b = right b .none
+pub none : {b : Box} → InBounds b → tightened b .found ≡ false → (x : ℕ → ℕ) → Levels b x → ⊥
+none h = right h .none
 
-pub exact : {fs cs rs : List ℕ} {n L U : ℕ} → InBounds fs cs rs n L U → tightened fs cs rs n L U .found ≡ true → Exact fs cs rs n L U (tightened fs cs rs n L U)
-exact b = right b .exact
+pub exact : {b : Box} → InBounds b → tightened b .found ≡ true → Exact b (tightened b)
+exact h = right h .exact

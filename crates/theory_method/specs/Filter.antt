@@ -13,18 +13,30 @@ use Rattle.theory_chains.specs.Sum.{sum, all}
 use Rattle.theory_chains.specs.Fit.{fit}
 use Rattle.theory_method.specs.Shift.{shift}
 
--- n days of levels up to 5,000 and rise codes up to 4,000, and totals up to 2,560,000, held plus 512,000
-pub record InBounds (fs cs rs : List ℕ) (n L U : ℕ) : Type 0 where
-  pub some : 0 < n
-  pub most : n ≤ mostDays
-  pub floors : length fs ≡ mostDays
-  pub ceilings : length cs ≡ mostDays
-  pub rises : length rs ≡ mostDays
-  pub floor : (k : ℕ) → k < n → at fs k ≤ highestLevel
-  pub ceiling : (k : ℕ) → k < n → at cs k ≤ highestLevel
-  pub rise : (k : ℕ) → k < n → at rs k ≤ highestRiseCode
-  pub lowest : L ≤ highestTotalCode
-  pub highest : U ≤ highestTotalCode
+-- what tightening takes: the days' floors, ceilings and rises as codes, how many days there are, and the total's bounds, as held
+pub record Box : Type 0 where
+  pub floors : List ℕ
+  pub ceilings : List ℕ
+  pub rises : List ℕ
+  pub days : ℕ
+  pub lowest : ℕ
+  pub highest : ℕ
+
+abbrev pub box : List ℕ → List ℕ → List ℕ → ℕ → ℕ → ℕ → Box
+box fs cs rs n L U = record { floors = fs; ceilings = cs; rises = rs; days = n; lowest = L; highest = U }
+
+-- 1 to 512 days, and codes no higher than their highest
+pub record InBounds (b : Box) : Type 0 where
+  pub some : 0 < b .days
+  pub most : b .days ≤ mostDays
+  pub floors : length (b .floors) ≡ mostDays
+  pub ceilings : length (b .ceilings) ≡ mostDays
+  pub rises : length (b .rises) ≡ mostDays
+  pub floor : (k : ℕ) → k < b .days → at (b .floors) k ≤ highestLevel
+  pub ceiling : (k : ℕ) → k < b .days → at (b .ceilings) k ≤ highestLevel
+  pub rise : (k : ℕ) → k < b .days → at (b .rises) k ≤ highestRiseCode
+  pub lowest : b .lowest ≤ highestTotalCode
+  pub highest : b .highest ≤ highestTotalCode
 
 -- ---- carrying
 
@@ -91,8 +103,14 @@ pub record Tight : Type 0 where
   pub least : ℕ
   pub most : ℕ
 
-abbrev pub none : List ℕ → List ℕ → Tight
-none fs cs = record { found = false; floors = fs; ceilings = cs; least = 0; most = 0 }
+abbrev pub none : Box → Tight
+none b = record { found = false; floors = b .floors; ceilings = b .ceilings; least = 0; most = 0 }
+
+abbrev pub withFloors : Box → List ℕ → Box
+withFloors b fs = box fs (b .ceilings) (b .rises) (b .days) (b .lowest) (b .highest)
+
+abbrev pub withCeilings : Box → List ℕ → Box
+withCeilings b cs = box (b .floors) cs (b .rises) (b .days) (b .lowest) (b .highest)
 
 -- the floors carried up to day r, where carrying stops
 abbrev pub forwarded : List ℕ → List ℕ → ℕ → List ℕ
@@ -102,19 +120,24 @@ abbrev pub loweredAll : List ℕ → List ℕ → List ℕ → ℕ → ℕ → L
 loweredAll fs cs rs n margin = written (lowered fs cs rs n margin) n cs
 
 -- with the ceilings lowered: the total's range, and the floors
-unfoldable pub tightFloors : List ℕ → List ℕ → List ℕ → ℕ → ℕ → ℕ → Tight
-tightFloors fs cs rs n L U =
-    let lowest : ℕ = max L (held n (at fs)) in
-    let highest : ℕ = min U (held n (at cs)) in
-    cond (ltb highest lowest) (none fs cs)
-    (record { found = true; floors = raised fs cs rs n (held n (at cs) - lowest); ceilings = cs; least = lowest; most = highest })
+unfoldable pub tightFloors : Box → Tight
+tightFloors b =
+    let bottom : ℕ = held (b .days) (at (b .floors)) in
+    let top : ℕ = held (b .days) (at (b .ceilings)) in
+    let lowest : ℕ = max (b .lowest) bottom in
+    let highest : ℕ = min (b .highest) top in
+    cond (ltb highest lowest) (none b)
+    (record { found = true; floors = raised (b .floors) (b .ceilings) (b .rises) (b .days) (top - lowest); ceilings = b .ceilings; least = lowest; most = highest })
 
 -- with the floors carried: the ceilings, and onward
-unfoldable pub tightCeilings : List ℕ → List ℕ → List ℕ → ℕ → ℕ → ℕ → Tight
-tightCeilings fs cs rs n L U =
-    cond (ltb U (held n (at fs))) (none fs cs) (tightFloors fs (loweredAll fs cs rs n (U - held n (at fs))) rs n L U)
+unfoldable pub tightCeilings : Box → Tight
+tightCeilings b =
+    let bottom : ℕ = held (b .days) (at (b .floors)) in
+    cond (ltb (b .highest) bottom) (none b)
+    (tightFloors (withCeilings b (loweredAll (b .floors) (b .ceilings) (b .rises) (b .days) (b .highest - bottom))))
 
-unfoldable pub tightened : List ℕ → List ℕ → List ℕ → ℕ → ℕ → ℕ → Tight
-tightened fs cs rs n L U =
-    let r : ℕ = firstCrossed (carried fs rs) (at cs) n in
-    cond (ltb r n) (none (forwarded fs rs r) cs) (tightCeilings (forwarded fs rs n) cs rs n L U)
+unfoldable pub tightened : Box → Tight
+tightened b =
+    let r : ℕ = firstCrossed (carried (b .floors) (b .rises)) (at (b .ceilings)) (b .days) in
+    let carriedTo : ℕ → Box = λ m. withFloors b (forwarded (b .floors) (b .rises) m) in
+    cond (ltb r (b .days)) (none (carriedTo r)) (tightCeilings (carriedTo (b .days)))

@@ -15,20 +15,20 @@ use Rattle.theory_chains.specs.Exact.{Sched}
 use Rattle.theory_chains.specs.Rounds.{free}
 use Rattle.theory_chains.specs.Spans.{NatSpans, spans-moved}
 use Rattle.theory_method.specs.Shift.{shift, shift-low}
-use Rattle.theory_method.specs.Filter.{InBounds, shifted, held}
+use Rattle.theory_method.specs.Filter.{Box, box, InBounds, shifted, held}
 use Rattle.theory_method.specs.Stages.{Ready, shifted-rise, shift-most}
 
 -- n days' levels x within the bounds: what `tightened` is about
-pub record Levels (fs cs rs : List ℕ) (n L U : ℕ) (x : ℕ → ℕ) : Type 0 where
-  pub floor : (k : ℕ) → k < n → at fs k ≤ x k
-  pub ceiling : (k : ℕ) → k < n → x k ≤ at cs k
-  pub rise : (k : ℕ) → k + 1 < n → x k + at rs k ≤ x (k + 1) + riseOffset
-  pub least : L ≤ held n x
-  pub most : held n x ≤ U
+pub record Levels (b : Box) (x : ℕ → ℕ) : Type 0 where
+  pub floor : (k : ℕ) → k < b .days → at (b .floors) k ≤ x k
+  pub ceiling : (k : ℕ) → k < b .days → x k ≤ at (b .ceilings) k
+  pub rise : (k : ℕ) → k + 1 < b .days → x k + at (b .rises) k ≤ x (k + 1) + riseOffset
+  pub least : b .lowest ≤ held (b .days) x
+  pub most : held (b .days) x ≤ b .highest
 
 -- other ranges in bounds, the same rises
-pub refit : {fs gs cs ds rs : List ℕ} {n L L′ U U′ : ℕ} → InBounds fs cs rs n L U → length gs ≡ mostDays → length ds ≡ mostDays → ((k : ℕ) → k < n → at gs k ≤ highestLevel)
-    → ((k : ℕ) → k < n → at ds k ≤ highestLevel) → L′ ≤ highestTotalCode → U′ ≤ highestTotalCode → InBounds gs ds rs n L′ U′
+pub refit : {fs gs cs ds rs : List ℕ} {n L L′ U U′ : ℕ} → InBounds (box fs cs rs n L U) → length gs ≡ mostDays → length ds ≡ mostDays → ((k : ℕ) → k < n → at gs k ≤ highestLevel)
+    → ((k : ℕ) → k < n → at ds k ≤ highestLevel) → L′ ≤ highestTotalCode → U′ ≤ highestTotalCode → InBounds (box gs ds rs n L′ U′)
 refit b floors ceilings floor ceiling lowest highest = record {
   some = b .some;
   most = b .most;
@@ -43,15 +43,15 @@ refit b floors ceilings floor ceiling lowest highest = record {
 }
 
 -- the range of one day set to one level
-pub refit-day : {fs cs rs : List ℕ} {n L U : ℕ} → InBounds fs cs rs n L U → (d v : ℕ) → d < n → v ≤ highestLevel → InBounds (set fs d v) (set cs d v) rs n L U
+pub refit-day : {fs cs rs : List ℕ} {n L U : ℕ} → InBounds (box fs cs rs n L U) → (d v : ℕ) → d < n → v ≤ highestLevel → InBounds (box (set fs d v) (set cs d v) rs n L U)
 refit-day {fs} {cs} b d v h small =
     refit b (length-set fs d v ∙ b .floors) (length-set cs d v ∙ b .ceilings)
     (λ k l. by-cell (λ _ a. a ≤ highestLevel) 0 fs d v (omega (arith, b .floors, b .most)) small k (b .floor k l))
     (λ k l. by-cell (λ _ a. a ≤ highestLevel) 0 cs d v (omega (arith, b .ceilings, b .most)) small k (b .ceiling k l)) (b .lowest) (b .highest)
 
 -- levels within other bounds, the same rises
-pub rebound : {fs gs cs ds rs : List ℕ} {n L L′ U U′ : ℕ} {x : ℕ → ℕ} → Levels fs cs rs n L U x → ((k : ℕ) → k < n → at gs k ≤ x k) → ((k : ℕ) → k < n → x k ≤ at ds k)
-    → L′ ≤ held n x → held n x ≤ U′ → Levels gs ds rs n L′ U′ x
+pub rebound : {fs gs cs ds rs : List ℕ} {n L L′ U U′ : ℕ} {x : ℕ → ℕ} → Levels (box fs cs rs n L U) x → ((k : ℕ) → k < n → at gs k ≤ x k) → ((k : ℕ) → k < n → x k ≤ at ds k)
+    → L′ ≤ held n x → held n x ≤ U′ → Levels (box gs ds rs n L′ U′) x
 rebound l floor ceiling least most = record { floor = floor; ceiling = ceiling; rise = l .rise; least = least; most = most }
 
 -- a held total as the total of the shifted levels
@@ -82,7 +82,7 @@ module _ {fs cs rs : List ℕ} {n : ℕ} (r : Ready fs cs rs n) where
     abbrev S : (ℕ → ℕ) → Type 0
     S = Sched all n free (shifted fs rs n) (shifted cs rs n) (shiftedTotal rs n L) (shiftedTotal rs n U)
 
-    pub shifted-sched : (x : ℕ → ℕ) → Levels fs cs rs n L U x
+    pub shifted-sched : (x : ℕ → ℕ) → Levels (box fs cs rs n L U) x
         → Sched all n free (shifted fs rs n) (shifted cs rs n) (shiftedTotal rs n L) (shiftedTotal rs n U) (λ k. x k + shift (at rs) n k)
     shifted-sched x l =
         record {
@@ -99,7 +99,7 @@ module _ {fs cs rs : List ℕ} {n : ℕ} (r : Ready fs cs rs n) where
     over : (y : ℕ → ℕ) → S y → Below n sh y
     over y s k h = omega (arith, s .above k h)
 
-    unshifted : (y : ℕ → ℕ) → S y → Levels fs cs rs n L U (λ k. y k - shift (at rs) n k)
+    unshifted : (y : ℕ → ℕ) → S y → Levels (box fs cs rs n L U) (λ k. y k - shift (at rs) n k)
     unshifted y s =
         record {
           floor = λ k h. omega (arith, s .above k h);
@@ -115,7 +115,7 @@ module _ {fs cs rs : List ℕ} {n : ℕ} (r : Ready fs cs rs n) where
     -- the ranges of the shifted schedules, moved back
     pub day-spans : (k : ℕ) → k < n → {lo hi : ℕ} (floor ceiling : ℕ)
         → NatSpans (Sched all n free (shifted fs rs n) (shifted cs rs n) (shiftedTotal rs n L) (shiftedTotal rs n U)) (λ y. y k) lo hi
-        → floor + shift (at rs) n k ≡ lo → ceiling + shift (at rs) n k ≡ hi → NatSpans (Levels fs cs rs n L U) (λ x. x k) floor ceiling
+        → floor + shift (at rs) n k ≡ lo → ceiling + shift (at rs) n k ≡ hi → NatSpans (Levels (box fs cs rs n L U)) (λ x. x k) floor ceiling
     day-spans k h floor ceiling s low high =
         spans-moved (sh k) 0 s (λ x l. ((λ j. x j + sh j), shifted-sched x l, omega arith)) (λ y l. ((λ j. y j - sh j), unshifted y l, omega (arith, over y l k h)))
         (omega arith) (omega arith)
@@ -123,7 +123,7 @@ module _ {fs cs rs : List ℕ} {n : ℕ} (r : Ready fs cs rs n) where
     pub total-spans : {lo hi : ℕ} (least most : ℕ)
         → NatSpans (Sched all n free (shifted fs rs n) (shifted cs rs n) (shiftedTotal rs n L) (shiftedTotal rs n U)) (sum all n) lo hi
         → least + sum all n (shift (at rs) n) ≡ lo + levelOffset * (mostDays - n) → most + sum all n (shift (at rs) n) ≡ hi + levelOffset * (mostDays - n)
-        → NatSpans (Levels fs cs rs n L U) (held n) least most
+        → NatSpans (Levels (box fs cs rs n L U)) (held n) least most
     total-spans least most s =
         spans-moved (sum all n sh) (levelOffset * (mostDays - n)) s (λ x l. ((λ j. x j + sh j), shifted-sched x l, omega (arith, shifted-sum x)))
         (λ y l. ((λ j. y j - sh j), unshifted y l, omega (arith, unshifted-sum y (over y l))))

@@ -20,7 +20,7 @@ use Rattle.theory_chains.specs.Ceilings.{chain-up}
 use Rattle.theory_chains.specs.Rounds.{free}
 use Rattle.theory_chains.specs.Fit.{Fitted, fitted}
 use Rattle.theory_method.specs.Shift.{shift, shift-step, shift-high}
-use Rattle.theory_method.specs.Filter.{InBounds, carried, firstCrossed, shifted, overload, loweredFrom, lowered, mirrored, reversed, zeros, forwarded, loweredAll, raised}
+use Rattle.theory_method.specs.Filter.{box, InBounds, carried, firstCrossed, shifted, overload, loweredFrom, lowered, mirrored, reversed, zeros, forwarded, loweredAll, raised}
 
 -- levels that obey the least rises
 abbrev pub Rising : List ℕ → List ℕ → ℕ → Type 0
@@ -74,7 +74,7 @@ module _ (fs rs : List ℕ) where
   carried-rise k = rw add-one (omega arith)
 
 -- (i) floors carried past no ceiling
-module _ {fs cs rs : List ℕ} {n L U : ℕ} (b : InBounds fs cs rs n L U) (uncrossed : n ≤ firstCrossed (carried fs rs) (at cs) n) where
+module _ {fs cs rs : List ℕ} {n L U : ℕ} (b : InBounds (box fs cs rs n L U)) (uncrossed : n ≤ firstCrossed (carried fs rs) (at cs) n) where
   pub forwarded-at : (k : ℕ) → k < n → at (forwarded fs rs n) k ≡ carried fs rs k
   forwarded-at k h = written-below (carried fs rs) 0 n fs k h (omega (arith, b .floors, b .most))
 

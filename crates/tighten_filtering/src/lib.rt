@@ -2,10 +2,12 @@
 ghost use mathlib.Core.Path.{_≡_};
 ghost use mathlib.Core.Bool.{false};
 ghost use Rattle.theory_method.specs.Filter.{InBounds, raised, tightened};
+ghost use Rattle.tighten_filtering.specs.Boxed.{boxed};
 ghost use Rattle.tighten_filtering.specs.FloorsReady.{FloorsReady};
 use base_arrays::held_total;
 use base_arrays::mirror;
 use base_arrays::reverse;
+use base_codes::CodedNumbers;
 use base_numbers::max;
 use base_numbers::min;
 use limits::MOST_DAYS;
@@ -51,19 +53,18 @@ fn none() -> Totals
     }
 }
 
-// Tightens the ranges of n days and of the total, whose bounds are lowest and highest as held. Where there is no schedule the
-// arrays are left carried or lowered, as far as `tightened` says.
+// Tightens the ranges of the days and of the total. Where there is no schedule the arrays are left carried or lowered, as far as `tightened` says.
 pub fn tighten(
     floors: &mut [u16; MOST_DAYS],
     ceilings: &mut [u16; MOST_DAYS],
     rises: &[u16; MOST_DAYS],
-    n: usize,
-    lowest: usize,
-    highest: usize,
+    numbers: CodedNumbers,
 ) -> Totals
-    requires { ⌜ InBounds (now floors) (now ceilings) (now rises) n lowest highest ⌝ }
-    ensures { λ r. ⌜ record { found = r .found; floors = now (floors .exit); ceilings = now (ceilings .exit); least = r .least; most = r .most } ≡ tightened (now (floors .entry)) (now (ceilings .entry)) (now (rises .entry)) n lowest highest ⌝ }
+    requires { ⌜ InBounds (boxed (now floors) (now ceilings) (now rises) numbers) ⌝ }
+    ensures { λ r. ⌜ record { found = r .found; floors = now (floors .exit); ceilings = now (ceilings .exit); least = r .least; most = r .most } ≡ tightened (boxed (now (floors .entry)) (now (ceilings .entry)) (now (rises .entry)) numbers) ⌝ }
 {
+    let n = numbers.days;
+    let highest = numbers.highest;
     if carry(floors, ceilings, rises, n) < n {
         return none();
     }
@@ -73,7 +74,7 @@ pub fn tighten(
     }
     lower_ceilings(floors, ceilings, rises, n, highest - bottom);
     let top = held_total(ceilings, n);
-    let low = max(lowest, bottom);
+    let low = max(numbers.lowest, bottom);
     let high = min(highest, top);
     if high < low {
         return none();

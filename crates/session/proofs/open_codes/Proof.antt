@@ -2,6 +2,7 @@
 use mathlib.Core.Path.{_∙_}
 use Rattle.session.proofs.Stages.{Tightened, codes-crossed, codes-order, codes-found, codes-none}
 use Rattle.theory_method.specs.Filter.{Tight}
+use Rattle.tighten_filtering.specs.Boxed.{boxed}
 use borrow.Author.Needs.{needs}
 use native.Mathlib.Omega.{arith}
 use Rattle.session.proofs.open_codes.Statement.{statement}
@@ -25,16 +26,16 @@ gave c =
 
 ranged : (c : tie.After-tighten)
     → let a = at-start (at-days (at-order c)) .args in
-    Tightened (a .t2) (a .t3) (a .t4) (a .days) (a .least) (a .most) (gave c)
+    Tightened (boxed (a .t2) (a .t3) (a .t4) (a .numbers)) (gave c)
 ranged c =
     let d = at-days (at-order c) in
     record { clear = omega (arith, d .before .first-crossed .ensures, d .if1 .left); order = at-order c .if2 .left; tight = c .tighten .ensures }
 
 returns : tie.Need-returns
-returns c = c .refused .ensures ∙ codes-crossed _ _ _ _ _ _ (c .before .before .first-crossed .ensures) (c .before .if1 .taken)
+returns c = c .refused .ensures ∙ codes-crossed _ (c .before .before .first-crossed .ensures) (c .before .if1 .taken)
 
 returns-2 : tie.Need-returns-2
-returns-2 c = c .refused2 .ensures ∙ codes-order _ _ _ _ _ _ (c .before .before .before .first-crossed .ensures) (c .before .if2 .taken)
+returns-2 c = c .refused2 .ensures ∙ codes-order _ (c .before .before .before .first-crossed .ensures) (c .before .if2 .taken)
 
 returns-3 : tie.Need-returns-3
 returns-3 c = codes-found (ranged (c .before)) (c .if3 .taken)

@@ -1,5 +1,6 @@
 -- `tighten` meets its contract: what each stage leaves is said once, as a record of Stage at the place where it is done, from the record before it;
 -- a law for each return.
+use Rattle.tighten_filtering.specs.Boxed.{boxed}
 use Rattle.tighten_filtering.proofs.Stage.{Carried, Lowered, Narrowed, carries, tight-crossed, carried-ready, tight-over, lowered-raisable, tight-apart, tight-found}
 use borrow.Author.Needs.{needs}
 use Rattle.tighten_filtering.proofs.tighten.Statement.{statement}
@@ -29,14 +30,14 @@ at-narrowed c = c .before .before
 
 carried : (c : tie.Else1)
     → let a = at-start (c .before) .args in
-    Carried (a .floors .now) (a .ceilings .now) (a .rises .now) (a .n) (a .lowest) (a .highest) (c .before .carry .last .0)
+    Carried (boxed (a .floors .now) (a .ceilings .now) (a .rises .now) (a .numbers)) (c .before .carry .last .0)
 carried c = let e = c .before .carry .ensures in carries (at-start (c .before) .pre) (e .0) (e .1) (c .if1 .left)
 
 lowered : (c : tie.After-lower-ceilings)
     → let b = at-under (c .before) .before in
     let d = at-carried b .before in
     let a = at-start d .args in
-    Lowered (a .floors .now) (a .ceilings .now) (a .rises .now) (a .n) (a .lowest) (a .highest) (d .carry .last .0) (b .held-total .result) (c .lower-ceilings .last .1 .0)
+    Lowered (boxed (a .floors .now) (a .ceilings .now) (a .rises .now) (a .numbers)) (d .carry .last .0) (b .held-total .result) (c .lower-ceilings .last .1 .0)
 lowered c =
     let u = at-under (c .before) in
     record { before = carried (at-carried (u .before)); bottom = u .before .held-total .ensures .0; under = u .if2 .left; ceilings = c .lower-ceilings .ensures }
@@ -46,7 +47,7 @@ narrowed : (c : tie.After-min)
     let b = at-under (l .before) .before in
     let d = at-carried b .before in
     let a = at-start d .args in
-    Narrowed (a .floors .now) (a .ceilings .now) (a .rises .now) (a .n) (a .lowest) (a .highest) (d .carry .last .0) (b .held-total .result) (l .lower-ceilings .last .1 .0)
+    Narrowed (boxed (a .floors .now) (a .ceilings .now) (a .rises .now) (a .numbers)) (d .carry .last .0) (b .held-total .result) (l .lower-ceilings .last .1 .0)
     (at-top c .held-total2 .result) (c .before .max .result) (c .min .result)
 narrowed c =
     record { before = lowered (at-lowered (at-top c)); top = at-top c .held-total2 .ensures .0; low = c .before .max .ensures; high = c .min .ensures }
