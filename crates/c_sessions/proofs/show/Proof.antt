@@ -23,10 +23,10 @@ at-session c = c .before
 abbrev at-decoded : tie.After-min → tie.After-decode
 at-decoded c = c .before
 
-abbrev at-low-room : tie.After-least2 → tie.After-min
+abbrev at-low-room : tie.After-min2 → tie.After-min
 at-low-room c = c .before
 
-abbrev at-high-room : tie.After-high → tie.After-least2
+abbrev at-high-room : tie.After-high → tie.After-min2
 at-high-room c = c .before .before
 
 abbrev at-lent : tie.After-show → tie.After-high
