@@ -69,6 +69,13 @@ decoding-in-bounds b = record { opened = fits b 4 1044; present = fits b 12 3092
 
 -- ---- what was encoded
 
+-- cells as a session holds them: 512 in all, the first n of them at most so large, and 0 past those
+record Cells (n most : ℕ) (cells : List ℕ) : Type 0 where
+  pub few : n ≤ 512
+  pub whole : length cells ≡ 512
+  pub small : (k : ℕ) → k < n → at cells k ≤ most
+  pub past : Padded n cells
+
 module _ {b : List ℕ} where
   total-read : {i : ℕ} (t : ℕ) → t ≤ 2560000 → Part b i (i32Bytes (decoded lowestTotal t)) → totalAt b i ≡ t
   total-read t h p =
@@ -78,11 +85,10 @@ module _ {b : List ℕ} where
       let high = less-le (decoded lowestTotal t) highestTotal t 2560000 512000 d refl h in
       rw (e, within-yes lowestTotal highestTotal (decoded lowestTotal t) .1 (low, high)) (code-decoded lowestTotal t)
 
-  cells-read : {place n : ℕ} (most : ℕ) (cells : List ℕ) → n ≤ 512 → length cells ≡ 512 → ((k : ℕ) → k < n → at cells k ≤ most) → Padded n cells
-      → Part b place (blockBytes cells n) → cellsAt b n most place ≡ cells
+  cells-read : {place n : ℕ} (most : ℕ) (cells : List ℕ) → Cells n most cells → Part b place (blockBytes cells n) → cellsAt b n most place ≡ cells
   unfolding blockBytes cellBytes
-  cells-read {place} {n} most cells few whole small past p =
-      ext-getD 0 (cellsAt b n most place) cells (length-cells b n few most place ∙ sym whole) (λ k h. go k (omega (arith, length-cells b n few most place)) (decLt k n))
+  cells-read {place} {n} most cells c p =
+      ext-getD 0 (cellsAt b n most place) cells (length-cells b n (c .few) most place ∙ sym (c .whole)) (λ k h. go k (omega (arith, length-cells b n (c .few) most place)) (decLt k n))
     where
       wide : (k : ℕ) → k < n → length (u16Bytes (at cells k)) ≡ 2
       wide k h = u16-length (at cells k)
@@ -93,9 +99,9 @@ module _ {b : List ℕ} where
           (part-row (λ j. u16Bytes (at cells j)) 2 n wide (part-left (rows (λ j. u16Bytes (at cells j)) n) (replicate ((512 - n) * 2) 0) refl p) k h)
 
       go : (k : ℕ) → k < 512 → Dec (k < n) → at (cellsAt b n most place) k ≡ at cells k
-      go k u (yes h) = omega (arith, cell b n few most place k h, stored k h, small k h)
+      go k u (yes h) = omega (arith, cell b n (c .few) most place k h, stored k h, c .small k h)
       go k u (no h) =
-          written-past (λ j. min (u16At b (place + j * 2)) most) 0 n zeros k (omega arith) ∙ getD-replicate {A = ℕ} 512 k 0 0 u ∙ sym (past k (omega arith) u)
+          written-past (λ j. min (u16At b (place + j * 2)) most) 0 n zeros k (omega arith) ∙ getD-replicate {A = ℕ} 512 k 0 0 u ∙ sym (c .past k (omega arith) u)
 
   ranges-read : {totals place : ℕ} (rs : List ℕ) (n : ℕ) (r : Ranges) → Fits rs n r → Padded n (r .floors) × Padded n (r .ceilings)
       → Part b totals (totalBytes (r .least) (r .most)) → Part b place (blockBytes (r .floors) n ++ blockBytes (r .ceilings) n) → rangesAt b n totals place ≡ r
@@ -107,9 +113,11 @@ module _ {b : List ℕ} where
       let most : List ℕ = i32Bytes (decoded lowestTotal (r .most)) in
       let wide = block-length (r .floors) n (f .most) in
       let long = i32-length (decoded lowestTotal (r .least)) in
+      let floors : Cells n 5000 (r .floors) = record { few = f .most; whole = f .floors; small = f .floor; past = past .0 } in
+      let ceilings : Cells n 5000 (r .ceilings) = record { few = f .most; whole = f .ceilings; small = f .ceiling; past = past .1 } in
       rw (
-        cells-read 5000 (r .floors) (f .most) (f .floors) (f .floor) (past .0) (part-left low high wide p),
-        cells-read 5000 (r .ceilings) (f .most) (f .ceilings) (f .ceiling) (past .1) (part-right low high wide p),
+        cells-read 5000 (r .floors) floors (part-left low high wide p),
+        cells-read 5000 (r .ceilings) ceilings (part-right low high wide p),
         total-read (r .least) (f .lowest) (part-left least most long t),
         total-read (r .most) (f .highest) (part-right least most long t),
       )
@@ -184,7 +192,7 @@ decoding-encoding s h =
     let days : daysAt (encoding s) ≡ s .days = omega (arith, u16-read (s .days) (l .at0), z .some, z .most) in
     rw (
       days,
-      cells-read 4000 (s .rises) (z .most) (z .rises) (z .rise) (h .rises) (l .at20),
+      cells-read 4000 (s .rises) (record { few = z .most; whole = z .rises; small = z .rise; past = h .rises }) (l .at20),
       ranges-read (s .rises) (s .days) (s .opened) z (h .opened) (l .at4) (l .at1044),
       ranges-read (s .rises) (s .days) (s .present) (h .bounds .present) (h .present) (l .at12) (l .at3092),
       mark-read (s .spent) (u16-read (cond (s .spent) 1 0) (l .at2)),

@@ -3,7 +3,10 @@
 use Prim.Native.Nat.{ℕ, _-_}
 use mathlib.Core.Path.{_≡_, sym, _∙_}
 use native.Mathlib.Omega.{arith}
+use lib.IntN.{ℤ}
 use lib.ListN.{length}
+use mir.Syntax.{w32}
+use mir.Val.{toZ, ofZ}
 use mir.Facts.{toZ-ofZ}
 use borrow.Author.Needs.{needs}
 use Rattle.base_little_endian.specs.Fields.{Bytes}
@@ -130,35 +133,52 @@ the-lists c = from-floors (the-floors c)
 
 -- ---- what was handed over
 
+abbrev days : tie.Start → ℕ
+days s = s .args .days
+
+abbrev lowest : tie.Start → ℤ
+lowest s = s .args .lowest
+
+abbrev highest : tie.Start → ℤ
+highest s = s .args .highest
+
 abbrev handed : tie.Start → Profile
-handed s = let a = s .args in profileOf (a .days) (a .floors .now) (a .ceilings .now) (a .rises .now) (a .lowest) (a .highest)
+handed s = let a = s .args in profileOf (days s) (a .floors .now) (a .ceilings .now) (a .rises .now) (lowest s) (highest s)
 
 abbrev lengths : tie.Start → ℕ
-lengths s = let a = s .args in lengthsRefusal (a .days) (length (a .floors .now)) (length (a .ceilings .now)) (length (a .rises .now)) (length (a .cuts .now))
+lengths s = let a = s .args in lengthsRefusal (days s) (length (a .floors .now)) (length (a .ceilings .now)) (length (a .rises .now)) (length (a .cuts .now))
 
 cut-bytes : (c : tie.After-shared-slice-known4) → Bytes (at-start c .args .cuts .now)
 cut-bytes c = record { small = λ k. omega (arith, c .shared-slice-known4 .given k) }
 
 -- ---- what the checks found, and what the arrays hold
 
+-- the total's bounds are seen as they are
+lowest-seen : (c : tie.Else1) → toZ w32 (ofZ w32 (lowest (from-right c))) ≡ lowest (from-right c)
+lowest-seen c = toZ-ofZ (from-right c .fits .lowest)
+
+highest-seen : (c : tie.Else1) → toZ w32 (ofZ w32 (highest (from-right c))) ≡ highest (from-right c)
+highest-seen c = toZ-ofZ (from-right c .fits .highest)
+
 -- past 1 and 2
 right-lengths : (c : tie.Else1) → lengths (from-right c) ≡ 0
 right-lengths c = sym (c .before .lengths-refusal .ensures) ∙ c .if1 .left
 
 sizes : (c : tie.Else1)
-    → let a = from-right c .args in
-    Sized (a .days) (length (a .floors .now)) (length (a .ceilings .now)) (length (a .rises .now)) (length (a .cuts .now))
+    → let s = from-right c in
+    let a = s .args in
+    Sized (days s) (length (a .floors .now)) (length (a .ceilings .now)) (length (a .rises .now)) (length (a .cuts .now))
 sizes c = sized _ _ _ _ _ (right-lengths c)
 
-low : (c : tie.After-points) → let a = from-right (from-floors c) .args in Held (a .floors .now) (a .days) (c .points .last .1 .1 .0)
+low : (c : tie.After-points) → let s = from-right (from-floors c) in Held (s .args .floors .now) (days s) (c .points .last .1 .1 .0)
 low c = held _ _ (sizes (from-floors c) .lists .few) (c .points .ensures)
 
-high : (c : tie.After-points2) → let a = from-right (from-floors (from-ceilings c)) .args in Held (a .ceilings .now) (a .days) (c .points2 .last .1 .1 .0)
+high : (c : tie.After-points2) → let s = from-right (from-floors (from-ceilings c)) in Held (s .args .ceilings .now) (days s) (c .points2 .last .1 .1 .0)
 high c = held _ _ (sizes (from-floors (from-ceilings c)) .lists .few) (c .points2 .ensures)
 
 steps : (c : tie.After-points3)
-    → let a = from-right (from-floors (from-ceilings (from-rises c))) .args in
-    Held (a .rises .now) (a .days - 1) (c .points3 .last .1 .1 .0)
+    → let s = from-right (from-floors (from-ceilings (from-rises c))) in
+    Held (s .args .rises .now) (days s - 1) (c .points3 .last .1 .1 .0)
 steps c = held _ _ (omega (arith, sizes (from-floors (from-ceilings (from-rises c))) .lists .few)) (c .points3 .ensures)
 
 -- what is checked as opening does
@@ -167,32 +187,35 @@ by-opening c =
     let r = from-profile c in
     let h = from-rises r in
     let l = from-ceilings h in
-    let f = from-right (from-floors l) .fits in
-    rw (toZ-ofZ (f .lowest), toZ-ofZ (f .highest), low l .same, high h .same, steps r .same) at (c .profile-refusal .ensures)
+    let e = from-floors l in
+    rw (lowest-seen e, highest-seen e, low l .same, high h .same, steps r .same) at (c .profile-refusal .ensures)
 
 opens : (c : tie.Else2)
-    → let a = from-right (from-floors (from-ceilings (from-rises (from-profile (c .before))))) .args in
-    Opens (a .days) (a .floors .now) (a .ceilings .now) (a .rises .now) (a .lowest) (a .highest) (a .cuts .now)
+    → let s = from-right (from-floors (from-ceilings (from-rises (from-profile (c .before))))) in
+    let a = s .args in
+    Opens (days s) (a .floors .now) (a .ceilings .now) (a .rises .now) (lowest s) (highest s) (a .cuts .now)
 opens c =
     let p = c .before in
     record { lengths = right-lengths (from-floors (from-ceilings (from-rises (from-profile p)))); profile = sym (by-opening p) ∙ c .if2 .left }
 
 -- past the checks of the lists, the profile and the cuts
 checked : (c : tie.Else3)
-    → let a = from-right (the-lists c) .args in
-    Checked (a .days) (a .floors .now) (a .ceilings .now) (a .rises .now) (a .lowest) (a .highest) (a .cuts .now)
+    → let s = from-right (the-lists c) in
+    let a = s .args in
+    Checked (days s) (a .floors .now) (a .ceilings .now) (a .rises .now) (lowest s) (highest s) (a .cuts .now)
 checked c = record { opens = opens (at-opens (c .before)); formed = sym (c .before .cuts-refusal .ensures) ∙ c .if3 .left }
 
 -- ---- what is stored
 
 stored : (c : tie.After-put-rest)
-    → let a = from-right (the-lists (from-header (from-days (from-rest c)) .before)) .args in
-    Stored (a .days) (a .floors .now) (a .ceilings .now) (a .rises .now) (a .lowest) (a .highest) (a .cuts .now) (a .out .now) (c .put-rest .last .1 .1 .0)
+    → let s = from-right (the-lists (from-header (from-days (from-rest c)) .before)) in
+    let a = s .args in
+    Stored (days s) (a .floors .now) (a .ceilings .now) (a .rises .now) (lowest s) (highest s) (a .cuts .now) (a .out .now) (c .put-rest .last .1 .1 .0)
 stored c =
     let d = from-rest c in
     let h = from-days d in
     let e = from-header h .before in
-    let f = from-right (the-lists e) .fits in
+    let i = the-lists e in
     record {
       floors = _;
       ceilings = _;
@@ -202,7 +225,7 @@ stored c =
       floors-held = low (the-floors e) .same;
       ceilings-held = high (the-ceilings e) .same;
       rises-held = steps (the-rises e) .same;
-      header-put = rw (toZ-ofZ (f .lowest), toZ-ofZ (f .highest)) at (h .put-header .ensures);
+      header-put = rw (lowest-seen i, highest-seen i) at (h .put-header .ensures);
       days-put = d .put-days .ensures;
       cuts-put = c .put-rest .ensures;
     }

@@ -2,7 +2,10 @@
 use mathlib.Core.Path.{_≡_, refl, sym, _∙_}
 use mathlib.Core.Bool.{true}
 use Prim.Native.Nat.{ℕ}
+use lib.IntN.{ℤ}
 use lib.ListN.{length}
+use mir.Syntax.{w32}
+use mir.Val.{toZ, ofZ}
 use mir.Facts.{toZ-ofZ}
 use borrow.Author.Tests.{eq-eqb, ne-eqb}
 use borrow.Author.Needs.{needs}
@@ -14,10 +17,13 @@ use Rattle.c_sessions.specs.Sessions.{isSession, openRefusal, bytesOpene
 use Rattle.c_sessions.proofs.open.Statement.{statement}
 use Rattle.c_sessions.proofs.open.Tie as tie
 
--- ---- the places on the way, each from the next: the bytes are a session's, the lengths are judged, the profile is opened, passed and stored
+-- ---- the places on the way, each from the next: the slices are known, the bytes a session's, the lengths judged, the profile opened, passed, stored
 
-abbrev at-start : tie.Else1 → tie.Start
-at-start c = c .before .before .before .before .before
+abbrev at-start : tie.After-shared-slice-known3 → tie.Start
+at-start c = c .before .before .before .before
+
+abbrev at-known : tie.Else1 → tie.After-shared-slice-known3
+at-known c = c .before
 
 abbrev at-session : tie.After-length-refusal → tie.Else1
 at-session c = c .before
@@ -39,24 +45,43 @@ at-stored c = c .before .before
 
 -- ---- what was handed over
 
+abbrev from-session : tie.Else1 → tie.Start
+from-session c = at-start (at-known c)
+
+abbrev days : tie.Start → ℕ
+days s = s .args .days
+
+abbrev lowest : tie.Start → ℤ
+lowest s = s .args .lowest
+
+abbrev highest : tie.Start → ℤ
+highest s = s .args .highest
+
 abbrev lengths : tie.Start → ℕ
-lengths s = let a = s .args in byteLengthRefusal (a .days) (length (a .floors .now)) (length (a .ceilings .now)) (length (a .rises .now))
+lengths s = let a = s .args in byteLengthRefusal (days s) (length (a .floors .now)) (length (a .ceilings .now)) (length (a .rises .now))
 
 abbrev handed : tie.Start → Profile
-handed s = let a = s .args in profileOf (a .days) (a .floors .now) (a .ceilings .now) (a .rises .now) (a .lowest) (a .highest)
+handed s = let a = s .args in profileOf (days s) (a .floors .now) (a .ceilings .now) (a .rises .now) (lowest s) (highest s)
 
 -- ---- what was found
 
-is-session : (c : tie.Else1) → isSession (at-start c .args .session .now) ≡ true
+-- the total's bounds are seen as they are
+lowest-seen : (c : tie.Else1) → toZ w32 (ofZ w32 (lowest (from-session c))) ≡ lowest (from-session c)
+lowest-seen c = toZ-ofZ (from-session c .fits .lowest)
+
+highest-seen : (c : tie.Else1) → toZ w32 (ofZ w32 (highest (from-session c))) ≡ highest (from-session c)
+highest-seen c = toZ-ofZ (from-session c .fits .highest)
+
+is-session : (c : tie.Else1) → isSession (from-session c .args .session .now) ≡ true
 is-session c = eq-eqb _ _ (c .if1 .left)
 
-right-lengths : (c : tie.Else2) → lengths (at-start (at-session (at-judged c))) ≡ 0
+right-lengths : (c : tie.Else2) → lengths (from-session (at-session (at-judged c))) ≡ 0
 right-lengths c = sym (at-judged c .length-refusal .ensures) ∙ c .if2 .left
 
-opens : (c : tie.After-open-lists) → c .open-lists .result ≡ opened (handed (at-start (at-session (at-judged (at-lengths c)))))
+opens : (c : tie.After-open-lists) → c .open-lists .result ≡ opened (handed (from-session (at-session (at-judged (at-lengths c)))))
 opens c =
-    let f = at-start (at-session (at-judged (at-lengths c))) .fits in
-    rw (toZ-ofZ (f .lowest), toZ-ofZ (f .highest)) at (c .open-lists .ensures)
+    let s = at-session (at-judged (at-lengths c)) in
+    rw (lowest-seen s, highest-seen s) at (c .open-lists .ensures)
 
 -- ---- the answers
 

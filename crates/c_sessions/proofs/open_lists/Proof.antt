@@ -1,6 +1,10 @@
 -- `open_lists` meets its contract: each array holds its list's points (`Held`), so that its lent part is the profile's list.
-use Prim.Native.Nat.{_-_}
+use Prim.Native.Nat.{ℕ, _-_}
+use mathlib.Core.Path.{_≡_}
+use lib.IntN.{ℤ}
 use lib.ListN.{length}
+use mir.Syntax.{w32}
+use mir.Val.{toZ, ofZ}
 use mir.Facts.{toZ-ofZ}
 use native.Mathlib.Omega.{arith}
 use borrow.Author.Needs.{needs}
@@ -8,10 +12,13 @@ use Rattle.c_lists.proofs.Laws.{Long, long, Held, held}
 use Rattle.c_sessions.proofs.open_lists.Statement.{statement}
 use Rattle.c_sessions.proofs.open_lists.Tie as tie
 
--- ---- the places on the way, each from the next: an array is made, and holds the floors, the ceilings, the rises; then a part of each is lent
+-- ---- the places on the way, each from the next: the slices are known; an array is made, and holds the floors, the ceilings, the rises; each is lent in part
 
-abbrev at-start : tie.After-low → tie.Start
-at-start c = c .before .before .before .before
+abbrev at-start : tie.After-shared-slice-known3 → tie.Start
+at-start c = c .before .before .before
+
+abbrev at-known : tie.After-low → tie.After-shared-slice-known3
+at-known c = c .before
 
 abbrev at-low : tie.After-points → tie.After-low
 at-low c = c .before
@@ -42,8 +49,17 @@ at-steps-lent c = c .before
 
 -- ---- what was handed over, and its lengths, past 1 and 2
 
+abbrev days : tie.Start → ℕ
+days s = s .args .days
+
+abbrev lowest : tie.Start → ℤ
+lowest s = s .args .lowest
+
+abbrev highest : tie.Start → ℤ
+highest s = s .args .highest
+
 abbrev from-floors : tie.After-points → tie.Start
-from-floors c = at-start (at-low c)
+from-floors c = at-start (at-known (at-low c))
 
 abbrev from-ceilings : tie.After-points2 → tie.Start
 from-ceilings c = from-floors (at-floors (at-high c))
@@ -51,24 +67,31 @@ from-ceilings c = from-floors (at-floors (at-high c))
 abbrev from-rises : tie.After-points3 → tie.Start
 from-rises c = from-ceilings (at-ceilings (at-steps c))
 
-sizes : (s : tie.Start) → let a = s .args in Long (a .days) (length (a .floors .now)) (length (a .ceilings .now)) (length (a .rises .now))
+-- the total's bounds are seen as they are
+lowest-seen : (c : tie.After-points) → toZ w32 (ofZ w32 (lowest (from-floors c))) ≡ lowest (from-floors c)
+lowest-seen c = toZ-ofZ (from-floors c .fits .lowest)
+
+highest-seen : (c : tie.After-points) → toZ w32 (ofZ w32 (highest (from-floors c))) ≡ highest (from-floors c)
+highest-seen c = toZ-ofZ (from-floors c .fits .highest)
+
+sizes : (s : tie.Start) → let a = s .args in Long (days s) (length (a .floors .now)) (length (a .ceilings .now)) (length (a .rises .now))
 sizes s = long _ _ _ _ (s .pre)
 
 -- ---- what the arrays hold
 
-low : (c : tie.After-points) → let a = from-floors c .args in Held (a .floors .now) (a .days) (c .points .last .1 .1 .0)
+low : (c : tie.After-points) → let s = from-floors c in Held (s .args .floors .now) (days s) (c .points .last .1 .1 .0)
 low c = held _ _ (sizes (from-floors c) .few) (c .points .ensures)
 
-high : (c : tie.After-points2) → let a = from-ceilings c .args in Held (a .ceilings .now) (a .days) (c .points2 .last .1 .1 .0)
+high : (c : tie.After-points2) → let s = from-ceilings c in Held (s .args .ceilings .now) (days s) (c .points2 .last .1 .1 .0)
 high c = held _ _ (sizes (from-ceilings c) .few) (c .points2 .ensures)
 
-steps : (c : tie.After-points3) → let a = from-rises c .args in Held (a .rises .now) (a .days - 1) (c .points3 .last .1 .1 .0)
+steps : (c : tie.After-points3) → let s = from-rises c in Held (s .args .rises .now) (days s - 1) (c .points3 .last .1 .1 .0)
 steps c = held _ _ (omega (arith, sizes (from-rises c) .few)) (c .points3 .ensures)
 
 -- ---- what the calls ask
 
 points-requires : tie.Need-points-requires
-points-requires c κs = let z = sizes (at-start c) in omega arith
+points-requires c κs = let z = sizes (at-start (at-known c)) in omega arith
 
 points-requires-2 : tie.Need-points-requires-2
 points-requires-2 c κs = let z = sizes (from-floors (at-floors c)) in omega arith
@@ -105,8 +128,7 @@ returns c =
     let r = at-rises (at-low-lent (at-high-lent (at-steps-lent c))) in
     let h = at-ceilings (at-steps r) in
     let l = at-floors (at-high h) in
-    let f = from-floors l .fits in
-    rw (toZ-ofZ (f .lowest), toZ-ofZ (f .highest), low l .same, high h .same, steps r .same) at (c .«open» .ensures)
+    rw (lowest-seen l, highest-seen l, low l .same, high h .same, steps r .same) at (c .«open» .ensures)
 
 pub open-lists-spec : {M : Type 1} → statement M
 open-lists-spec =

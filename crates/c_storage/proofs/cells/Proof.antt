@@ -1,3 +1,5 @@
+-- `cells` meets its contract: the first k places hold the first k cells, each at most `most` (`Filled`), and a turn fills the next one (`filled-more`).
+-- The measure is the cells left.
 use Prim.Native.Nat.{_+_, _-_, _*_, min}
 use Rattle.base_little_endian.specs.Fields.{u16At}
 use Rattle.theory_lists.specs.Filled.{Filled, filled-none, filled-more, filled-all}

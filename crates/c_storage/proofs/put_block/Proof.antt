@@ -1,3 +1,4 @@
+-- `put_block` meets its contract: the cells are stored, and zeros after them, which together are the block (`laid-last`).
 use Prim.Native.Nat.{_+_, _-_, _*_}
 use mathlib.Core.Path.{_≡_, ap, _∙_}
 use lib.ListN.{replicate}
@@ -12,13 +13,25 @@ use native.Mathlib.Omega.{arith}
 use Rattle.c_storage.proofs.put_block.Statement.{statement}
 use Rattle.c_storage.proofs.put_block.Tie as tie
 
+-- the places on the way, each from the next: the cells are stored, and the zeros
+abbrev at-start : tie.After-put-cells → tie.Start
+at-start c = c .before .before .before
+
+abbrev at-cells : tie.After-put-zeros → tie.After-put-cells
+at-cells c = c .before .before .before .before
+
+abbrev at-zeros : tie.After-slice-known3 → tie.After-put-zeros
+at-zeros c = c .before .before
+
 returns : tie.Need-returns
 unfolding blockBytes
 returns c =
-    let a = c .before .before .before .before .before .before .before .before .before .args in
+    let z = at-zeros c in
+    let p = at-cells z in
+    let a = at-start p .args in
     let q : a .place + 1024 - (a .place + a .n * 2) ≡ (512 - a .n) * 2 = omega arith in
-    laid-last (laid (a .out .now) (a .place) (cellBytes (at (a .cells .now)) (a .n)) (c .before .before .before .before .before .before .put-cells .ensures) (cells-length _ (a .n)))
-    (replicate ((512 - a .n) * 2) 0) (c .before .before .put-zeros .ensures ∙ ap (λ m. sets (c .before .before .before .before .before .before .put-cells .last .1 .1 .1 .0) (a .place + a .n * 2) (replicate m 0)) q)
+    laid-last (laid (a .out .now) (a .place) (cellBytes (at (a .cells .now)) (a .n)) (p .put-cells .ensures) (cells-length _ (a .n)))
+    (replicate ((512 - a .n) * 2) 0) (z .put-zeros .ensures ∙ ap (λ m. sets (p .put-cells .last .1 .1 .1 .0) (a .place + a .n * 2) (replicate m 0)) q)
 
 pub put-block-spec : {M : Type 1} → statement M
 put-block-spec =

@@ -1,3 +1,4 @@
+-- `put_ranges` meets its contract: the floors' block is stored, and the ceilings' block after it (`laid-last`).
 use Rattle.c_storage.specs.Layout.{blockBytes}
 use Rattle.c_storage.proofs.Lengths.{block-length}
 use Rattle.c_storage.proofs.Laws.{laid, laid-last}
@@ -5,12 +6,24 @@ use borrow.Author.Needs.{needs}
 use Rattle.c_storage.proofs.put_ranges.Statement.{statement}
 use Rattle.c_storage.proofs.put_ranges.Tie as tie
 
+-- the places on the way, each from the next: the floors are stored, and the ceilings
+abbrev at-start : tie.After-put-block → tie.Start
+at-start c = c .before .before .before .before .before .before
+
+abbrev at-floors : tie.After-put-block2 → tie.After-put-block
+at-floors c = c .before .before .before .before .before
+
+abbrev at-ceilings : tie.After-slice-known3 → tie.After-put-block2
+at-ceilings c = c .before .before
+
 returns : tie.Need-returns
 returns c =
-    let start = c .before .before .before .before .before .before .before .before .before .before .before .before .before in
+    let h = at-ceilings c in
+    let l = at-floors h in
+    let start = at-start l in
     let a = start .args in
-    laid-last (laid (a .out .now) (a .place) (blockBytes (a .ranges .floors) (a .n)) (c .before .before .before .before .before .before .before .put-block .ensures) (block-length _ (a .n) (start .pre .0)))
-    (blockBytes (a .ranges .ceilings) (a .n)) (c .before .before .put-block2 .ensures)
+    laid-last (laid (a .out .now) (a .place) (blockBytes (a .ranges .floors) (a .n)) (l .put-block .ensures) (block-length _ (a .n) (start .pre .0)))
+    (blockBytes (a .ranges .ceilings) (a .n)) (h .put-block2 .ensures)
 
 pub put-ranges-spec : {M : Type 1} → statement M
 put-ranges-spec =

@@ -1,3 +1,4 @@
+-- `put_zeros` meets its contract: zeros stand from `from` to i (`Stored`), and a turn stores the next one (`stored-more`). The measure is the zeros left.
 use Prim.Native.Nat.{_+_, _-_}
 use mathlib.Core.Path.{_≡_, refl}
 use mathlib.Core.List.{[], _∷_}

@@ -1,3 +1,4 @@
+-- `ranges` meets its contract: the ranges are put together from what each call gave, field by field.
 use Rattle.c_storage.specs.Layout.{rangesAt}
 use borrow.Author.Needs.{needs}
 use Rattle.c_storage.proofs.ranges.Statement.{statement}
