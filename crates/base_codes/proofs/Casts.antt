@@ -58,22 +58,39 @@ outside low high z h = go (within low high z) (λ e. h (within-yes low high z .0
     go true n = absurd (n refl)
     go false n = refl
 
-module _ {low high z : ℤ} (fl : SFits w32 low) (fh : SFits w32 high) (fz : SFits w32 z) where
-  pub below : ltZ (seen z) (seen low) ≡ true → Outside ≡ coded low high z
-  below t = outside low high z (λ l u. clashℤ (test-yes fz fl t) l)
+-- a number and its bounds have 32 bits
+pub record Words (low high z : ℤ) : Type 0 where
+  pub low-fits : SFits w32 low
+  pub high-fits : SFits w32 high
+  pub z-fits : SFits w32 z
 
-  pub above : ltZ (seen high) (seen z) ≡ true → Outside ≡ coded low high z
-  above t = outside low high z (λ l u. clashℤ (test-yes fh fz t) u)
+-- and neither test has found the number outside; the greatest code fits
+pub record Tested (low high z : ℤ) : Type 0 where
+  pub words : Words low high z
+  pub most : code low high ≤ 2147483647
+  pub not-below : ltZ (seen z) (seen low) ≡ false
+  pub not-above : ltZ (seen high) (seen z) ≡ false
 
-  module _ (h : code low high ≤ 2147483647) (l : ltZ (seen z) (seen low) ≡ false) (u : ltZ (seen high) (seen z) ≡ false) where
+module _ {low high z : ℤ} where
+  module _ (w : Words low high z) where
+    pub below : ltZ (seen z) (seen low) ≡ true → Outside ≡ coded low high z
+    below t = outside low high z (λ l u. clashℤ (test-yes (w .z-fits) (w .low-fits) t) l)
+
+    pub above : ltZ (seen high) (seen z) ≡ true → Outside ≡ coded low high z
+    above t = outside low high z (λ l u. clashℤ (test-yes (w .high-fits) (w .z-fits) t) u)
+
+  module _ (h : Tested low high z) where
+    at-least : low ≤ℤ z
+    at-least = test-no (h .words .z-fits) (h .words .low-fits) (h .not-below)
+
     inside : within low high z ≡ true
-    inside = within-yes low high z .1 (test-no fz fl l, test-no fh fz u)
+    inside = within-yes low high z .1 (at-least, test-no (h .words .high-fits) (h .words .z-fits) (h .not-above))
 
     difference : seen z -ℤ seen low ≡ pos (code low z)
-    difference = rw (toZ-ofZ fz, toZ-ofZ fl) (code-difference low z (test-no fz fl l))
+    difference = rw (toZ-ofZ (h .words .z-fits), toZ-ofZ (h .words .low-fits)) (code-difference low z at-least)
 
     fits : SFits w32 (pos (code low z))
-    fits = record { sfits = omega (arith, code-most low high z inside) }
+    fits = record { sfits = omega (arith, h .most, code-most low high z inside) }
 
     pub sub-fits : SFits w32 (seen z -ℤ seen low)
     sub-fits = rw difference fits
@@ -82,7 +99,7 @@ module _ {low high z : ℤ} (fl : SFits w32 low) (fh : SFits w32 high) (fz : SFi
     same = toZ-ofZ sub-fits ∙ difference
 
     pub cast-fits : T (nonNeg (seen (seen z -ℤ seen low))) × Fits w64 (natAbs (seen (seen z -ℤ seen low)))
-    cast-fits = rw same (tt, record { fits = omega (arith, code-most low high z inside) })
+    cast-fits = rw same (tt, record { fits = omega (arith, h .most, code-most low high z inside) })
 
     pub taken : Code (natAbs (seen (seen z -ℤ seen low))) ≡ coded low high z
     taken = rw (same, inside)

@@ -33,9 +33,15 @@ module _ {low high : ℤ} (fl : SFits w32 low) (fh : SFits w32 high) where
       → Encoded xs first r out low high
   encoded-seen xs first r out e = rw (toZ-ofZ fl, toZ-ofZ fh) at e
 
+-- the first i numbers are within their bounds, and their codes are stored
 pub record Upto (low high : ℤ) (xs : List ℤ) (first : List ℕ) (i : ℕ) (out : List ℕ) : Type 0 where
   pub inside : Nowhere (λ k. not (within low high (on xs k))) (length xs) i
   pub made : out ≡ written (λ k. code low (on xs k)) i first
+
+-- a turn's answer, on the element cast to 32 bits
+pub record Answered (low high : ℤ) (xs : List ℤ) (i : ℕ) (r : Coded) : Type 0 where
+  pub fits : SFits w16 (on xs i)
+  pub cast : r ≡ coded low high (seen (toZ w16 (ofZ w16 (on xs i))))
 
 pub start : (low high : ℤ) (xs : List ℤ) (first : List ℕ) → Upto low high xs first 0 first
 start low high xs first = record { inside = nowhere-none; made = sym (written-none _ first) }
@@ -48,13 +54,12 @@ module _ {low high : ℤ} {xs : List ℤ} {first : List ℕ} {i : ℕ} {out : Li
   pub ends : length xs ≤ i → Encoded xs first i out low high
   ends l = stops (λ h. absurd (omega arith)) (λ h. absurd (omega arith))
 
-  -- with the answer of a turn, on the element cast to 32 bits
-  module _ {r : Coded} (f : SFits w16 (on xs i)) (e : r ≡ coded low high (seen (toZ w16 (ofZ w16 (on xs i))))) where
+  module _ {r : Coded} (a : Answered low high xs i r) where
     answer : r ≡ coded low high (on xs i)
-    answer = rw (recast w16 w32 f (sfits-widen tt f)) at e
+    answer = rw (recast w16 w32 (a .fits) (sfits-widen tt (a .fits))) at (a .cast)
 
     pub leaves : r ≡ Outside → Encoded xs first i out low high
-    leaves o = stops (λ _. coded-outside low high (on xs i) answer o) (λ _. setpoint-within f)
+    leaves o = stops (λ _. coded-outside low high (on xs i) answer o) (λ _. setpoint-within (a .fits))
 
     module _ {c : ℕ} (o : r ≡ Code c) where
       pub code-fits : code low high ≤ 65535 → Fits w16 c

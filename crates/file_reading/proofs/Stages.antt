@@ -1,4 +1,4 @@
--- What `read` gives, by what its tests found: a law for each refusal, and one for a file that is taken whole.
+-- What `read_contents` gives, by what its calls gave; and `read`, by what its tests found: a law for each refusal, and one for a file taken whole.
 use mathlib.Core.Path.{_≡_, ap, sym, _∙_}
 use mathlib.Core.Bool.{or-true}
 use mathlib.Core.List.{List}
@@ -8,11 +8,31 @@ use lib.ListN.{length}
 use borrow.Author.Tests.{ne-eqb, lt-ltb}
 use Rattle.theory_lists.specs.Written.{written}
 use Rattle.theory_lists.specs.Lent.{lentList, list-left, list-filled}
-use Rattle.file_format.specs.Format.{dayCount, floorAt, ceilingAt, riseAt}
+use Rattle.session_cuts.specs.declared.Sheet.{Sheet}
+use Rattle.file_format.specs.Format.{dayOffset, dayCount, cutCount, totalFloorAt, totalCeilingAt, floorAt, ceilingAt, riseAt}
 use Rattle.file_format.specs.Reading.{earlyReading, readingRefusal}
 use Rattle.file_reading.specs.declared.ReadAnswer.{ReadAnswer}
-use Rattle.file_reading.specs.Reading.{refusedRead, contents, readFrom}
+use Rattle.file_reading.specs.Reading.{sheetFrom, refusedRead, contents, readFrom}
 use Rattle.file_reading.proofs.Laws.{Room, read-all}
+
+-- ---- read_contents
+
+-- what its calls gave of the file
+pub record Gave (b : List ℕ) (d m : ℕ) (low high : ℤ) (s : Sheet) : Type 0 where
+  pub days : d ≡ dayCount b
+  pub cuts : m ≡ cutCount b
+  pub lowest : low ≡ totalFloorAt b
+  pub highest : high ≡ totalCeilingAt b
+  pub sheet : s ≡ sheetFrom b (dayOffset d) m
+
+abbrev answer : ℕ → ℤ → ℤ → Sheet → ReadAnswer
+answer d low high s = record { refusal = 0; days = d; lowest = low; highest = high; sheet = s }
+
+pub contents-as : {b : List ℕ} {d m : ℕ} {low high : ℤ} {s : Sheet} → Gave b d m low high s → answer d low high s ≡ contents b
+unfolding contents
+contents-as {b} g i = answer (g .days i) (g .lowest i) (g .highest i) ((g .sheet ∙ (λ j. sheetFrom b (dayOffset (g .days j)) (g .cuts j))) i)
+
+-- ---- read
 
 -- a file's bytes and the lists that are lent for its floors, ceilings and rises
 pub record CutCall : Type 0 where

@@ -1,3 +1,4 @@
+-- `decode` meets its contract: the sum is the decoded number, and fits (`shown`, `add-fits` of Casts).
 use borrow.Author.Needs.{needs}
 use Rattle.base_codes.proofs.Casts.{add-fits, shown}
 use Rattle.base_codes.proofs.decode.Statement.{statement}

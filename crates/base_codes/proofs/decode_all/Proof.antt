@@ -1,3 +1,4 @@
+-- `decode_all` meets its contract: the first k codes are decoded (`Filled`). The measure is the codes left.
 use Prim.Native.Nat.{_-_}
 use lib.ListN.{getD}
 use Rattle.theory_lists.specs.Filled.{Filled, filled-none, filled-more, filled-all}
@@ -19,16 +20,24 @@ abbrev μ-loop : tie.MeasureT-loop
 loop-holds : tie.Need-loop-holds Inv-loop μ-loop
 loop-holds c = filled-none
 
+-- the places on the way: a turn begins, its code is ready
+abbrev at-start : tie.In-loop Inv-loop μ-loop → tie.Start Inv-loop μ-loop
+at-start c = c .before .before
+
+abbrev at-turn : tie.After-decode-short-arg Inv-loop μ-loop → tie.In-loop Inv-loop μ-loop
+at-turn c = c .before
+
 decode-short-requires : tie.Need-decode-short-requires Inv-loop μ-loop
 decode-short-requires c κs =
-    let s = c .before .before .before in
+    let s = at-start (at-turn c) in
     (low-seen (s .fits .low) (s .pre .0), s .pre .3 _ (omega arith))
 
 loop-again : tie.Need-loop-again Inv-loop μ-loop
 loop-again c =
-    let s = c .before .before .before .before in
-    let l = c .before .before .loop-test .taken in
-    filled-more (c .before .before .before .loop .inv) l (short-seen (s .fits .low) (s .pre .0, s .pre .3 (c .before .before .before .loop .k) l) (c .decode-short .ensures))
+    let t = at-turn (c .before) in
+    let s = at-start t in
+    let more = t .loop-test .taken in
+    filled-more (t .before .loop .inv) more (short-seen (s .fits .low) (s .pre .0, s .pre .3 (t .before .loop .k) more) (c .decode-short .ensures))
 
 returns : tie.Need-returns Inv-loop μ-loop
 returns c =

@@ -1,3 +1,4 @@
+-- `decode_short` meets its contract: what `decode` gave fits 16 bits (`short-fits`), so the cast keeps it.
 use mathlib.Core.Path.{_∙_}
 use mir.Facts.{sfits-widen}
 use mir.Syntax.{w16, w32}

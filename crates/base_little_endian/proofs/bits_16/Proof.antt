@@ -1,3 +1,4 @@
+-- `bits_16` meets its contract: of the bits at 32 bits the lowest 16 are kept (`widened-bits`).
 use Rattle.base_little_endian.proofs.Casts.{widened-fits, widened-bits}
 use borrow.Author.Needs.{needs}
 use Rattle.base_little_endian.proofs.bits_16.Statement.{statement}

@@ -1,3 +1,4 @@
+-- `bits_32` meets its contract: below 0 by the distance from the lowest number (`negative-bits`), else the number itself (`whole-bits`).
 use mir.Syntax.{w32}
 use Rattle.base_little_endian.proofs.Casts.{sub-fits, distance-fits, negative-fits, negative-bits, whole-fits, whole-bits}
 use Rattle.base_little_endian.proofs.bits_32.Statement.{statement}

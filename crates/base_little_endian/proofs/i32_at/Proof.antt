@@ -1,3 +1,4 @@
+-- `i32_at` meets its contract: the word that was read, as a signed number.
 use mathlib.Core.Path.{ap, _∙_}
 use mir.Facts.{toZ-ofZ}
 use mir.Syntax.{w32}

@@ -1,3 +1,4 @@
+-- `put_u16` meets its contract: two bytes stored one after the other are `sets` of both.
 use mathlib.Core.Path.{refl}
 use lib.ListN.{length-set}
 use native.Mathlib.Numerals.{add-one}

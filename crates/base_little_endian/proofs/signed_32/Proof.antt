@@ -1,3 +1,4 @@
+-- `signed_32` meets its contract: from half on, the lowest number and what is above half (`signed` of Casts).
 use mir.Syntax.{w32}
 use Rattle.base_little_endian.proofs.Casts.{add-fits, signed}
 use borrow.Author.Needs.{needs}

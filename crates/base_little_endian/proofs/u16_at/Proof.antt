@@ -1,3 +1,4 @@
+-- `u16_at` meets its contract: the sum of both bytes, which are less than 256.
 use Rattle.base_little_endian.specs.Fields.{u16At}
 use borrow.Author.Needs.{needs}
 use native.Mathlib.Omega.{arith}

@@ -1,3 +1,4 @@
+-- `u32_at` meets its contract: the sum of both words, which are less than 65,536.
 use Rattle.base_little_endian.specs.Fields.{u32At}
 use borrow.Author.Needs.{needs}
 use native.Mathlib.Omega.{arith}

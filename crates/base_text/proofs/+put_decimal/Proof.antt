@@ -1,4 +1,4 @@
--- `text::put_decimal` meets its contract, by Laws' `Led` where the arms meet. The measure is the number. Assumes nothing.
+-- `put_decimal` meets its contract, by `Led` of Laws where the arms meet. The measure of the recursion is the number.
 use Prim.Native.Nat.{ℕ, _<_}
 use mathlib.Core.Path.{_∙_}
 use mathlib.Core.Logic.{⊎-elim}

@@ -1,4 +1,4 @@
--- `text::magnitude` meets its contract: - 1 less a negative number. Assumes nothing.
+-- `magnitude` meets its contract: -1 less a negative number, and 1 more, are how far it is below 0.
 use Rattle.base_text.proofs.Laws.{sub-fits, cast-fits, add-fits, magnitude}
 use Rattle.base_text.proofs.magnitude.Statement.{statement}
 use Rattle.base_text.proofs.magnitude.Tie as tie

@@ -1,4 +1,4 @@
--- `text::put` meets its contract: the loop of series' `Copied`. The measure is what is left of the text. Assumes nothing.
+-- `put` meets its contract: the first i bytes of the text are copied (`Copied` of Rows). The measure is what is left of the text.
 use Prim.Native.Nat.{_-_}
 use mathlib.Core.Path.{refl}
 use lib.ListN.{length}

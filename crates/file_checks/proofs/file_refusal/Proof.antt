@@ -8,7 +8,7 @@ use Rattle.file_checks.proofs.Laws.{Header, Counted, Laid, no-header, c
 use Rattle.file_checks.proofs.file_refusal.Statement.{statement}
 use Rattle.file_checks.proofs.file_refusal.Tie as tie
 
--- ---- the places on the way: the file has a header, its counts are read and judged, its layout is judged
+-- ---- the places on the way: the file has a header, its counts are read and judged, its layout is judged; each test, seen from where it is made
 
 abbrev at-start : tie.Else1 → tie.Start
 at-start c = c .before .before
@@ -22,31 +22,44 @@ at-days c = c .before .before
 abbrev at-counts : tie.After-counts-refusal → tie.After-wide2
 at-counts c = c .before
 
+abbrev test-counts : tie.After-counts-refusal → tie.After-counts-refusal
+test-counts c = c
+
 abbrev at-counted : tie.After-layout-refusal → tie.Else2
 at-counted c = c .before
 
--- the file's bytes, seen from where its counts are read
+abbrev test-layout : tie.After-layout-refusal → tie.After-layout-refusal
+test-layout c = c
+
+abbrev at-laid : tie.After-fields-refusal → tie.Else3
+at-laid c = c .before
+
+-- where the counts were read, seen from where they have passed, and from where the layout has
+abbrev from-counted : tie.Else2 → tie.After-wide2
+from-counted c = at-counts (test-counts (c .before))
+
+abbrev from-laid : tie.Else3 → tie.After-wide2
+from-laid c = from-counted (at-counted (test-layout (c .before)))
+
+-- the file's bytes, and the counts
 abbrev bytes : tie.After-wide2 → List ℕ
 bytes c = at-start (at-header (at-days c)) .args .bytes .now
 
-abbrev judged : tie.Else2 → tie.After-wide2
-judged c = at-counts (c .before)
-
-abbrev laid-out : tie.Else3 → tie.After-wide2
-laid-out c = judged (at-counted (c .before))
+abbrev days : tie.After-wide2 → ℕ
+days c = at-days c .wide .result
 
 -- ---- what has passed
 
-header : (c : tie.After-wide2) → Header (bytes c) (at-days c .wide .result) (c .wide2 .result)
+header : (c : tie.After-wide2) → Header (bytes c) (days c) (c .wide2 .result)
 header c =
     let d = at-days c in
     record { long = at-header d .if1 .left; said = record { days = d .wide .ensures .0 ∙ d .before .u16-at .ensures; cuts = c .wide2 .ensures .0 ∙ c .before .u16-at2 .ensures } }
 
-counted : (c : tie.Else2) → Counted (bytes (judged c)) (at-days (judged c) .wide .result) (judged c .wide2 .result)
-counted c = record { header = header (judged c); none = sym (c .before .counts-refusal .ensures) ∙ c .if2 .left }
+counted : (c : tie.Else2) → let k = from-counted c in Counted (bytes k) (days k) (k .wide2 .result)
+counted c = record { header = header (from-counted c); none = sym (test-counts (c .before) .counts-refusal .ensures) ∙ c .if2 .left }
 
-laid : (c : tie.Else3) → Laid (bytes (laid-out c)) (at-days (laid-out c) .wide .result) (laid-out c .wide2 .result)
-laid c = let l = c .before in record { counted = counted (at-counted l); none = sym (l .layout-refusal .ensures) ∙ c .if3 .left }
+laid : (c : tie.Else3) → let k = from-laid c in Laid (bytes k) (days k) (k .wide2 .result)
+laid c = let l = test-layout (c .before) in record { counted = counted (at-counted l); none = sym (l .layout-refusal .ensures) ∙ c .if3 .left }
 
 -- ---- the ways out
 
@@ -54,7 +67,7 @@ returns : tie.Need-returns
 returns c = no-header _ (c .if1 .taken)
 
 returns-2 : tie.Need-returns-2
-returns-2 c = let j = c .before in counts-refused _ (header (at-counts j)) (j .counts-refusal .ensures) (c .if2 .taken)
+returns-2 c = let j = test-counts (c .before) in counts-refused _ (header (at-counts j)) (j .counts-refusal .ensures) (c .if2 .taken)
 
 layout-refusal-requires : tie.Need-layout-refusal-requires
 layout-refusal-requires c κs =
@@ -64,7 +77,7 @@ layout-refusal-requires c κs =
     (k .header .long, s .days, s .cuts, omega (arith, s .days), omega (arith, s .cuts))
 
 returns-3 : tie.Need-returns-3
-returns-3 c = let l = c .before in layout-refused _ (counted (at-counted l)) (l .layout-refusal .ensures) (c .if3 .taken)
+returns-3 c = let l = test-layout (c .before) in layout-refused _ (counted (at-counted l)) (l .layout-refusal .ensures) (c .if3 .taken)
 
 fields-refusal-requires : tie.Need-fields-refusal-requires
 fields-refusal-requires c κs =
@@ -74,7 +87,7 @@ fields-refusal-requires c κs =
     (whole-here _ k, s .days, s .cuts, omega (arith, s .days), omega (arith, s .days), omega (arith, s .cuts))
 
 returns-4 : tie.Need-returns-4
-returns-4 c = fields-last _ (laid (c .before)) (c .fields-refusal .ensures)
+returns-4 c = fields-last _ (laid (at-laid c)) (c .fields-refusal .ensures)
 
 pub file-refusal-spec : {M : Type 1} → statement M
 file-refusal-spec =

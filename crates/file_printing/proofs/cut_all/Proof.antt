@@ -1,4 +1,4 @@
--- `cut_all` meets its contract: the loop of Laws, `Applied`. The measure is the cuts left.
+-- `cut_all` meets its contract: the first j cuts are applied (`Applied` of Laws). The measure is the cuts left.
 use Prim.Native.Nat.{_-_}
 use lib.ListN.{getD}
 use Rattle.session_cuts.specs.Sheet.{blank}

@@ -8,35 +8,31 @@ use Rattle.file_reading.proofs.Stages.{CutCall, Counted, file-refused, 
 use Rattle.file_reading.proofs.read.Statement.{statement}
 use Rattle.file_reading.proofs.read.Tie as tie
 
--- ---- the places on the way: the file is judged, it passes, its days are counted, the lists have room, the days are stored
+-- ---- the places on the way: the file is judged and passes, its days are counted; each test, seen from where it is made; the days are stored
 
 abbrev at-start : tie.After-file-refusal → tie.Start
 at-start c = c .before .before
 
-abbrev at-judged : tie.Else1 → tie.After-file-refusal
-at-judged c = c .before
+abbrev test-file : tie.After-file-refusal → tie.After-file-refusal
+test-file c = c
 
 abbrev at-passed : tie.After-wide → tie.Else1
 at-passed c = c .before .before
 
-abbrev at-floors : tie.Else3 → tie.Else2
-at-floors c = c .before
+abbrev test-floors : tie.After-wide → tie.After-wide
+test-floors c = c
 
-abbrev at-counted : tie.Else2 → tie.After-wide
-at-counted c = c .before
+abbrev test-ceilings : tie.Else2 → tie.After-wide
+test-ceilings c = test-floors (c .before)
 
-abbrev at-ceilings : tie.Else4 → tie.Else3
-at-ceilings c = c .before
+abbrev test-rises : tie.Else3 → tie.After-wide
+test-rises c = test-ceilings (c .before)
 
-abbrev at-room : tie.After-store-days-arg3 → tie.Else4
-at-room c = c .before .before .before
+abbrev at-storing : tie.After-store-days-arg3 → tie.After-wide
+at-storing c = test-rises (c .before .before .before .before)
 
 abbrev at-stored : tie.After-rises → tie.After-store-days
 at-stored c = c .before .before .before
-
--- the days' count, seen from where the lists have room
-abbrev from-room : tie.Else4 → tie.After-wide
-from-room c = at-counted (at-floors (at-ceilings c))
 
 -- ---- what is known at them
 
@@ -45,10 +41,10 @@ handed c = let a = at-start c .args in record { bytes = a .bytes .now; floors = 
 
 -- what the days' count was taken of
 abbrev read-from : tie.After-wide → CutCall
-read-from c = handed (at-judged (at-passed c))
+read-from c = handed (test-file (at-passed c .before))
 
-passed : (c : tie.Else1) → earlyReading (handed (at-judged c) .bytes) ≡ 0
-passed c = sym (at-judged c .file-refusal .ensures) ∙ c .if1 .left
+passed : (c : tie.Else1) → earlyReading (handed (test-file (c .before)) .bytes) ≡ 0
+passed c = sym (test-file (c .before) .file-refusal .ensures) ∙ c .if1 .left
 
 counted : (c : tie.After-wide) → Counted (read-from c .bytes) (c .wide .result)
 counted c = record { passed = passed (at-passed c); days = c .wide .ensures .0 ∙ c .before .u16-at .ensures }
@@ -60,7 +56,7 @@ whole c = taken _ (passed (at-passed c))
 
 returns : tie.Need-returns
 returns c =
-    let f = c .before .before in
+    let f = test-file (c .before .before) in
     let some = c .before .if1 .taken in
     refused-by (handed f) (c .refused .ensures) (file-refused (handed f) (f .file-refusal .ensures) some) some
 
@@ -71,34 +67,34 @@ u16-at-requires c κs = omega (arith, taken _ (passed c) .whole)
 
 returns-2 : tie.Need-returns-2
 returns-2 c =
-    let n = c .before .before in
+    let n = test-floors (c .before .before) in
     refused-by (read-from n) (c .refused2 .ensures) (no-floors (read-from n) (counted n) (omega arith)) (λ z. omega arith)
 
 returns-3 : tie.Need-returns-3
 returns-3 c =
-    let n = at-counted (c .before .before) in
+    let n = test-ceilings (c .before .before) in
     refused-by (read-from n) (c .refused3 .ensures) (no-ceilings (read-from n) (counted n) (omega arith)) (λ z. omega arith)
 
 sub-if4 : tie.Need-sub-if4
-sub-if4 c = let n = at-counted (at-floors c) in omega (arith, whole n .some, counted n .days)
+sub-if4 c = let n = test-rises c in omega (arith, whole n .some, counted n .days)
 
 returns-4 : tie.Need-returns-4
 returns-4 c =
-    let n = at-counted (at-floors (c .before .before)) in
+    let n = test-rises (c .before .before) in
     refused-by (read-from n) (c .refused4 .ensures) (no-rises (read-from n) (counted n) (omega arith)) (λ z. omega arith)
 
 -- ---- the file is taken
 
 store-days-requires : tie.Need-store-days-requires
 store-days-requires c κs =
-    let n = from-room (at-room c) in
+    let n = at-storing c in
     let w = whole n in
     let e = counted n .days in
     (omega arith, omega arith, omega arith, omega arith, omega arith)
 
 read-contents-requires : tie.Need-read-contents-requires
 read-contents-requires c κs =
-    let n = from-room (at-room (at-stored c .before)) in
+    let n = at-storing (at-stored c .before) in
     let w = whole n in
     let e = counted n .days in
     (e, omega arith, omega arith, w .fewCuts)
@@ -106,7 +102,7 @@ read-contents-requires c κs =
 returns-5 : tie.Need-returns-5
 returns-5 c =
     let d = at-stored (c .before) in
-    let n = from-room (at-room (d .before)) in
+    let n = at-storing (d .before) in
     let e = d .store-days .ensures in
     taken-whole (read-from n) (c .read-contents .ensures) (counted n)
     (record { floors-long = omega arith; ceilings-long = omega arith; rises-long = omega arith; floors-stored = e .0; ceilings-stored = e .1 .0; rises-stored = e .1 .1 })

@@ -1,24 +1,46 @@
--- `read_contents` meets its contract: each call gave a field of the contents (`cc` finds them), and the total's bounds are read back from machine words.
+-- `read_contents` meets its contract: each call gave a field of the contents (`contents-as`); the total's bounds are read back from machine words.
+use mathlib.Core.Path.{_∙_}
 use mir.Syntax.{w32}
+use mir.Val.{toZ, ofZ}
 use mir.Facts.{toZ-ofZ}
 use borrow.Author.Needs.{sfits-of, needs}
-use Rattle.file_reading.specs.Reading.{contents}
+use Rattle.file_reading.proofs.Stages.{Gave, contents-as}
 use Rattle.file_reading.proofs.read_contents.Statement.{statement}
 use Rattle.file_reading.proofs.read_contents.Tie as tie
 
--- the places on the way: the total's bounds are read, the cuts are counted
+-- the places on the way: the total's bounds are read, the cuts are counted, and read
+abbrev at-start : tie.After-i32-at → tie.Start
+at-start c = c .before .before
+
 abbrev at-lowest : tie.After-i32-at2 → tie.After-i32-at
 at-lowest c = c .before
 
 abbrev at-highest : tie.After-wide → tie.After-i32-at2
 at-highest c = c .before .before
 
-returns : tie.Need-returns
-unfolding contents
-returns c =
-    let h = at-highest (c .before) in
+abbrev at-counted : tie.After-read-sheet → tie.After-wide
+at-counted c = c .before
+
+gave : (c : tie.After-read-sheet)
+    → let n = at-counted c in
+    let h = at-highest n in
     let l = at-lowest h in
-    cc (toZ-ofZ {w = w32} {z = l .i32-at .result} (sfits-of (l .i32-at .ok)), toZ-ofZ {w = w32} {z = h .i32-at2 .result} (sfits-of (h .i32-at2 .ok)))
+    let a = at-start l .args in
+    Gave (a .bytes .now) (a .days) (n .wide .result) (toZ w32 (ofZ w32 (l .i32-at .result))) (toZ w32 (ofZ w32 (h .i32-at2 .result))) (c .read-sheet .result)
+gave c =
+    let n = at-counted c in
+    let h = at-highest n in
+    let l = at-lowest h in
+    record {
+      days = at-start l .pre .0;
+      cuts = n .wide .ensures .0 ∙ n .before .u16-at .ensures;
+      lowest = toZ-ofZ (sfits-of (l .i32-at .ok)) ∙ l .i32-at .ensures;
+      highest = toZ-ofZ (sfits-of (h .i32-at2 .ok)) ∙ h .i32-at2 .ensures;
+      sheet = c .read-sheet .ensures;
+    }
+
+returns : tie.Need-returns
+returns c = contents-as (gave c)
 
 pub read-contents-spec : {M : Type 1} → statement M
 read-contents-spec =

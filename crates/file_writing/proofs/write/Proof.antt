@@ -10,13 +10,11 @@ use borrow.Author.Needs.{needs}
 use Rattle.file_writing.proofs.write.Statement.{statement}
 use Rattle.file_writing.proofs.write.Tie as tie
 
--- ---- the places on the way: the sheet is unpacked, the cuts are few, profile and cuts are judged, each passes, the output has room, the parts are stored
+-- ---- the places on the way: the sheet is unpacked, the cuts are few, the profile and the cuts are judged; each test, seen from where it is made;
+-- the parts are stored
 
 abbrev at-start : tie.After-entries → tie.Start
 at-start c = c .before .before
-
-abbrev at-unpacked : tie.Else1 → tie.After-entries
-at-unpacked c = c .before
 
 abbrev at-few : tie.After-profile-refusal → tie.Else1
 at-few c = c .before
@@ -24,14 +22,14 @@ at-few c = c .before
 abbrev at-profile : tie.After-entries-refusal → tie.After-profile-refusal
 at-profile c = c .before
 
-abbrev at-cuts : tie.Else2 → tie.After-entries-refusal
-at-cuts c = c .before
+abbrev test-profile : tie.After-entries-refusal → tie.After-entries-refusal
+test-profile c = c
 
-abbrev at-opens : tie.Else3 → tie.Else2
-at-opens c = c .before
+abbrev test-cuts : tie.Else2 → tie.Else2
+test-cuts c = c
 
-abbrev at-checked : tie.Else4 → tie.Else3
-at-checked c = c .before
+abbrev test-room : tie.Else3 → tie.Else3
+test-room c = c
 
 abbrev at-room : tie.After-put-header-arg → tie.Else4
 at-room c = c .before
@@ -49,10 +47,13 @@ at-entries c = c .before .before
 
 -- what is handed over, seen from where the profile is judged
 abbrev handed : tie.After-profile-refusal → tie.Start
-handed c = at-start (at-unpacked (at-few c))
+handed c = at-start (at-few c .before)
 
 abbrev from-opens : tie.Else2 → tie.Start
-from-opens c = handed (at-profile (at-cuts c))
+from-opens c = handed (at-profile (test-profile (c .before)))
+
+abbrev from-checked : tie.Else3 → tie.Start
+from-checked c = from-opens (test-cuts (c .before))
 
 abbrev given : tie.Start → Profile
 given c = let a = c .args in profile (a .days) (a .floors .now) (a .ceilings .now) (a .rises .now) (a .lowest) (a .highest)
@@ -62,13 +63,13 @@ by-opening : (c : tie.After-profile-refusal) → c .profile-refusal .result ≡ 
 by-opening c = let f = handed c .fits in rw (toZ-ofZ (f .lowest), toZ-ofZ (f .highest)) at (c .profile-refusal .ensures)
 
 opens : (c : tie.Else2) → Opens (given (from-opens c)) (from-opens c .args .sheet)
-opens c = let p = at-profile (at-cuts c) in record { few = at-few p .if1 .left; profile = sym (by-opening p) ∙ c .if2 .left }
+opens c = let p = at-profile (test-profile (c .before)) in record { few = at-few p .if1 .left; profile = sym (by-opening p) ∙ c .if2 .left }
 
 -- past the checks of the profile and the cuts
-checked : (c : tie.Else3) → Checked (given (from-opens (at-opens c))) (from-opens (at-opens c) .args .sheet)
-checked c = let o = at-opens c in record { opens = opens o; formed = sym (at-cuts o .entries-refusal .ensures) ∙ c .if3 .left }
+checked : (c : tie.Else3) → Checked (given (from-checked c)) (from-checked c .args .sheet)
+checked c = let o = test-cuts (c .before) in record { opens = opens o; formed = sym (test-profile (o .before) .entries-refusal .ensures) ∙ c .if3 .left }
 
-sizes : (c : tie.Else3) → Sized (given (from-opens (at-opens c)))
+sizes : (c : tie.Else3) → Sized (given (from-checked c))
 sizes c = entered _ (checked c .opens .profile) .sized
 
 -- ---- refused
@@ -78,13 +79,13 @@ returns c = too-many _ _ _ (c .before .if1 .taken) (c .refuse .ensures)
 
 returns-2 : tie.Need-returns-2
 returns-2 c =
-    let p = at-profile (c .before .before) in
+    let p = at-profile (test-profile (c .before .before)) in
     bad-profile _ _ _ (c .before .if2 .taken) (c .refuse2 .ensures) (at-few p .if1 .left) (by-opening p)
 
 returns-3 : tie.Need-returns-3
 returns-3 c =
-    let o = c .before .before in
-    bad-cut _ _ _ (c .before .if3 .taken) (c .refuse3 .ensures) (opens o) (at-cuts o .entries-refusal .ensures)
+    let o = test-cuts (c .before .before) in
+    bad-cut _ _ _ (c .before .if3 .taken) (c .refuse3 .ensures) (opens o) (test-profile (o .before) .entries-refusal .ensures)
 
 mul-from : tie.Need-mul-from
 mul-from c = omega (arith, sizes c .few)
@@ -96,21 +97,21 @@ add-length : tie.Need-add-length
 add-length c = omega (arith, sizes c .few)
 
 returns-4 : tie.Need-returns-4
-returns-4 c = too-short _ _ _ (checked (c .before .before)) (omega (arith, c .before .if4 .taken)) (c .refuse4 .ensures)
+returns-4 c = too-short _ _ _ (checked (test-room (c .before .before))) (omega (arith, c .before .if4 .taken)) (c .refuse4 .ensures)
 
 -- ---- written
 
 put-header-requires : tie.Need-put-header-requires
 put-header-requires c κs =
     let r = at-room c in
-    let k = at-checked r in
+    let k = test-room (r .before) in
     (sizes k .few, checked k .opens .few, omega (arith, r .if4 .left))
 
 put-days-requires : tie.Need-put-days-requires
 put-days-requires c κs =
     let h = at-header c in
     let r = at-room (h .before) in
-    let z = sizes (at-checked r) in
+    let z = sizes (test-room (r .before)) in
     (sym (z .floors), sym (z .ceilings), z .few, omega (arith, h .put-header .kept, r .if4 .left))
 
 put-entries-requires : tie.Need-put-entries-requires
@@ -118,7 +119,7 @@ put-entries-requires c κs =
     let d = at-days c in
     let h = at-header (d .before) in
     let r = at-room (h .before) in
-    let k = checked (at-checked r) in
+    let k = checked (test-room (r .before)) in
     (k .opens .few, omega (arith, d .put-days .kept, h .put-header .kept, r .if4 .left), entry-day _ _ k)
 
 returns-5 : tie.Need-returns-5
@@ -127,8 +128,8 @@ returns-5 c =
     let d = at-days (e .before) in
     let h = at-header (d .before) in
     let r = at-room (h .before) in
-    let k = at-checked r in
-    let f = from-opens (at-opens k) .fits in
+    let k = test-room (r .before) in
+    let f = from-checked k .fits in
     written _ _ (checked k)
     (record { room = r .if4 .left; header-stored = rw (toZ-ofZ (f .lowest), toZ-ofZ (f .highest)) at (h .put-header .ensures); days-stored = d .put-days .ensures; cuts-stored = e .put-entries .ensures })
 

@@ -1,4 +1,4 @@
--- `damaged::byte_changed` meets its contract. The measure is the other values left. Assumes nothing.
+-- `byte_changed` meets its contract: `more` is at most 255. The measure is the other values left.
 use Prim.Native.Nat.{_-_, _≤_}
 use borrow.Author.Needs.{needs}
 use Rattle.program_damaged.proofs.byte_changed.Statement.{statement}

@@ -1,4 +1,4 @@
--- `damaged::changed` meets its contract. The measure is the bytes left. Assumes nothing.
+-- `changed` meets its contract: i is within the file. The measure is the bytes left.
 use Prim.Native.Nat.{_-_, _≤_}
 use lib.ListN.{length}
 use borrow.Author.Needs.{needs}

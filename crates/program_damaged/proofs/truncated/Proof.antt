@@ -1,4 +1,4 @@
--- `damaged::truncated` meets its contract. The measure is the lengths left. Assumes nothing.
+-- `truncated` meets its contract: k is at most the file's length, so the first k bytes can be lent. The measure is the lengths left.
 use Prim.Native.Nat.{_-_, _≤_}
 use lib.ListN.{length}
 use lib.Seq.{length-take-le}

@@ -1,4 +1,4 @@
--- `damaged::with_byte` meets its contract. The list of 76 bytes keeps its length. Assumes nothing.
+-- `with_byte` meets its contract: the list of 76 bytes keeps its length, so there is room for the file.
 use Prim.Native.Nat.{_≤_}
 use mathlib.Core.Path.{sym}
 use lib.ListN.{length, set, length-set}
@@ -7,7 +7,9 @@ use borrow.Author.Needs.{needs}
 use Rattle.program_damaged.proofs.with_byte.Statement.{statement}
 use Rattle.program_damaged.proofs.with_byte.Tie as tie
 
-room : (c : tie.After-bytes2) → length (c .before .before .before .before .args .file .now) ≤ length (set (c .before .put .last .0) (c .before .before .before .before .args .i) (c .before .before .before .before .args .byte))
+room : (c : tie.After-bytes2)
+    → let a = c .before .before .before .before .args in
+    length (a .file .now) ≤ length (set (c .before .put .last .0) (a .i) (a .byte))
 room c = rw (length-set, c .before .put .ensures .0, length-sets) (c .before .before .before .before .pre .1)
 
 array-share-prefix-bytes : tie.Need-array-share-prefix-bytes

@@ -1,4 +1,4 @@
--- `ranges::drop_rest` is safe and ends. The measure is the number of turns that are left; nothing else has to hold from turn to turn. Assumes nothing.
+-- `drop_rest` is safe and ends. The measure is the number of turns left; nothing else has to hold from turn to turn.
 use native.Mathlib.Omega.{arith}
 use Rattle.program_ranges.proofs.drop_rest.Statement.{statement}
 use Rattle.program_ranges.proofs.drop_rest.Tie as tie

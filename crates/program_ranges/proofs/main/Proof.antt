@@ -1,4 +1,4 @@
--- `ranges::main` is safe: the text that was stored lies within its list. Assumes nothing.
+-- `main` is safe: the text that was stored lies within its list (`front-room`).
 use Prim.Native.Nat.{_≤_}
 use mathlib.Core.Path.{sym}
 use lib.ListN.{length}

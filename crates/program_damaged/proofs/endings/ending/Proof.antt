@@ -1,4 +1,4 @@
--- `damaged::endings::ending` meets its contract. A text that starts with a word is as long as the word. Assumes nothing.
+-- `endings::ending` meets its contract: a text that starts with a word is at least as long as the word.
 use borrow.Author.Needs.{needs}
 use native.Mathlib.Omega.{arith}
 use Rattle.program_damaged.proofs.endings.ending.Statement.{statement}

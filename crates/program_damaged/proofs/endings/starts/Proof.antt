@@ -1,4 +1,4 @@
--- `damaged::endings::starts` meets its contract. The measure is the bytes left. Assumes nothing.
+-- `endings::starts` meets its contract: i is within the word, and the word is no longer than the text. The measure is the bytes of the word left.
 use Prim.Native.Nat.{_-_, _≤_}
 use lib.ListN.{length}
 use mathlib.Core.Path.{sym}

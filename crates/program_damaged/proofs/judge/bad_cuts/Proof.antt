@@ -1,4 +1,4 @@
--- `damaged::judge::bad_cuts` meets its contract. The invariant: the cuts left lie within the file. The measure is how many they are. Assumes nothing.
+-- `judge::bad_cuts` meets its contract: the cuts left lie within the file. The measure is how many they are.
 use Prim.Native.Nat.{_+_, _*_, _≤_}
 use lib.ListN.{length}
 use borrow.Author.Needs.{needs}

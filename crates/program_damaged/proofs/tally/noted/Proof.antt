@@ -1,4 +1,4 @@
--- `damaged::tally::noted` meets its contract. The text lies within its list. Assumes nothing.
+-- `tally::noted` meets its contract: the text that was stored lies within its list (`front-room`).
 use Prim.Native.Nat.{_≤_}
 use mathlib.Core.Path.{sym}
 use lib.ListN.{length}

@@ -1,4 +1,4 @@
--- `damaged::tally::print_refusals` meets its contract. The measure is the numbers left. Assumes nothing.
+-- `tally::print_refusals` meets its contract: k is at most 13. The measure is the numbers left.
 use Prim.Native.Nat.{_-_, _≤_}
 use borrow.Author.Needs.{needs}
 use Rattle.program_damaged.proofs.tally.print_refusals.Statement.{statement}

@@ -1,4 +1,4 @@
--- `damaged::writing::back` meets its contract: the parts that are lent are as long as they say. Assumes nothing.
+-- `writing::back` meets its contract: the parts that are lent are as long as they say.
 use mathlib.Core.Path.{sym}
 use lib.Seq.{length-take-le}
 use borrow.Author.Needs.{needs}

@@ -1,4 +1,4 @@
--- `damaged::writing::same` meets its contract. The measure is the bytes left. Assumes nothing.
+-- `writing::same` meets its contract: i is within what was written, as long as the file and at most 76 bytes. The measure is the bytes left.
 use Prim.Native.Nat.{_-_, _≤_}
 use lib.ListN as ListN
 use mathlib.Core.Path.{_≡_}

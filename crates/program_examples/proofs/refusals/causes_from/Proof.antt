@@ -1,4 +1,4 @@
--- `worked::refusals::causes_from` meets its contract. The list of rises is as long as asked. Assumes nothing.
+-- `refusals::causes_from` meets its contract. The list of rises is as long as asked.
 use lib.Seq.{length-take-le}
 use mathlib.Core.Path.{sym}
 use borrow.Author.Needs.{needs}

@@ -1,4 +1,4 @@
--- `worked::refusals::lengths` meets its contract. Each list is as long as asked, since there are zeros enough. Assumes nothing.
+-- `refusals::lengths` meets its contract. Each list is as long as asked, since there are zeros enough.
 use lib.Seq.{length-take-le}
 use mathlib.Core.Path.{sym}
 use borrow.Author.Needs.{needs}

@@ -1,4 +1,4 @@
--- `worked::refusals::order` meets its contract. The measure is the causes left. Assumes nothing.
+-- `refusals::order` meets its contract: `first` is at most 10. The measure is the causes left.
 use Prim.Native.Nat.{_-_, _≤_}
 use borrow.Author.Needs.{needs}
 use Rattle.program_examples.proofs.refusals.order.Statement.{statement}
