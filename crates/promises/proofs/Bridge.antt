@@ -136,8 +136,12 @@ between low v k m n p lo hi =
     (c, le-less (decoded low m) v m (code low v) k (decoded-less low m k p) c lo, le-less v (decoded low n) (code low v) n k c (decoded-less low n k p) hi)
 
 -- a set of schedules, and the same set in codes
-module _ (p : Profile) (d : Entered p) (S : List ℤ → Type 0) (T : (ℕ → ℕ) → Type 0) (schedule : (x : List ℤ) → S x → Schedule p x)
-    (to : (x : List ℤ) → S x → T (λ k. code lowestPoint (on x k))) (of : (c : ℕ → ℕ) → T c → S (pointsOf p d c)) where
+pub record InCodes (p : Profile) (d : Entered p) (S : List ℤ → Type 0) (T : (ℕ → ℕ) → Type 0) : Type 0 where
+  pub schedule : (x : List ℤ) → S x → Schedule p x
+  pub to : (x : List ℤ) → S x → T (λ k. code lowestPoint (on x k))
+  pub of : (c : ℕ → ℕ) → T c → S (pointsOf p d c)
+
+module _ (p : Profile) (d : Entered p) (S : List ℤ → Type 0) (T : (ℕ → ℕ) → Type 0) (m : InCodes p d S T) where
   -- a range of codes that spans the set in codes, decoded, spans the set: for a day's setpoint and for the total alike
   module _ (low : ℤ) (k : ℕ) (offset : Less low 0 k) (f : List ℤ → ℤ) (g : (ℕ → ℕ) → ℕ)
       (same : (x : List ℤ) (c : ℕ → ℕ) → length x ≡ p .days → ((i : ℕ) → i < p .days → Less (on x i) (c i) 1000) → Less (f x) (g c) k)
@@ -153,15 +157,15 @@ module _ (p : Profile) (d : Entered p) (S : List ℤ → Type 0) (T : (ℕ → �
         let b = between low v k lo hi offset l u in
         let t = s .taken (code low v) (b .1) (b .2) in
         let here : Less (f (pointsOf p d (t .0))) (code low v) k = rw (t .2) at (same (pointsOf p d (t .0)) (t .0) (points-length p d (t .0)) (points-less p d (t .0))) in
-        (pointsOf p d (t .0), of (t .0) (t .1), less-same (f (pointsOf p d (t .0))) v (code low v) k here (b .0))
+        (pointsOf p d (t .0), m .of (t .0) (t .1), less-same (f (pointsOf p d (t .0))) v (code low v) k here (b .0))
 
     spans : Spans S f (decoded low lo) (decoded low hi)
     spans = record {
       some = less-le (decoded low lo) (decoded low hi) lo hi k bottom top (s .some);
       inside = λ x h.
           let c : ℕ → ℕ = λ i. code lowestPoint (on x i) in
-          let here : Less (f x) (g c) k = same x c (schedule x h .whole) (levels-of (coding p d) x (schedule x h)) in
-          let w = s .inside c (to x h) in
+          let here : Less (f x) (g c) k = same x c (m .schedule x h .whole) (levels-of (coding p d) x (m .schedule x h)) in
+          let w = s .inside c (m .to x h) in
           (less-le (decoded low lo) (f x) lo (g c) k bottom here (w .0), less-le (f x) (decoded low hi) (g c) hi k here top (w .1));
       taken = at-value;
     }

@@ -51,7 +51,13 @@ well-formed p (DayCeiling d v) = (day-well (p .days) d v, day-right (p .days) d 
 well-formed p (TotalFloor d v) = (total-well d v, total-right d v)
 well-formed p (TotalCeiling d v) = (total-well d v, total-right d v)
 
-module _ (p : Profile) (rs : List ℕ) (few : p .days ≤ 512) (r : Ranges) (floors : length (r .floors) ≡ 512) (ceilings : length (r .ceilings) ≡ 512) where
+-- ranges of the profile's days, in arrays of 512
+pub record InArrays (p : Profile) (r : Ranges) : Type 0 where
+  pub few : p .days ≤ 512
+  pub floors : length (r .floors) ≡ 512
+  pub ceilings : length (r .ceilings) ≡ 512
+
+module _ (p : Profile) (rs : List ℕ) (r : Ranges) (z : InArrays p r) where
   pub to-clipped : (c : Cut) → WellFormed p c → (x : ℕ → ℕ) → Within rs (p .days) r x → KeepsLevels (p .days) c x → Within rs (p .days) (clipped r c) x
   unfolding clipped
   to-clipped (DayFloor d v) h x l keeps =

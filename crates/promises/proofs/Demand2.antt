@@ -24,7 +24,7 @@ module _ (p : Profile) (d : Entered p) where
   opens : narrowed p .found ≡ true → Exact p (Schedule p) (fresh (p .days) (codes lowestRise (p .rises) (p .days - 1)) (rangesOf (narrowed p)))
   opens e =
       let t = exact (codes-bounds p d) e in
-      exact-points p d (Schedule p) (CodesOf p d) (λ x h. h) (codes-of (coding p d)) (schedule-of p d) _ (t .day) (t .total)
+      exact-points p d (Schedule p) (CodesOf p d) (record { schedule = λ x h. h; to = codes-of (coding p d); of = schedule-of p d }) _ (t .day) (t .total)
 
   no-schedule : narrowed p .found ≡ false → (x : List ℤ) → Schedule p x → ⊥
   no-schedule e x h = none (codes-bounds p d) e _ (codes-of (coding p d) x h)

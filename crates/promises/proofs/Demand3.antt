@@ -80,7 +80,7 @@ module _ (p : Profile) (d : Entered p) where
   opened-again hs (exhausted e h) u = e
 
   exactly : (hs : List CutCall) {s : Session} → Right (p .days) rs o (LevelsKept hs) s → s .spent ≡ false → Exact p (Kept p hs) s
-  exactly hs (narrowed r e w) u = rw e (exact-points p d (Kept p hs) (LevelsKept hs) (λ x k. k .schedule) (kept-levels hs) (kept-points hs) _ (w .day) (w .total))
+  exactly hs (narrowed r e w) u = rw e (exact-points p d (Kept p hs) (LevelsKept hs) (record { schedule = λ x k. k .schedule; to = kept-levels hs; of = kept-points hs }) _ (w .day) (w .total))
   exactly hs (exhausted e h) u = absurd (true≢false (sym (ap (λ (s : Session). s .spent) e) ∙ u))
 
   module _ (found : tight p .found ≡ true) where

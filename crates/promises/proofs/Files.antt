@@ -80,6 +80,13 @@ listsIn f =
       cuts = drop (dayOffset (dayCount f)) f;
     }
 
+-- each list is one of bytes
+record InBytes (l : ListsInBytes) : Type 0 where
+  floors : Bytes (l .floors)
+  ceilings : Bytes (l .ceilings)
+  rises : Bytes (l .rises)
+  cuts : Bytes (l .cuts)
+
 module _ (l : ListsInBytes) where
   abbrev n : ℕ
   n = l .days
@@ -152,16 +159,16 @@ module _ (l : ListsInBytes) where
     taken-again : Reading.earlyReading (writtenInBytes l out) ≡ 0
     taken-again = rw at-front (reads-again p (cutsInBytes b) (by-value checked) .taken)
 
-    lists-again : Bytes (l .floors) → Bytes (l .ceilings) → Bytes (l .rises) → Bytes b → listsIn (writtenInBytes l out) ≡ l
+    lists-again : InBytes l → listsIn (writtenInBytes l out) ≡ l
     unfolding Format.profileIn
-    lists-again bf bc br bb =
+    lists-again bytes =
         let r = reads-again p (cutsInBytes b) (by-value checked) in
         let long = checked .size .lists in
         let days : dayCount whole ≡ n = ap (λ (q : Profile). q .days) (r .profile) in
-        let floors : listsIn whole .floors ≡ l .floors = points-back (l .floors) _ bf (long .floors-long) days (ap (λ (q : Profile). q .floors) (r .profile)) in
-        let ceilings : listsIn whole .ceilings ≡ l .ceilings = points-back (l .ceilings) _ bc (long .ceilings-long) days (ap (λ (q : Profile). q .ceilings) (r .profile)) in
-        let rises : listsIn whole .rises ≡ l .rises = points-back (l .rises) _ br (long .rises-long) (ap (λ m. m - 1) days) (ap (λ (q : Profile). q .rises) (r .profile)) in
-        let cuts : listsIn whole .cuts ≡ b = rw days (file-cuts p (cutsInBytes b) ∙ cuts-back b n bb (checked .cuts) (checked .size .whole)) in
+        let floors : listsIn whole .floors ≡ l .floors = points-back (l .floors) _ (bytes .floors) (long .floors-long) days (ap (λ (q : Profile). q .floors) (r .profile)) in
+        let ceilings : listsIn whole .ceilings ≡ l .ceilings = points-back (l .ceilings) _ (bytes .ceilings) (long .ceilings-long) days (ap (λ (q : Profile). q .ceilings) (r .profile)) in
+        let rises : listsIn whole .rises ≡ l .rises = points-back (l .rises) _ (bytes .rises) (long .rises-long) (ap (λ m. m - 1) days) (ap (λ (q : Profile). q .rises) (r .profile)) in
+        let cuts : listsIn whole .cuts ≡ b = rw days (file-cuts p (cutsInBytes b) ∙ cuts-back b n (bytes .cuts) (checked .cuts) (checked .size .whole)) in
         rw at-front
         (rw (floors, ceilings, rises, cuts, days, ap (λ (q : Profile). q .lowest) (r .profile), ap (λ (q : Profile). q .highest) (r .profile)) refl)
 
@@ -283,7 +290,7 @@ output-left l out h =
 again : (l : ListsInBytes) (out : List ℕ) (t : Lent) → Bytes (l .floors) → Bytes (l .ceilings) → Bytes (l .rises) → Bytes (l .cuts) → write l out .refusal ≡ 0 → RoomyInBytes l t
     → ReadAgainInBytes l (writtenInBytes l out) t
 again l out t bf bc br bb e r =
-    let same = lists-again l out e bf bc br bb in
+    let same = lists-again l out e (record { floors = bf; ceilings = bc; rises = br; cuts = bb }) in
     let z = roomy-taken (writtenInBytes l out) t (taken-again l out e) (rw same r) in
     record { taken = z; lists = lists-found (writtenInBytes l out) t z ∙ same }
 

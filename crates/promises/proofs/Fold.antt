@@ -23,7 +23,7 @@ use Rattle.session_cuts.specs.declared.Numbered.the-variants.{Known, Unknown}
 use Rattle.session_cutting.specs.Cutting.{malformed, earlyCutting, clipped, retightened, tightenedTo, afterCut, afterNumbered}
 use Rattle.session_cutting.proofs.Laws.{clipped-in-bounds, earlier-none, passed, refused-same, accepted}
 use Rattle.promises.specs.Cuts.{WellFormed, CutCall, Valid, ValidIn, after}
-use Rattle.promises.proofs.Clip.{KeepsLevels, well-formed, to-clipped, of-clipped, clipped-past}
+use Rattle.promises.proofs.Clip.{KeepsLevels, InArrays, well-formed, to-clipped, of-clipped, clipped-past}
 use Rattle.promises.proofs.Right.{Narrowed, unspent, spent, Right, narrowed, exhausted, right-same}
 
 pub known-same : (c d : Cut) → Known c ≡ Known d → c ≡ d
@@ -56,11 +56,14 @@ module _ (p : Profile) (rs : List ℕ) (o : Ranges) where
     fits : Fits rs (p .days) (clipped r c)
     fits = clipped-in-bounds rs (p .days) r c (w .bounds) formed
 
+    arrays : InArrays p r
+    arrays = record { few = w .bounds .most; floors = w .bounds .floors; ceilings = w .bounds .ceilings }
+
     to : (x : ℕ → ℕ) → T x → Within rs (p .days) (clipped r c) x
-    to x k = to-clipped p rs (w .bounds .most) r (w .bounds .floors) (w .bounds .ceilings) c well x (w .within x (k .0)) (k .1)
+    to x k = to-clipped p rs r arrays c well x (w .within x (k .0)) (k .1)
 
     of : (x : ℕ → ℕ) → Within rs (p .days) (clipped r c) x → T x
-    of x l = let z = of-clipped p rs (w .bounds .most) r (w .bounds .floors) (w .bounds .ceilings) c well x l in (w .only x (z .0), z .1)
+    of x l = let z = of-clipped p rs r arrays c well x l in (w .only x (z .0), z .1)
 
     cut-right : RightFor T (tightenedTo (unspentWith r) t .session)
     cut-right = go (t .found) refl

@@ -50,7 +50,8 @@ cut-storable s c room h = go (eqb (earlyCutting s c room) 0) (retightened s (cli
         let fits = clipped-in-bounds (s .rises) (s .days) (s .present) c (h .bounds .present) formed in
         let t = exact fits f in
         let same = clipped-past (presentProfile s) (s .present) c (well-formed (presentProfile s) c .0 formed) in
-        let present : Padded (s .days) (retightened s (clipped (s .present) c) .floors) × Padded (s .days) (retightened s (clipped (s .present) c) .ceilings) = (λ k u l. t .floors-past k u ∙ same k u .0 ∙ h .present .0 k u l, λ k u l. t .ceilings-past k u ∙ same k u .1 ∙ h .present .1 k u l) in
+        let present : Padded (s .days) (retightened s (clipped (s .present) c) .floors) × Padded (s .days) (retightened s (clipped (s .present) c) .ceilings) =
+        (λ k u l. t .floors-past k u ∙ same k u .0 ∙ h .present .0 k u l, λ k u l. t .ceilings-past k u ∙ same k u .1 ∙ h .present .1 k u l) in
         let bounds = rw (accepted s c room e, f) at (cut-in-bounds s c room (h .bounds)) in
         rw (accepted s c room e, f) (record { bounds = bounds; rises = h .rises; opened = h .opened; present = present })
     go true false e f =

@@ -87,27 +87,33 @@ sum-ranged s v room =
 
 -- ---- the list
 
-module _ (p : Profile) (d : Entered p) (hs : List CutCall) (s : Session) (w : Reached p d hs s) (u : s .spent ≡ false) (l : List ℤ) (e : length l ≡ s .days) where
+-- a session that came from the profile by cuts and is not spent, and a list that is n long
+record Writable (p : Profile) (d : Entered p) (hs : List CutCall) (s : Session) (l : List ℤ) : Type 0 where
+  reached : Reached p d hs s
+  unspent : s .spent ≡ false
+  long : length l ≡ s .days
+
+module _ (p : Profile) (d : Entered p) (hs : List CutCall) (s : Session) (l : List ℤ) (w : Writable p d hs s l) where
   -- levels within the present ranges, as points on the list
   module _ (c : ℕ → ℕ) (l′ : Within (s .rises) (s .days) (s .present) c) where
     abbrev x : List ℤ
     x = written (λ k. decoded lowestPoint (c k)) (s .days) l
 
     whole : length x ≡ s .days
-    whole = length-written (λ k. decoded lowestPoint (c k)) (s .days) l ∙ e
+    whole = length-written (λ k. decoded lowestPoint (c k)) (s .days) l ∙ w .long
 
     same : (i : ℕ) → i < s .days → Less (on x i) (c i) 1000
-    same i h = rw (written-below (λ k. decoded lowestPoint (c k)) (pos 0) (s .days) l i h (omega arith)) (decoded-less lowestPoint (c i) 1000 point-less)
+    same i h = rw (written-below (λ k. decoded lowestPoint (c k)) (pos 0) (s .days) l i h (omega (arith, w .long))) (decoded-less lowestPoint (c i) 1000 point-less)
 
     present : Schedule (presentProfile s) x
-    present = of-levels (present-coding s (w .supported .bounds .most)) x whole c same l′
+    present = of-levels (present-coding s (w .reached .supported .bounds .most)) x whole c same l′
 
     schedule-for : (f : List ℤ → ℤ) (v : ℤ) → f x ≡ v → ScheduleFor p hs s f v x
     schedule-for f v a = record {
       present = present;
-      cuts = present-kept p d hs s w x present;
+      cuts = present-kept p d hs s (w .reached) x present;
       valued = a;
-      passes = inspection .exactly s x .1 (u, present);
+      passes = inspection .exactly s x .1 (w .unspent, present);
     }
 
   day-schedule : (i : ℕ) (v : ℤ) → i < s .days → floorOn s i ≤ℤ v → v ≤ℤ ceilingOn s i
@@ -115,7 +121,7 @@ module _ (p : Profile) (d : Entered p) (hs : List CutCall) (s : Session) (w : Re
   unfolding dayLevels
   day-schedule i v h low high =
       let b = between lowestPoint v 1000 (at (s .present .floors) i) (at (s .present .ceilings) i) point-less low high in
-      let t = with-day (w .supported) i h (code lowestPoint v) (b .1) (b .2) in
+      let t = with-day (w .reached .supported) i h (code lowestPoint v) (b .1) (b .2) in
       let x = written (λ k. decoded lowestPoint (dayLevels s i v k)) (s .days) l in
       schedule-for (dayLevels s i v) (t .0) (λ x. on x i) v (less-same (on x i) v (code lowestPoint v) 1000 (rw (t .1) at (same (dayLevels s i v) (t .0) i h)) (b .0))
 
@@ -123,9 +129,9 @@ module _ (p : Profile) (d : Entered p) (hs : List CutCall) (s : Session) (w : Re
   unfolding totalLevels
   total-schedule v low high =
       let b = between lowestTotal v 512000 (s .present .least) (s .present .most) total-less low high in
-      let t = with-total (w .supported) (code lowestTotal v) (b .1) (b .2) in
+      let t = with-total (w .reached .supported) (code lowestTotal v) (b .1) (b .2) in
       let x = written (λ k. decoded lowestPoint (totalLevels s v k)) (s .days) l in
-      let sum = held-less x (s .days) (totalLevels s v) (whole (totalLevels s v) (t .0)) (w .supported .bounds .most) (same (totalLevels s v) (t .0)) in
+      let sum = held-less x (s .days) (totalLevels s v) (whole (totalLevels s v) (t .0)) (w .reached .supported .bounds .most) (same (totalLevels s v) (t .0)) in
       schedule-for (totalLevels s v) (t .0) total v (less-same (total x) v (code lowestTotal v) 512000 (rw (t .1) at sum) (b .0))
 
 -- ---- all of it
@@ -140,7 +146,7 @@ module _ (p : Profile) (z : opened p .refusal ≡ 0) (hs : List CutCall) (s : Se
     left = list-left _ _ _ l;
     schedule = λ o.
         let t = day-ranged s i v (length l) .taken .0 o in
-        rw (list-filled _ _ _ l o) (day-schedule p d hs s (after-reached p z d hs s e (t .0 .2)) (t .0 .2) l (t .0 .0) i v (t .0 .1) (t .1) (t .2));
+        rw (list-filled _ _ _ l o) (day-schedule p d hs s l (record { reached = after-reached p z d hs s e (t .0 .2); unspent = t .0 .2; long = t .0 .0 }) i v (t .0 .1) (t .1) (t .2));
   }
 
   writes-sum : (v : ℤ) (l : List ℤ) → Writes p hs s total v (totalWriteRefusal s v (length l)) l (totalWritten s v l)
@@ -149,7 +155,7 @@ module _ (p : Profile) (z : opened p .refusal ≡ 0) (hs : List CutCall) (s : Se
     left = list-left _ _ _ l;
     schedule = λ o.
         let t = sum-ranged s v (length l) .taken .0 o in
-        rw (list-filled _ _ _ l o) (total-schedule p d hs s (after-reached p z d hs s e (t .0 .1)) (t .0 .1) l (t .0 .0) v (t .1) (t .2));
+        rw (list-filled _ _ _ l o) (total-schedule p d hs s l (record { reached = after-reached p z d hs s e (t .0 .1); unspent = t .0 .1; long = t .0 .0 }) v (t .1) (t .2));
   }
 
 pub writing : Writing

@@ -1,4 +1,4 @@
--- Inspecting by what its tests found.
+-- Inspecting by what its tests found: which rules are kept so far, and a law for each return.
 use mathlib.Core.Path.{_≡_}
 use mathlib.Core.Bool.{Bool, true, false}
 use mathlib.Core.List.{List}
@@ -23,24 +23,31 @@ module _ (low high x : ℕ) where
 
 -- ---- judge_codes
 
-module _ (xs fs cs rs : List ℕ) (n least most : ℕ) {day : ℕ} (first-day : day ≡ firstWhere (dayOutside xs fs cs) n) where
-  pub day-broken : day < n → broken 1 day ≡ judgedCodes xs fs cs rs n least most
+-- no day is outside its range, and no rise is broken
+pub record DaysKept (xs fs cs : List ℕ) (n : ℕ) : Type 0 where
+  pub days : n ≤ firstWhere (dayOutside xs fs cs) n
+
+pub record RisesKept (xs fs cs rs : List ℕ) (n : ℕ) : Type 0 where
+  pub before : DaysKept xs fs cs n
+  pub rises : n - 1 ≤ firstWhere (fallen xs rs) (n - 1)
+
+module _ (xs fs cs rs : List ℕ) (n least most : ℕ) where
+  pub day-broken : {day : ℕ} → day ≡ firstWhere (dayOutside xs fs cs) n → day < n → broken 1 day ≡ judgedCodes xs fs cs rs n least most
   unfolding judgedCodes
-  day-broken h = rw (← first-day, lt-ltb day n h)
+  day-broken {day} e h = rw (← e, lt-ltb day n h)
 
-  module _ (days : n ≤ day) {rise : ℕ} (first-rise : rise ≡ firstWhere (fallen xs rs) (n - 1)) where
-    pub rise-broken : rise < n - 1 → broken 2 rise ≡ judgedCodes xs fs cs rs n least most
+  pub rise-broken : DaysKept xs fs cs n → {rise : ℕ} → rise ≡ firstWhere (fallen xs rs) (n - 1) → rise < n - 1 → broken 2 rise ≡ judgedCodes xs fs cs rs n least most
+  unfolding judgedCodes
+  rise-broken d {rise} e h = rw (le-ltb (firstWhere (dayOutside xs fs cs) n) n (d .days), ← e, lt-ltb rise (n - 1) h)
+
+  module _ (d : RisesKept xs fs cs rs n) {t : Bool} (e : t ≡ totalOutside xs n least most) where
+    pub total-broken : t ≡ true → broken 3 0 ≡ judgedCodes xs fs cs rs n least most
     unfolding judgedCodes
-    rise-broken h = rw (← first-day, le-ltb day n days, ← first-rise, lt-ltb rise (n - 1) h)
+    total-broken h = rw (le-ltb (firstWhere (dayOutside xs fs cs) n) n (d .before .days), le-ltb (firstWhere (fallen xs rs) (n - 1)) (n - 1) (d .rises), ← e, h)
 
-    module _ (rises : n - 1 ≤ rise) {t : Bool} (test : t ≡ totalOutside xs n least most) where
-      pub total-broken : t ≡ true → broken 3 0 ≡ judgedCodes xs fs cs rs n least most
-      unfolding judgedCodes
-      total-broken h = rw (← first-day, le-ltb day n days, ← first-rise, le-ltb rise (n - 1) rises, ← test, h)
-
-      pub none-broken : t ≡ false → kept ≡ judgedCodes xs fs cs rs n least most
-      unfolding judgedCodes
-      none-broken h = rw (← first-day, le-ltb day n days, ← first-rise, le-ltb rise (n - 1) rises, ← test, h)
+    pub none-broken : t ≡ false → kept ≡ judgedCodes xs fs cs rs n least most
+    unfolding judgedCodes
+    none-broken h = rw (le-ltb (firstWhere (dayOutside xs fs cs) n) n (d .before .days), le-ltb (firstWhere (fallen xs rs) (n - 1)) (n - 1) (d .rises), ← e, h)
 
 -- ---- inspect
 

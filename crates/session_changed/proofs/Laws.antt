@@ -37,22 +37,29 @@ pub record Listed (test : ℕ → Bool) (n day : ℕ) (l : List ℕ) (count : �
   pub few : count ≤ day
   pub front : Front (daysWhere test day) l count out
 
+-- a turn notes the day where the test holds
+pub record Noted (test : ℕ → Bool) (n day : ℕ) (l : List ℕ) (count : ℕ) (out : List ℕ) (count′ : ℕ) (out′ : List ℕ) : Type 0 where
+  pub head : Listed test n day l count out
+  pub more : day < n
+  pub room : n ≤ length l
+  pub counted : count′ ≡ cond (test day) (count + 1) count
+  pub listed : out′ ≡ cond (test day) (set out count day) out
+
 module _ {test : ℕ → Bool} {n : ℕ} {l : List ℕ} where
   pub listed-none : Listed test n 0 l 0 l
   unfolding daysWhere
   listed-none = record { most = omega arith; few = omega arith; front = front-none }
 
-  pub listed-more : {day count count′ : ℕ} {out out′ : List ℕ} → Listed test n day l count out → day < n → n ≤ length l
-      → count′ ≡ cond (test day) (count + 1) count → out′ ≡ cond (test day) (set out count day) out → Listed test n (day + 1) l count′ out′
-  listed-more {day} {count} {count′} {out} {out′} h u room e f =
-      record { most = omega arith; few = omega (arith, next .counted, days-few test (day + 1)); front = next }
+  pub listed-more : {day count count′ : ℕ} {out out′ : List ℕ} → Noted test n day l count out count′ out′ → Listed test n (day + 1) l count′ out′
+  listed-more {day} {count} {count′} {out} {out′} d =
+      record { most = omega (arith, d .more); few = omega (arith, next .counted, days-few test (day + 1)); front = next }
     where
       next : Front (daysWhere test (day + 1)) l count′ out′
       next =
           rw add-one
           (days-more test (λ ds. Front ds l count′ out′) day
-          (λ t. rw (e, f, t) (front-more day (h .front) (omega (arith, h .few))))
-          (λ t. rw (e, f, t) (h .front)))
+          (λ t. rw (d .counted, d .listed, t) (front-more day (d .head .front) (omega (arith, d .head .few, d .more, d .room))))
+          (λ t. rw (d .counted, d .listed, t) (d .head .front)))
 
   pub listed-all : {day count : ℕ} {out : List ℕ} → Listed test n day l count out → n ≤ day
       → (count ≡ length (daysWhere test n)) × (out ≡ inFront (daysWhere test n) l)

@@ -131,7 +131,17 @@ module _ {fs cs rs : List ℕ} {n : ℕ} (r : Ready fs cs rs n) (L U : ℕ) (wit
   bs = capped-greatest n top free b₀ cap
 
   hi-is : (k : ℕ) → k < n → hi k ≡ shifted cs′ rs n k
-  hi-is = ceilings-are r a b₀ b a-is (λ k h. refl) (settled-chain n free a₀) bs U′ margin room (omega (arith, a-sum, shifts-low r))
+  hi-is =
+      ceilings-are
+      (record {
+        ready = r;
+        floors = a-is;
+        ceilings = λ k h. refl;
+        chain = settled-chain n free a₀;
+        greatest = bs;
+        room = room;
+        margin-is = omega (arith, a-sum, shifts-low r);
+      })
 
   hi-sum : sum all n hi ≡ sum all n (at cs′) + sum all n (shift (at rs) n)
   hi-sum = sum-eq all n hi (shifted cs′ rs n) hi-is ∙ shifted-sum r (at cs′)
@@ -160,8 +170,18 @@ module _ {fs cs rs : List ℕ} {n : ℕ} (r : Ready fs cs rs n) (L U : ℕ) (wit
     hi-chain = ceiling-chain n free all a b (settled-chain n free a₀) (bs .chain) (bs .over a (settled-chain n free a₀) fits) U′ room
 
     lo-is : (k : ℕ) → k < n → low all n free a₀ b₀ L′ U′ top k ≡ shifted fs′ rs n k
-    lo-is = floors-are r′ (lowered-rising r margin) a hi a-is hi-is (settled-chain n free a₀) hi-chain L′ (held n (at cs′) - lowest)
-        (omega (arith, hi-sum, shifts-low r)) (omega (arith, hi-sum, shifts-low r))
+    lo-is =
+        floors-are
+        (record {
+          ready = r′;
+          rising = lowered-rising r margin;
+          floors = a-is;
+          ceilings = hi-is;
+          chain = settled-chain n free a₀;
+          high-chain = hi-chain;
+          reachable = omega (arith, hi-sum, shifts-low r);
+          margin-is = omega (arith, hi-sum, shifts-low r);
+        })
 
     ranges : Ranges all n free a₀ b₀ L′ U′ (low all n free a₀ b₀ L′ U′ top) hi (max L′ (sum all n a)) (min U′ (sum all n b))
     ranges = sufficient all n free a₀ b₀ L′ U′ top cap (λ k. omega arith) fits room (omega arith) reachable

@@ -1,4 +1,4 @@
--- The passes over levels, against `chains`: lowered ceilings, shifted, are its ceilings, and raised floors its floors.
+-- The passes over levels, against theory_chains: lowered ceilings, shifted, are its ceilings, and raised floors its floors.
 use Prim.Native.Nat.{ℕ, zero, suc, _+_, _-_, _≤_, _<_, min}
 use mathlib.Core.Path.{_≡_, refl, ap, sym, _∙_}
 use mathlib.Core.List.{List}
@@ -35,28 +35,38 @@ from-sum f i (suc n) = go (decLe i n) (from-sum f i n)
         let e : suc n - i ≡ n - i = omega arith in
         rw e (omega (arith, weigh-before all i n (f n) (omega arith)))
 
-module _ {fs cs rs : List ℕ} {n : ℕ} (r : Ready fs cs rs n) (a b₀ b : ℕ → ℕ) (a-is : (k : ℕ) → k < n → a k ≡ shifted fs rs n k)
-    (b-is : (k : ℕ) → k < n → b₀ k ≡ shifted cs rs n k) (ca : Chain n free a) (bs : Greatest n free b₀ b) (U margin : ℕ)
-    (room : sum all n a ≤ U) (m-is : margin ≡ U - sum all n a) where
-  load : (i v : ℕ) → overload fs rs n i v ≡ Rounds.overloadFrom all n a i v
-  load i v = sym (from-sum (above (shifted fs rs n) v) i n) ∙ sum-eq (from i all) n (above (shifted fs rs n) v) (λ k. v - a k) (λ k h. omega (arith, a-is k h))
+-- what lowering the ceilings takes, with U for the sum: shifted, a are the floors, which keep the rises, and b₀ the ceilings; b is the greatest below them
+-- that keeps the rises
+pub record Lowering (fs cs rs : List ℕ) (n : ℕ) (a b₀ b : ℕ → ℕ) (U margin : ℕ) : Type 0 where
+  pub ready : Ready fs cs rs n
+  pub floors : (k : ℕ) → k < n → a k ≡ shifted fs rs n k
+  pub ceilings : (k : ℕ) → k < n → b₀ k ≡ shifted cs rs n k
+  pub chain : Chain n free a
+  pub greatest : Greatest n free b₀ b
+  pub room : sum all n a ≤ U
+  pub margin-is : margin ≡ U - sum all n a
 
-  ceiling-from : (d k : ℕ) → k < n → n - k ≤ d → loweredFrom fs cs rs n margin (n - k) ≡ ceiling all n free a b U k
+module _ {fs cs rs : List ℕ} {n : ℕ} {a b₀ b : ℕ → ℕ} {U margin : ℕ} (d : Lowering fs cs rs n a b₀ b U margin) where
+  load : (i v : ℕ) → overload fs rs n i v ≡ Rounds.overloadFrom all n a i v
+  load i v = sym (from-sum (above (shifted fs rs n) v) i n) ∙ sum-eq (from i all) n (above (shifted fs rs n) v) (λ k. v - a k) (λ k h. omega (arith, d .floors k h))
+
+  ceiling-from : (m k : ℕ) → k < n → n - k ≤ m → loweredFrom fs cs rs n margin (n - k) ≡ ceiling all n free a b U k
   ceiling-from zero k h few = absurd (omega arith)
-  ceiling-from (suc d) k h few =
-      let f = fitted-same (day-fitted r margin k h) (load k) m-is (sym (a-is k h)) (ap (min (loweredFrom fs cs rs n margin (n - (k + 1)))) (sym (b-is k h))) in
-      next-ceiling all n a b₀ b (λ j l. omega (arith, b-is j l, r .ceiling j l, shift-most r j)) ca bs (λ j l. omega (arith, a-is j l, b-is j l, r .fits j l)) U room
-      k h (loweredFrom fs cs rs n margin (n - k)) (loweredFrom fs cs rs n margin (n - (k + 1)))
-      (λ l. rw add-one (ceiling-from d (suc k) l (omega arith))) (λ e. last e ∙ sym (b-is k h)) f
+  ceiling-from (suc m) k h few =
+      let r = d .ready in
+      let f = fitted-same (day-fitted r margin k h) (load k) (d .margin-is) (sym (d .floors k h)) (ap (min (loweredFrom fs cs rs n margin (n - (k + 1)))) (sym (d .ceilings k h))) in
+      next-ceiling all n a b₀ b (λ j l. omega (arith, d .ceilings j l, r .ceiling j l, shift-most r j)) (d .chain) (d .greatest)
+      (λ j l. omega (arith, d .floors j l, d .ceilings j l, r .fits j l)) U (d .room) k h (loweredFrom fs cs rs n margin (n - k)) (loweredFrom fs cs rs n margin (n - (k + 1)))
+      (λ l. rw add-one (ceiling-from m (suc k) l (omega arith))) (λ e. last e ∙ sym (d .ceilings k h)) f
     where
       last : suc k ≡ n → loweredFrom fs cs rs n margin (n - (k + 1)) ≡ shifted cs rs n k
       last e =
           let none : n - (k + 1) ≡ 0 = omega arith in
           let here : n - 1 ≡ k = omega arith in
-          rw (none, last-lowered r margin, here)
+          rw (none, last-lowered (d .ready) margin, here)
 
   pub ceilings-are : (k : ℕ) → k < n → ceiling all n free a b U k ≡ shifted (loweredAll fs cs rs n margin) rs n k
-  ceilings-are k h = omega (arith, ceiling-from n k h (omega arith), lowered-shifted r margin k h, lowered-at r margin k h)
+  ceilings-are k h = omega (arith, ceiling-from n k h (omega arith), lowered-shifted (d .ready) margin k h, lowered-at (d .ready) margin k h)
 
 -- ---- floors, as the mirror
 
@@ -101,38 +111,54 @@ module _ {fs cs rs : List ℕ} {n : ℕ} (r : Ready fs cs rs n) (down : Rising c
   pub within-scale : (l : List ℕ) (y : ℕ → ℕ) → ((k : ℕ) → k < n → y k ≡ shifted l rs n k) → ((k : ℕ) → k < n → at l k ≤ 5000) → Below n y (λ _. scale rs n)
   within-scale l y y-is few k h = omega (arith, shifts-mirror (n - suc k) (omega arith), ap sh (flip-flip n k h), y-is k h, few k h)
 
-  module _ (a c : ℕ → ℕ) (a-is : (k : ℕ) → k < n → a k ≡ shifted fs rs n k) (c-is : (k : ℕ) → k < n → c k ≡ shifted cs rs n k)
-      (ca : Chain n free a) (cc′ : Chain n free c)
-      (L margin : ℕ) (reachable : L ≤ sum all n c) (m-is : margin ≡ sum all n c - L) where
-    abbrev top : ℕ
-    top = scale rs n
+-- what raising the floors takes, with L for the sum: shifted, a are the floors and c the ceilings, and both keep the rises
+pub record Raising (fs cs rs : List ℕ) (n : ℕ) (a c : ℕ → ℕ) (L margin : ℕ) : Type 0 where
+  pub ready : Ready fs cs rs n
+  pub rising : Rising cs rs n
+  pub floors : (k : ℕ) → k < n → a k ≡ shifted fs rs n k
+  pub ceilings : (k : ℕ) → k < n → c k ≡ shifted cs rs n k
+  pub chain : Chain n free a
+  pub high-chain : Chain n free c
+  pub reachable : L ≤ sum all n c
+  pub margin-is : margin ≡ sum all n c - L
 
-    acap : Below n a (λ _. top)
-    acap = within-scale fs a a-is floor-cap
+module _ {fs cs rs : List ℕ} {n : ℕ} {a c : ℕ → ℕ} {L margin : ℕ} (d : Raising fs cs rs n a c L margin) where
+  abbrev top : ℕ
+  top = scale rs n
 
-    ccap : Below n c (λ _. top)
-    ccap = within-scale cs c c-is (r .ceiling)
+  acap : Below n a (λ _. top)
+  acap = within-scale (d .ready) (d .rising) fs a (d .floors) (floor-cap (d .ready) (d .rising))
 
-    abbrev high* : List ℕ
-    high* = loweredAll (mirroredAll cs n) (mirroredAll fs n) (reversedAll rs n) n margin
+  ccap : Below n c (λ _. top)
+  ccap = within-scale (d .ready) (d .rising) cs c (d .ceilings) (d .ready .ceiling)
 
-    ceilings* : (k : ℕ) → k < n → ceiling all n free (mirror n top c) (mirror n top a) (sum all n (λ _. top) - L) k ≡ shifted high* (reversedAll rs n) n k
-    ceilings* =
-        let whole = mirror-sum all n top c ccap in
-        ceilings-are r* (mirror n top c) (mirror n top a) (mirror n top a) (mirror-shifted cs c c-is (r .ceiling)) (mirror-shifted fs a a-is floor-cap)
-        (mirror-chain n top free c cc′ ccap) (chain-greatest (mirror-chain n top free a ca acap))
-        (sum all n (λ _. top) - L) margin (omega (arith, whole)) (omega (arith, whole))
+  abbrev high* : List ℕ
+  high* = loweredAll (mirroredAll cs n) (mirroredAll fs n) (reversedAll rs n) n margin
 
-    raised-at : (k : ℕ) → k < n → at (raised fs cs rs n margin) k ≡ 5000 - at high* (n - suc k)
-    raised-at k h = rw (raised-is, written-below (mirrored high* n) 0 n fs k h (omega (arith, r .floors, r .most)), add-one)
+  ceilings* : (k : ℕ) → k < n → ceiling all n free (mirror n top c) (mirror n top a) (sum all n (λ _. top) - L) k ≡ shifted high* (reversedAll rs n) n k
+  ceilings* =
+      let whole = mirror-sum all n top c ccap in
+      ceilings-are
+      (record {
+        ready = r* (d .ready) (d .rising);
+        floors = mirror-shifted (d .ready) (d .rising) cs c (d .ceilings) (d .ready .ceiling);
+        ceilings = mirror-shifted (d .ready) (d .rising) fs a (d .floors) (floor-cap (d .ready) (d .rising));
+        chain = mirror-chain n top free c (d .high-chain) ccap;
+        greatest = chain-greatest (mirror-chain n top free a (d .chain) acap);
+        room = omega (arith, whole, d .reachable);
+        margin-is = omega (arith, whole, d .reachable, d .margin-is);
+      })
 
-    pub floors-are : (k : ℕ) → k < n → floorOf all n free a c L (scale rs n) k ≡ shifted (raised fs cs rs n margin) rs n k
-    floors-are k h =
-        omega (
-          arith,
-          raised-at k h,
-          ceilings* (n - suc k) (omega arith),
-          shifts-mirror (n - suc k) (omega arith),
-          ap sh (flip-flip n k h),
-          lowered-ready r* margin .ceiling (n - suc k) (omega arith),
-        )
+  raised-at : (k : ℕ) → k < n → at (raised fs cs rs n margin) k ≡ 5000 - at high* (n - suc k)
+  raised-at k h = rw (raised-is, written-below (mirrored high* n) 0 n fs k h (omega (arith, d .ready .floors, d .ready .most)), add-one)
+
+  pub floors-are : (k : ℕ) → k < n → floorOf all n free a c L (scale rs n) k ≡ shifted (raised fs cs rs n margin) rs n k
+  floors-are k h =
+      omega (
+        arith,
+        raised-at k h,
+        ceilings* (n - suc k) (omega arith),
+        shifts-mirror (d .ready) (d .rising) (n - suc k) (omega arith),
+        ap (shift (at rs) n) (flip-flip n k h),
+        lowered-ready (r* (d .ready) (d .rising)) margin .ceiling (n - suc k) (omega arith),
+      )

@@ -41,7 +41,7 @@ module _ {fs rs : List ℕ} {n : ℕ} (g : Carried fs rs n) where
       rw e (omega (arith, rising j d (omega arith), shift-next (j + d) (omega arith), g .climb (j + d) (omega arith)))
 
 -- no later day is below an earlier one
-abbrev Rising : (ℕ → ℕ) → ℕ → Type 0
+abbrev pub Rising : (ℕ → ℕ) → ℕ → Type 0
 Rising a n = (j k : ℕ) → j ≤ k → k < n → a j ≤ a k
 
 pub rises : {fs rs : List ℕ} {n : ℕ} → Carried fs rs n → Rising (shifted fs rs n) n
@@ -87,22 +87,31 @@ module _ {fs rs : List ℕ} {n i v c s e : ℕ} (g : Carried fs rs n) (d : DaysI
   pub days-one : c ≤ 1 → FoundIn fs rs n i v c s e
   days-one u = days-stop (λ h. absurd (omega arith))
 
-  pub days-drop : {x w e′ : ℕ} → 1 < c → x ≡ at fs (i + c - 1) → v ≤ x + e → w ≡ at rs (i + (c - 1) - 1) → e′ ≡ e + w - 2000
-      → DaysIn fs rs n i v (c - 1) (s - (x + e)) e′
-  days-drop {x} {w} {e′} h q u r b =
-      record {
-        run = record {
-          some = omega arith;
-          inside = omega (arith, d .run .inside);
-          total = omega (arith, days-last, d .run .last);
-          last = omega (arith, end-back h r);
-        };
-        past = λ k l m. pick k l m (decLt k (i + c));
-      }
-    where
-      pick : (k : ℕ) → i + (c - 1) ≤ k → k < n → Dec (k < i + c) → v ≤ shifted fs rs n k
-      pick k l m (yes y) = let p : k ≡ i + c - 1 = omega arith in rw p (omega (arith, d .run .last))
-      pick k l m (no y) = d .past k (omega arith) m
+-- a turn finds the last of several days, with floor x, at v or above, and reads the rise w before it, from which the shift e′ follows
+pub record Dropping (fs rs : List ℕ) (n i v c s e x w e′ : ℕ) : Type 0 where
+  pub carried : Carried fs rs n
+  pub days : DaysIn fs rs n i v c s e
+  pub more : 1 < c
+  pub floor : x ≡ at fs (i + c - 1)
+  pub high : v ≤ x + e
+  pub rise : w ≡ at rs (i + (c - 1) - 1)
+  pub shift : e′ ≡ e + w - 2000
+
+pub days-drop : {fs rs : List ℕ} {n i v c s e x w e′ : ℕ} → Dropping fs rs n i v c s e x w e′ → DaysIn fs rs n i v (c - 1) (s - (x + e)) e′
+days-drop {fs} {rs} {n} {i} {v} {c} t =
+    record {
+      run = record {
+        some = omega arith;
+        inside = omega (arith, t .days .run .inside);
+        total = omega (arith, days-last (t .carried) (t .days), t .days .run .last);
+        last = omega (arith, end-back (t .carried) (t .days) (t .more) (t .rise));
+      };
+      past = λ k l m. pick k l m (decLt k (i + c));
+    }
+  where
+    pick : (k : ℕ) → i + (c - 1) ≤ k → k < n → Dec (k < i + c) → v ≤ shifted fs rs n k
+    pick k l m (yes y) = let p : k ≡ i + c - 1 = omega arith in rw p (omega (arith, t .days .run .last))
+    pick k l m (no y) = t .days .past k (omega arith) m
 
 -- ---- one round
 
@@ -180,13 +189,21 @@ module _ {fs rs : List ℕ} {n i margin v c s e : ℕ} (p : Overloaded fs rs n i
   round-days r =
       record { run = p .found .run; past = λ k l u. omega (arith, found-past (rises (p .carried)) (p .found) round-base k l u) }
 
-  pub round-end : (o : ℕ) {x r u c′ s′ e′ : ℕ} → o + s ≡ c * v → x ≡ at fs (i + c - 1) → r ≡ step (o - margin) c (v - (x + e))
-      → (u ≡ v - r) × FoundIn fs rs n i (v - r) c′ s′ e′ → RoundedIn fs rs n i margin v u c′ s′ e′
-  round-end o {x} {r} qo qx qr found =
-      let po : o ≡ over (shifted fs rs n) n i v = round-over qo in
-      let px : x + e ≡ shifted fs rs n (i + c - 1) = omega (arith, p .found .run .last) in
-      let pr : r ≡ fall (shifted fs rs n) n i margin v c = rw (po, px) at qr in
-      record { level = omega (arith, found .0, rounded-fall (rises (p .carried)) (p .found) round-base margin); found = rw (found .0) (found .1) }
+-- what the calls of a round gave: the overload o, the last day's floor x, the step r, and the days of the level r below
+pub record Stepping (fs rs : List ℕ) (n i margin v c s e o x r u c′ s′ e′ : ℕ) : Type 0 where
+  pub overloaded : Overloaded fs rs n i margin v c s e
+  pub overload : o + s ≡ c * v
+  pub floor : x ≡ at fs (i + c - 1)
+  pub step : r ≡ step (o - margin) c (v - (x + e))
+  pub found : (u ≡ v - r) × FoundIn fs rs n i (v - r) c′ s′ e′
+
+pub round-end : {fs rs : List ℕ} {n i margin v c s e o x r u c′ s′ e′ : ℕ} → Stepping fs rs n i margin v c s e o x r u c′ s′ e′ → RoundedIn fs rs n i margin v u c′ s′ e′
+round-end {fs} {rs} {n} {i} {margin} {v} {c} {s} {e} {o} {x} {r} t =
+    let p = t .overloaded in
+    let po : o ≡ over (shifted fs rs n) n i v = round-over p (t .overload) in
+    let px : x + e ≡ shifted fs rs n (i + c - 1) = omega (arith, t .floor, p .found .run .last) in
+    let pr : r ≡ fall (shifted fs rs n) n i margin v c = rw (po, px) at (t .step) in
+    record { level = omega (arith, t .found .0, rounded-fall (rises (p .carried)) (p .found) (round-base p) margin); found = rw (t .found .0) (t .found .1) }
 
 -- ---- lower
 
@@ -339,95 +356,106 @@ module _ {fs cs rs : List ℕ} {n margin : ℕ} (g : Ready fs cs rs n) where
     pub pass-least : 0 < i → 2000 ≤ here
     pass-least h = omega (arith, p .shift-here, shift-least (floors-carried g) i h (p .most))
 
-    module _ {w : ℕ} (h : 0 < i) (qw : w ≡ at rs (i - 1)) where
-      -- one day down
-      pass-here : here + w ≡ shift (at rs) n (i - 1) + 2000
-      pass-here =
-          let q : i - 1 + 1 ≡ i = omega arith in
-          let r : shift (at rs) n (i - 1) + 2000 ≡ shift (at rs) n i + at rs (i - 1) = rw q at (shift-next (floors-carried g) (i - 1) (omega (arith, p .most))) in
-          omega (arith, p .shift-here)
+    -- one day down
+    pass-here : {w : ℕ} → 0 < i → w ≡ at rs (i - 1) → here + w ≡ shift (at rs) n (i - 1) + 2000
+    pass-here h qw =
+        let q : i - 1 + 1 ≡ i = omega arith in
+        let r : shift (at rs) n (i - 1) + 2000 ≡ shift (at rs) n i + at rs (i - 1) = rw q at (shift-next (floors-carried g) (i - 1) (omega (arith, p .most))) in
+        omega (arith, p .shift-here)
 
-      module _ {here′ y : ℕ} (qh : here′ ≡ here + w - 2000) (qy : y ≡ at out (i - 1)) where
-        abbrev cap : ℕ
-        cap = min v (y + here′)
+-- a turn reads the rise w of the day before, whose shift is then here′, and its ceiling y
+pub record Turning (fs cs rs : List ℕ) (n margin : ℕ) (out : List ℕ) (here e v c s i w here′ y : ℕ) : Type 0 where
+  pub ready : Ready fs cs rs n
+  pub head : Pass fs cs rs n margin out here e v c s i
+  pub more : 0 < i
+  pub rise : w ≡ at rs (i - 1)
+  pub shift : here′ ≡ here + w - 2000
+  pub ceiling : y ≡ at out (i - 1)
 
-        pass-old : y ≡ at cs (i - 1)
-        pass-old = qy ∙ ap (λ l. at l (i - 1)) (p .made) ∙ last-before _ 0 n (n - i) cs (i - 1) (omega (arith, p .most))
+module _ {fs cs rs : List ℕ} {n margin : ℕ} {out : List ℕ} {here e v c s i w here′ y : ℕ} (t : Turning fs cs rs n margin out here e v c s i w here′ y) where
+  turn-here : here + w ≡ shift (at rs) n (i - 1) + 2000
+  turn-here = pass-here (t .ready) (t .head) (t .more) (t .rise)
 
-        pass-cap : cap ≡ min v (shifted cs rs n (i - 1))
-        pass-cap = omega (arith, pass-old, pass-here)
+  abbrev cap : ℕ
+  cap = min v (y + here′)
 
-        pass-room : shifted fs rs n (i - 1) ≤ cap
-        pass-room = omega (arith, pass-cap, g .fits (i - 1) (omega (arith, p .most)), p .base (i - 1) (omega arith))
+  pass-old : y ≡ at cs (i - 1)
+  pass-old = t .ceiling ∙ ap (λ l. at l (i - 1)) (t .head .made) ∙ last-before _ 0 n (n - i) cs (i - 1) (omega (arith, t .head .most))
 
-        pass-days : DaysIn fs rs n (i - 1) cap (c + 1) (s + (at fs (i - 1) + here′)) e
-        pass-days =
-            let q : i - 1 + 1 ≡ i = omega arith in
-            let r : i - 1 + (c + 1) - 1 ≡ i + c - 1 = omega arith in
-            let f : sumFor (shifted fs rs n) (i - 1) (c + 1) ≡ shifted fs rs n (i - 1) + sumFor (shifted fs rs n) i c =
-            rw q at (sum-front (shifted fs rs n) (i - 1) c) in
-            record {
-              run = record {
-                some = omega arith;
-                inside = omega (arith, p .inside);
-                total = omega (arith, p .total, pass-here);
-                last = rw r (p .last);
-              };
-              past = λ k l u. omega (arith, p .past k (omega arith) u);
-            }
+  pass-cap : cap ≡ min v (shifted cs rs n (i - 1))
+  pass-cap = omega (arith, pass-old, turn-here)
 
-        pub pass-enters : y < 65536 → Entering fs rs n (i - 1) y here′ v c s e
-        pass-enters level =
-            record {
-              inside = omega (arith, p .most);
-              days = pass-days;
-              low = omega (arith, p .low);
-              base = pass-room;
-              shift-most = omega (arith, pass-here, shift-most (floors-carried g) (i - 1) (omega (arith, p .most)));
-              level = level;
-              small = pass-small;
-            }
+  pass-room : shifted fs rs n (i - 1) ≤ cap
+  pass-room = omega (arith, pass-cap, t .ready .fits (i - 1) (omega (arith, t .head .most)), t .head .base (i - 1) (omega arith))
 
-        module _ {v′ c′ s′ e′ : ℕ} (d : LowestIn fs rs n (i - 1) margin (min v (y + here′)) v′ c′ s′ e′) where
-          -- the level found is the definition's
-          pass-level : v′ ≡ loweredFrom fs cs rs n margin (n - (i - 1))
-          pass-level =
-              let q : n - i + 1 ≡ n - (i - 1) = omega (arith, p .most) in
-              let r : n - (n - (i - 1)) ≡ i - 1 = omega (arith, p .most) in
-              let m : loweredFrom fs cs rs n margin (n - (i - 1))
-              ≡ fit (overload fs rs n (i - 1)) margin (shifted fs rs n (i - 1)) (min (loweredFrom fs cs rs n margin (n - i)) (shifted cs rs n (i - 1))) =
-              rw (q, r) at (lowered-more fs cs rs n margin (n - i)) in
-              let b : cap ≡ min (loweredFrom fs cs rs n margin (n - i)) (shifted cs rs n (i - 1)) =
-              pass-cap ∙ ap (λ x. min x (shifted cs rs n (i - 1))) (p .level) in
-              let start : overload fs rs n (i - 1) (shifted fs rs n (i - 1)) ≤ margin =
-              omega (arith, over-none (shifted fs rs n) n (i - 1) (shifted fs rs n (i - 1)) (rises (floors-carried g)) (omega arith)) in
-              fitted-one (d .level) (fitted (overload fs rs n (i - 1)) margin (shifted fs rs n (i - 1)) start cap pass-room)
-              ∙ ap (fit (overload fs rs n (i - 1)) margin (shifted fs rs n (i - 1))) b
-              ∙ sym m
+  pass-days : DaysIn fs rs n (i - 1) cap (c + 1) (s + (at fs (i - 1) + here′)) e
+  pass-days =
+      let q : i - 1 + 1 ≡ i = omega arith in
+      let r : i - 1 + (c + 1) - 1 ≡ i + c - 1 = omega arith in
+      let f : sumFor (shifted fs rs n) (i - 1) (c + 1) ≡ shifted fs rs n (i - 1) + sumFor (shifted fs rs n) i c =
+      rw q at (sum-front (shifted fs rs n) (i - 1) c) in
+      record {
+        run = record {
+          some = omega arith;
+          inside = omega (arith, t .head .inside);
+          total = omega (arith, t .head .total, turn-here);
+          last = rw r (t .head .last);
+        };
+        past = λ k l u. omega (arith, t .head .past k (omega arith) u);
+      }
 
-          -- and as shown it is a level
-          pub pass-shown : (here′ ≤ v′) × (v′ - here′ ≤ 5000)
-          pass-shown = (
-            omega (arith, pass-here, d .level .least),
-            omega (arith, pass-here, pass-cap, d .level .most, g .ceiling (i - 1) (omega (arith, p .most))),
-          )
+  pub pass-enters : y < 65536 → Entering fs rs n (i - 1) y here′ v c s e
+  pass-enters level =
+      record {
+        inside = omega (arith, t .head .most);
+        days = pass-days;
+        low = omega (arith, t .head .low);
+        base = pass-room;
+        shift-most = omega (arith, turn-here, shift-most (floors-carried (t .ready)) (i - 1) (omega (arith, t .head .most)));
+        level = level;
+        small = pass-small (t .ready) (t .head);
+      }
 
-          pub pass-turn : Pass fs cs rs n margin (set out (i - 1) (v′ - here′)) here′ e′ v′ c′ s′ (i - 1)
-          pass-turn =
-              let q : n - i + 1 ≡ n - (i - 1) = omega (arith, p .most) in
-              let r : n - (n - (i - 1)) ≡ i - 1 = omega (arith, p .most) in
-              let now : here′ ≡ shift (at rs) n (i - 1) = omega (arith, pass-here) in
-              let z : v′ - here′ ≡ shown fs cs rs n margin (n - i + 1) = rw q (omega (arith, pass-level)) in
-              record {
-                most = omega (arith, p .most);
-                made = ap (λ l. set l (i - 1) (v′ - here′)) (p .made)
-                    ∙ (rw (q, r) at (last-more (shown fs cs rs n margin) n (n - i) cs (v′ - here′) z));
-                level = pass-level;
-                shift-here = now;
-                low = omega (arith, d .level .most, p .low);
-                inside = d .found .run .inside;
-                total = d .found .run .total;
-                last = d .found .run .last;
-                past = λ k l u. found-past (rises (floors-carried g)) (d .found) (d .level .least) k l u;
-                base = λ k l. omega (arith, rises (floors-carried g) k (i - 1) (omega arith) (omega (arith, p .most)), d .level .least);
-              }
+  module _ {v′ c′ s′ e′ : ℕ} (d : LowestIn fs rs n (i - 1) margin (min v (y + here′)) v′ c′ s′ e′) where
+    -- the level found is the definition's
+    pass-level : v′ ≡ loweredFrom fs cs rs n margin (n - (i - 1))
+    pass-level =
+        let q : n - i + 1 ≡ n - (i - 1) = omega (arith, t .head .most) in
+        let r : n - (n - (i - 1)) ≡ i - 1 = omega (arith, t .head .most) in
+        let m : loweredFrom fs cs rs n margin (n - (i - 1))
+        ≡ fit (overload fs rs n (i - 1)) margin (shifted fs rs n (i - 1)) (min (loweredFrom fs cs rs n margin (n - i)) (shifted cs rs n (i - 1))) =
+        rw (q, r) at (lowered-more fs cs rs n margin (n - i)) in
+        let b : cap ≡ min (loweredFrom fs cs rs n margin (n - i)) (shifted cs rs n (i - 1)) =
+        pass-cap ∙ ap (λ x. min x (shifted cs rs n (i - 1))) (t .head .level) in
+        let start : overload fs rs n (i - 1) (shifted fs rs n (i - 1)) ≤ margin =
+        omega (arith, over-none (shifted fs rs n) n (i - 1) (shifted fs rs n (i - 1)) (rises (floors-carried (t .ready))) (omega arith)) in
+        fitted-one (d .level) (fitted (overload fs rs n (i - 1)) margin (shifted fs rs n (i - 1)) start cap pass-room)
+        ∙ ap (fit (overload fs rs n (i - 1)) margin (shifted fs rs n (i - 1))) b
+        ∙ sym m
+
+    -- and as shown it is a level
+    pub pass-shown : (here′ ≤ v′) × (v′ - here′ ≤ 5000)
+    pass-shown = (
+      omega (arith, turn-here, d .level .least),
+      omega (arith, turn-here, pass-cap, d .level .most, t .ready .ceiling (i - 1) (omega (arith, t .head .most))),
+    )
+
+    pub pass-turn : Pass fs cs rs n margin (set out (i - 1) (v′ - here′)) here′ e′ v′ c′ s′ (i - 1)
+    pass-turn =
+        let q : n - i + 1 ≡ n - (i - 1) = omega (arith, t .head .most) in
+        let r : n - (n - (i - 1)) ≡ i - 1 = omega (arith, t .head .most) in
+        let now : here′ ≡ shift (at rs) n (i - 1) = omega (arith, turn-here) in
+        let z : v′ - here′ ≡ shown fs cs rs n margin (n - i + 1) = rw q (omega (arith, pass-level)) in
+        record {
+          most = omega (arith, t .head .most);
+          made = ap (λ l. set l (i - 1) (v′ - here′)) (t .head .made)
+              ∙ (rw (q, r) at (last-more (shown fs cs rs n margin) n (n - i) cs (v′ - here′) z));
+          level = pass-level;
+          shift-here = now;
+          low = omega (arith, d .level .most, t .head .low);
+          inside = d .found .run .inside;
+          total = d .found .run .total;
+          last = d .found .run .last;
+          past = λ k l u. found-past (rises (floors-carried (t .ready))) (d .found) (d .level .least) k l u;
+          base = λ k l. omega (arith, rises (floors-carried (t .ready)) k (i - 1) (omega arith) (omega (arith, t .head .most)), d .level .least);
+        }

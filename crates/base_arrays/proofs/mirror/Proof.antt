@@ -1,4 +1,4 @@
--- `arrays::mirror` meets its contract: the loop of series' `Filled`, with mirrored levels. The measure is the days left. Assumes nothing.
+-- `mirror` meets its contract: at its loop's head the first k levels are stored, mirrored (`Filled`). The measure is the days left.
 use Prim.Native.Nat.{_+_, _-_}
 use Rattle.theory_method.specs.Filter.{mirrored}
 use Rattle.theory_lists.specs.Filled.{Filled, filled-none, filled-more, filled-all}
@@ -17,7 +17,7 @@ loop-holds : tie.Need-loop-holds Inv-loop μ-loop
 loop-holds c = filled-none
 
 sub-narrow : tie.Need-sub-narrow Inv-loop μ-loop
-sub-narrow c = omega (arith, c .before .before .before .before .pre .1 (c .before .before .before .before .args .n - (c .before .before .before .loop .k + 1)) (omega arith))
+sub-narrow c = let h = c .before .before .before in omega (arith, h .before .pre .1 (h .before .args .n - (h .loop .k + 1)) (omega arith))
 
 loop-again : tie.Need-loop-again Inv-loop μ-loop
 loop-again c = filled-more (c .before .before .before .before .loop .inv) (c .before .before .before .loop-test .taken) (search needs)

@@ -1,4 +1,4 @@
--- `arrays::reverse` meets its contract: the loop of series' `Filled`, with reversed rises. The measure is the days left. Assumes nothing.
+-- `reverse` meets its contract: at its loop's head the first k rises are stored, reversed (`Filled`). The measure is the days left.
 use Prim.Native.Nat.{_-_}
 use mathlib.Core.Path.{refl}
 use Rattle.theory_method.specs.Filter.{reversed}

@@ -1,4 +1,4 @@
--- `arrays::sum` meets its contract: the loop of Laws, `Summed`. The measure is the days left. Assumes nothing.
+-- `sum` meets its contract: at its loop's head stands the sum of the first `count` levels (`Summed` of Laws). The measure is the days left.
 use Prim.Native.Nat.{_-_}
 use Rattle.theory_lists.specs.Sum.{at}
 use Rattle.base_arrays.proofs.Laws.{Summed, summed-none, summed-more, summed-all}

@@ -16,11 +16,15 @@ abbrev μ-loop : tie.MeasureT-loop
 loop-holds : tie.Need-loop-holds Inv-loop μ-loop
 loop-holds c = nowhere-none
 
+-- a turn begins
+abbrev at-turn : tie.After-is-day-outside Inv-loop μ-loop → tie.In-loop Inv-loop μ-loop
+at-turn c = c .before .before .before .before
+
 returns : tie.Need-returns Inv-loop μ-loop
-returns c = nowhere-here (c .before .before .before .before .before .before .loop .inv) (c .before .before .before .before .before .loop-test .taken) (sym (c .before .is-day-outside .ensures) ∙ c .if1 .taken)
+returns c = let t = at-turn (c .before) in nowhere-here (t .before .loop .inv) (t .loop-test .taken) (sym (c .before .is-day-outside .ensures) ∙ c .if1 .taken)
 
 loop-again : tie.Need-loop-again Inv-loop μ-loop
-loop-again c = nowhere-more (c .before .before .before .before .before .before .loop .inv) (c .before .before .before .before .before .loop-test .taken) (sym (c .before .is-day-outside .ensures) ∙ c .if1 .left)
+loop-again c = let t = at-turn (c .before) in nowhere-more (t .before .loop .inv) (t .loop-test .taken) (sym (c .before .is-day-outside .ensures) ∙ c .if1 .left)
 
 returns-2 : tie.Need-returns-2 Inv-loop μ-loop
 returns-2 c = nowhere-all (c .before .loop .inv) (c .loop-test .left)

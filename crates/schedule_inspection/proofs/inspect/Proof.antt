@@ -1,3 +1,4 @@
+-- `inspect` meets its contract: a law of Stages for each return, by the list's length and whether the session is spent.
 use mathlib.Core.Path.{_∙_}
 use Rattle.schedule_inspection.proofs.Stages.{wrong-length, spent-refused, unspent-judged}
 use borrow.Author.Needs.{needs}

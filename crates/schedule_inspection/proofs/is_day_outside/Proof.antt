@@ -1,3 +1,4 @@
+-- `is_day_outside` meets its contract: what its calls give are the arguments of `outside`.
 use borrow.Author.Needs.{needs}
 use Rattle.schedule_inspection.proofs.is_day_outside.Statement.{statement}
 use Rattle.schedule_inspection.proofs.is_day_outside.Tie as tie

@@ -1,3 +1,4 @@
+-- `is_fallen` meets its contract: what its calls give are the sides of the test.
 use borrow.Author.Needs.{needs}
 use Rattle.schedule_inspection.proofs.is_fallen.Statement.{statement}
 use Rattle.schedule_inspection.proofs.is_fallen.Tie as tie

@@ -1,3 +1,4 @@
+-- `is_outside` meets its contract: a law of Stages for each return, by whether the number is below the range.
 use Rattle.schedule_inspection.proofs.Stages.{below, not-below}
 use Rattle.schedule_inspection.proofs.is_outside.Statement.{statement}
 use Rattle.schedule_inspection.proofs.is_outside.Tie as tie

@@ -1,3 +1,4 @@
+-- `is_total_outside` meets its contract: what its calls give are the arguments of `totalOutside`.
 use borrow.Author.Needs.{needs}
 use Rattle.schedule_inspection.proofs.is_total_outside.Statement.{statement}
 use Rattle.schedule_inspection.proofs.is_total_outside.Tie as tie

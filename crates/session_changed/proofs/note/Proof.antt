@@ -1,4 +1,4 @@
--- `changes::note` meets its contract: with the test known, both sides compute. Assumes nothing.
+-- `note` meets its contract: with the test known, both sides compute.
 use mathlib.Core.Path.{refl}
 use borrow.Author.Needs.{needs}
 use Rattle.session_changed.proofs.note.Statement.{statement}

@@ -1,6 +1,6 @@
--- `batch::cut` meets its contract: a walk of its MIR, by hand. The borrow is opened, the session behind it is copied into a local, `cutting::cut` is called on the copy, the session that it returned is stored over what stands there, and the borrow is closed at it.
--- All that the proof knows of `cutting::cut` is that it meets its contract.
--- Assumes nothing.
+-- `cut` meets its contract: a walk of its MIR, by hand. The borrow is opened, the session behind it is copied into a local, `session_cutting::cut` is
+-- called on the copy, the session that it returned is stored over what stands there, and the borrow is closed at it.
+-- All that the proof knows of `session_cutting::cut` is that it meets its contract.
 use mathlib.Core.Path.{_≡_, refl, ap, _∙_}
 use Prim.Native.Nat.{ℕ}
 use mathlib.Core.List.{[], _∷_, List}
@@ -83,7 +83,9 @@ answer-is r u g = LL.owed O.the-type O′.the-laws r _ g .0
 abbrev Callee : {M : Type 1} (𝓤 : URA M) (H : Heap 𝓤) (A : Atoms 𝓤) (mem : Memory → SProp 𝓤) (run : Routine → Fun 𝓤) → Contract 𝓤
 Callee 𝓤 H A mem run = tripleOf 𝓤 H A callee.signature (callee.spec 𝓤 H A mem run)
 
-module _ {M : Type 1} (𝓤 : URA M) (H : Heap 𝓤) (A : Atoms 𝓤) (W : Given 𝓤 H A) (at-mem : Memory → SProp 𝓤) (run : Routine → Fun 𝓤) (κ κ′ : Lft) (q q′ : Share) (b o : ℕ) (γ : GName) (h : Session) (c : Cut) (b′ o′ : ℕ) (γ′ : GName) (ys : List ℕ) (gc : Is C.the-row c (cval c ∷ [])) (room : Room u16 (length ys)) (bounds : SessionInBounds h) where
+module _ {M : Type 1} (𝓤 : URA M) (H : Heap 𝓤) (A : Atoms 𝓤) (W : Given 𝓤 H A) (at-mem : Memory → SProp 𝓤) (run : Routine → Fun 𝓤) (κ κ′ : Lft) (q q′ : Share)
+    (b o : ℕ) (γ : GName) (h : Session) (c : Cut) (b′ o′ : ℕ) (γ′ : GName) (ys : List ℕ) (gc : Is C.the-row c (cval c ∷ [])) (room : Room u16 (length ys))
+    (bounds : SessionInBounds h) where
   -- the list that is lent, and its machine value
   abbrev y : RefT (List ℕ)
   y = record { ptr = (b′, o′); name = γ′; now = ys }
@@ -124,7 +126,8 @@ module _ {M : Type 1} (𝓤 : URA M) (H : Heap 𝓤) (A : Atoms 𝓤) (W : Given
       qed W (‵ (fobs γ (S.the-row .coded .code (r .session))) ∷ ‵ (fbor κ (Body (mem S.the-row) b o γ)) ∷ ‵ (flft κ q) ∷ (‵ (flft κ′ q′) ⊛ ‵ ftrue) ∷ ‵ (finally u16 γ′ zs) ∷ []) ∵
       suffices ! _ (ends-at 𝓤 H A self.ended stayed (self.clauses 𝓤 H A at-mem run) W (((κ, (κ′, tt)), (q, (q′, tt)), tt, x, at), tt) (nval (r .answer)) (r .answer) (r .session, (tt, (zs, tt))) (tt, (tt, (l, tt)))) $
       says3 ! (ap (λ (s : AfterCut). s .session) er) (el ∙ ap (λ (s : AfterCut). listAfter h s ys) er) (ap (λ (s : AfterCut). s .answer) er) $ move ! (2 ∷ 3 ∷ []) $ join ! $
-      frame ! $ feqI ! (List Val) (vptr b o ∷ []) (vptr b o ∷ []) refl $ fjoin3 ! $ nothing ! $ move ! (2 ∷ 0 ∷ []) $ fjoin ! $ owned ! C.the-row (Is C.the-row) (EL.makes C.the-type C′.the-plain 𝓤 H A) c _ gc $ fjoin ! $ move ! (1 ∷ 0 ∷ []) $ fjoin ! $
+      frame ! $ feqI ! (List Val) (vptr b o ∷ []) (vptr b o ∷ []) refl $ fjoin3 ! $ nothing ! $ move ! (2 ∷ 0 ∷ []) $ fjoin ! $ owned ! C.the-row (Is C.the-row) (EL.makes C.the-type C′.the-plain 𝓤 H A) c _ gc $ fjoin ! $
+      move ! (1 ∷ 0 ∷ []) $ fjoin ! $
       owned ! N.the-row (Is N.the-row) (LL.makes N.the-type N′.the-plain 𝓤 H A) (r .answer) _ gn $ move ! (1 ∷ 0 ∷ []) $ done !
 
   module _ (Cs : Calls 𝓤 H) (Λ : Loops 𝓤 H) (fm : FmC 𝓤 H (W .laws) Cs) (known : Triple 𝓤 (Cs #session-cutting·cut) (Callee 𝓤 H A at-mem run)) where
@@ -141,29 +144,38 @@ module _ {M : Type 1} (𝓤 : URA M) (H : Heap 𝓤) (A : Atoms 𝓤) (W : Given
         -- [the struct's cell; what a Session owns; the open borrow; obs; auth; _7; …; _6; …; _5; …; _4; …; _3; …; _2; …; _1; …; room for _0; …; what the list owns; true; its token]
         assigns ! (of-opd ! (load ! (from ! (hop ! (look ! 17 refl) (stop !))) (look-raw ! 0 refl))) (from ! (stop !)) (init ! 9 refl (LL.lawful S.the-type S′.the-laws 𝓤 H A W .typed h _ gs .0)) $
         assigns ! (addr ! (from ! (fld ! refl (hop ! (look-in ! 13 (sub ! 0 refl (whole !))) (stop !))))) (from ! (stop !)) (init ! 7 refl (tt, tt)) $
-        assigns ! (agg ! (and-then ! (load ! (from ! (stop !)) (look ! 7 refl)) (and-then ! (load ! (from ! (fld ! refl (stop !))) (look-in ! 13 (sub ! 1 refl (whole !)))) (no-more !)))) (from ! (stop !)) (init ! 5 refl (tt, (tt, (record { fits = room .0 }, tt)))) $
+        assigns ! (agg ! (and-then ! (load ! (from ! (stop !)) (look ! 7 refl)) (and-then ! (load ! (from ! (fld ! refl (stop !))) (look-in ! 13 (sub ! 1 refl (whole !)))) (no-more !)))) (from ! (stop !))
+        (init ! 5 refl (tt, (tt, (record { fits = room .0 }, tt)))) $
         move ! (23 ∷ 21 ∷ []) $ use2 W (raw (Callee 𝓤 H A at-mem run .pre to)) (goes gs) $
-        calls-at ! fm (Callee 𝓤 H A at-mem run) known to (and-then ! (load ! (from ! (stop !)) (look ! 10 refl)) (and-then ! (load ! (from ! (stop !)) (look ! 16 refl)) (and-then ! (load ! (from ! (stop !)) (look ! 6 refl)) (no-more !)))) (λ u.
-        use1 W (later (some (λ (r : AfterCut). ((‵ (flft κ′ q′) ⊛ ‵ ftrue) ⊛ ‵ (O.the-row .own r (u ∷ []))) ⊛ raw (ensured 𝓤 H A callee.ended (callee.clauses 𝓤 H A at-mem run) (κ′, tt) (h, (c, (y, tt))) tt r)))) (id⊢ 𝓤 _) $ await ! tt $ pick ! (λ r.
+        calls-at ! fm (Callee 𝓤 H A at-mem run) known to
+        (and-then ! (load ! (from ! (stop !)) (look ! 10 refl)) (and-then ! (load ! (from ! (stop !)) (look ! 16 refl)) (and-then ! (load ! (from ! (stop !)) (look ! 6 refl)) (no-more !)))) (λ u.
+        use1 W (later (some (λ (r : AfterCut). ((‵ (flft κ′ q′) ⊛ ‵ ftrue) ⊛ ‵ (O.the-row .own r (u ∷ []))) ⊛ raw (ensured 𝓤 H A callee.ended (callee.clauses 𝓤 H A at-mem run) (κ′, tt) (h, (c, (y, tt))) tt r)))) (id⊢ 𝓤 _) $
+        await ! tt $ pick ! (λ r.
         -- what the callee ensures, at some last list
-        split ! $ move ! (1 ∷ []) $ use1 W (some (λ (zs : Unit {0} × (Unit {0} × (List ℕ × Unit {0}))). ‵ (lasts callee.ended (κ′, tt) (h, (c, (y, tt))) zs) ⊛ raw (fact 𝓤 (r ≡ after)) ⊛ raw (fact 𝓤 (zs .1 .1 .0 ≡ listAfter h r ys)))) (id⊢ 𝓤 _) $ pick ! (λ zs.
+        split ! $ move ! (1 ∷ []) $ use1 W (some (λ (zs : Unit {0} × (Unit {0} × (List ℕ × Unit {0}))). ‵ (lasts callee.ended (κ′, tt) (h, (c, (y, tt))) zs) ⊛ raw (fact 𝓤 (r ≡ after)) ⊛ raw (fact 𝓤 (zs .1 .1 .0 ≡ listAfter h r ys))))
+        (id⊢ 𝓤 _) $ pick ! (λ zs.
         split3 ! $ move ! (1 ∷ 2 ∷ []) $ heard ! (r ≡ after) (λ er. heard ! (zs .1 .1 .0 ≡ listAfter h r ys) (λ el. fsplit ! $ drop ! $ fsplit ! $ drop ! $ fsplit ! $ fsplit ! $ move ! (1 ∷ []) $ feqL ! (λ l.
         move ! (2 ∷ []) $ split ! $ move ! (1 ∷ []) $ peeks ! O.the-row (Is O.the-row) (shows 𝓤 H A O.the-row) r (u ∷ []) (λ is. drop ! $ move ! (3 ∷ 4 ∷ 5 ∷ 6 ∷ 7 ∷ []) $
         -- [the struct's cell; what a Session owns; the open borrow; obs; auth; the list's token; its last value; true; _7; …; _6; …; _5; …; _4; …; _3; …; _2; …; _1; …; room for _0; …]
         land ! (from ! (stop !)) (init ! 14 refl (LL.lawful O.the-type O′.the-laws 𝓤 H A W .typed r _ is .0)) $ rewrite ! 14 (λ (w : Val). ‵ (fat fullShare O′.mir l₄ 0 w)) (ap only (LL.tells O.the-type O′.the-laws r _ is)) refl $
-        assigns ! (of-opd ! (load ! (from ! (fld ! refl (stop !))) (look-in ! 14 (sub ! 1 refl (whole !))))) (from ! (hop ! (look ! 20 refl) (stop !))) (store-raw ! 0 refl (LL.lawful S.the-type S′.the-laws 𝓤 H A W .typed (r .session) _ (session-is r u is) .0)) $
+        assigns ! (of-opd ! (load ! (from ! (fld ! refl (stop !))) (look-in ! 14 (sub ! 1 refl (whole !))))) (from ! (hop ! (look ! 20 refl) (stop !)))
+        (store-raw ! 0 refl (LL.lawful S.the-type S′.the-laws 𝓤 H A W .typed (r .session) _ (session-is r u is) .0)) $
         assigns ! (of-opd ! (load ! (from ! (fld ! refl (stop !))) (look-in ! 14 (sub ! 0 refl (whole !))))) (from ! (stop !)) (init ! 22 refl (LL.lawful N.the-type N′.the-laws 𝓤 H A W .typed (r .answer) _ (answer-is r u is) .0)) $
         move ! (1 ∷ []) $ drop ! $ owned ! S.the-row (Is S.the-row) (LL.makes S.the-type S′.the-plain 𝓤 H A) (r .session) _ (session-is r u is) $ move ! (1 ∷ 0 ∷ []) $ closes ! tt S.the-row (r .session) (sval (r .session) ∷ []) b o $
         -- [obs; the borrow; its token; the list's token; its last value; true; _7; …; _6; …; _5; …; _4; …; _3; …; _2; …; _1; …; _0; …]
         returns ! (look ! 20 refl) $ forget ! 6 refl $ forget ! 8 refl $ forget ! 10 refl $ forget ! 12 refl $ forget ! 14 refl $ forget ! 16 refl $ forget ! 18 refl $ forget ! 20 refl $
-        move ! (20 ∷ 21 ∷ []) $ free1 ! $ move ! (18 ∷ 19 ∷ []) $ free1 ! $ move ! (16 ∷ 17 ∷ []) $ free1 ! $ move ! (14 ∷ 15 ∷ []) $ free1 ! $ move ! (12 ∷ 13 ∷ []) $ free1 ! $ move ! (10 ∷ 11 ∷ []) $ free1 ! $ move ! (8 ∷ 9 ∷ []) $ free1 ! $ move ! (6 ∷ 7 ∷ []) $ free1 ! $ free0 ! $
+        move ! (20 ∷ 21 ∷ []) $ free1 ! $ move ! (18 ∷ 19 ∷ []) $ free1 ! $ move ! (16 ∷ 17 ∷ []) $ free1 ! $ move ! (14 ∷ 15 ∷ []) $ free1 ! $ move ! (12 ∷ 13 ∷ []) $ free1 ! $ move ! (10 ∷ 11 ∷ []) $ free1 ! $ move ! (8 ∷ 9 ∷ []) $
+        free1 ! $ move ! (6 ∷ 7 ∷ []) $ free1 ! $ free0 ! $
         keep ! (0 ∷ 1 ∷ 2 ∷ 3 ∷ 4 ∷ []) $ by ! (exits r (zs .1 .1 .0) er el l (answer-is r u is)))))))))))))))))))
 
 module _ {M : Type 1} (𝓤 : URA M) (H : Heap 𝓤) (A : Atoms 𝓤) (W : Given 𝓤 H A) (at-mem : Memory → SProp 𝓤) (run : Routine → Fun 𝓤) where
   walks : (Cs : Calls 𝓤 H) (Λ : Loops 𝓤 H) → FmC 𝓤 H (W .laws) Cs → Triple 𝓤 (Cs #session-cutting·cut) (Callee 𝓤 H A at-mem run) → Walks 𝓤 H A self.ended stayed (WpFn 𝓤 H Cs Λ code.function) (self.clauses 𝓤 H A at-mem run)
-  walks Cs Λ fm known = walked 𝓤 H A self.ended stayed (self.clauses 𝓤 H A at-mem run) (WpFn 𝓤 H Cs Λ code.function) (λ κs. (ptr-vals, (EL.vals C.the-type C′.the-laws, (slice-vals, tt)))) (λ κs. (mut-tells (named 0) (κs .0) S.the-row, (EL.tells C.the-type C′.the-laws, (mut-slice-tells (named 1) (κs .1 .0) u16, tt))))
+  walks Cs Λ fm known =
+      walked 𝓤 H A self.ended stayed (self.clauses 𝓤 H A at-mem run) (WpFn 𝓤 H Cs Λ code.function) (λ κs. (ptr-vals, (EL.vals C.the-type C′.the-laws, (slice-vals, tt))))
+      (λ κs. (mut-tells (named 0) (κs .0) S.the-row, (EL.tells C.the-type C′.the-laws, (mut-slice-tells (named 1) (κs .1 .0) u16, tt))))
       (λ κs qs bounds a _ are. needs 𝓤 (SessionInBounds (a .0 .now)) _ (λ bounds.
-      walk 𝓤 H A W at-mem run (κs .0) (κs .1 .0) (qs .0) (qs .1 .0) (a .0 .ptr .0) (a .0 .ptr .1) (a .0 .name) (a .0 .now) (a .1 .0) (a .1 .1 .0 .ptr .0) (a .1 .1 .0 .ptr .1) (a .1 .1 .0 .name) (a .1 .1 .0 .now) (are .1 .0) (are .1 .1 .0 .0 .1) bounds Cs Λ fm known))
+      walk 𝓤 H A W at-mem run (κs .0) (κs .1 .0) (qs .0) (qs .1 .0) (a .0 .ptr .0) (a .0 .ptr .1) (a .0 .name) (a .0 .now) (a .1 .0) (a .1 .1 .0 .ptr .0) (a .1 .1 .0 .ptr .1) (a .1 .1 .0 .name) (a .1 .1 .0 .now) (are .1 .0)
+      (are .1 .1 .0 .0 .1) bounds Cs Λ fm known))
 
   all-go : AllGo 𝓤 H A W 2 (self.signature .params) (self.ended .kept) stayed
   all-go = (goes-ref 𝓤 H A W 2 0 tt (plain (λ _. S.the-row)), (goes-none 𝓤 H A W 2 (λ _. C.the-row) yes (λ κs x f. refl), (goes-gave-slice 𝓤 H A W 2 1 tt (plain (λ _. u16)), tt)))

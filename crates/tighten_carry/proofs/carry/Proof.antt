@@ -1,6 +1,7 @@
--- `carry::carry` meets its contract: the loop of Laws, `Upto`. The measure is the days left. Assumes nothing.
+-- `carry` meets its contract. At its loop's head, `Upto` of Laws, the floors below i are carried and uncrossed; the measure is the days left.
+-- What a turn reads, and what it then stores, is said once each.
 use Prim.Native.Nat.{_-_}
-use Rattle.tighten_carry.proofs.Laws.{Upto, upto-none, upto-more, upto-crossed, upto-all}
+use Rattle.tighten_carry.proofs.Laws.{Upto, Turn, Kept, upto-none, upto-more, upto-crossed, upto-all}
 use borrow.Author.Needs.{needs}
 use native.Mathlib.Omega.{arith}
 use Rattle.tighten_carry.proofs.carry.Statement.{statement}
@@ -15,17 +16,69 @@ abbrev μ-loop : tie.MeasureT-loop
 loop-holds : tie.Need-loop-holds Inv-loop μ-loop
 loop-holds c = upto-none
 
+-- ---- the places of a turn: it begins, the new floor is known, the ceiling is read, the floor is not above it
+
+abbrev at-turn : tie.After-wide Inv-loop μ-loop → tie.In-loop Inv-loop μ-loop
+at-turn c = c .before .before
+
+abbrev at-floor : tie.After-wide2 Inv-loop μ-loop → tie.After-max Inv-loop μ-loop
+at-floor c = c .before .before
+
+abbrev at-kept : tie.After-wide3 Inv-loop μ-loop → tie.After-narrow Inv-loop μ-loop
+at-kept c = c .before .before
+
+turn : (c : tie.After-wide2 Inv-loop μ-loop)
+    → let f = at-floor c in
+    let h = at-turn (f .before) .before in
+    let a = h .before .args in
+    Turn (a .floors .now) (a .ceilings .now) (a .rises .now) (a .n) (h .loop .i) (h .loop .low) (h .loop .floors) (f .before .wide .result) (c .wide2 .result) (f .max .result)
+turn c =
+    let f = at-floor c in
+    let t = at-turn (f .before) in
+    record {
+      head = t .before .loop .inv;
+      more = t .loop-test .taken;
+      read = f .before .wide .ensures .0;
+      floor = f .max .ensures;
+      ceiling = c .wide2 .ensures .0;
+    }
+
+kept : (c : tie.After-risen Inv-loop μ-loop)
+    → let k = at-kept (c .before) in
+    let d = k .before .before in
+    let f = at-floor d in
+    let h = at-turn (f .before) .before in
+    let a = h .before .args in
+    Kept (a .floors .now) (a .ceilings .now) (a .rises .now) (a .n) (h .loop .i) (h .loop .low) (h .loop .floors) (f .before .wide .result) (d .wide2 .result) (f .max .result)
+    (k .narrow .result) (c .before .wide3 .result) (c .risen .result)
+kept c =
+    let k = at-kept (c .before) in
+    record {
+      turn = turn (k .before .before);
+      under = k .before .if1 .left;
+      stored = k .narrow .ensures;
+      rise = c .before .wide3 .ensures .0;
+      next = c .risen .ensures;
+    }
+
 returns : tie.Need-returns Inv-loop μ-loop
-returns c = upto-crossed (c .before .before .before .before .before .before .before .loop .inv) (c .before .before .before .before .before .before .loop-test .taken) (c .before .before .before .before .wide .ensures .0) (c .before .before .before .max .ensures) (c .before .wide2 .ensures .0) (c .if1 .taken)
+returns c = upto-crossed (turn (c .before)) (c .if1 .taken)
 
 narrow-requires : tie.Need-narrow-requires Inv-loop μ-loop
-narrow-requires c κs = omega (arith, c .before .before .before .before .before .before .before .before .pre .ceiling (c .before .before .before .before .before .before .before .loop .i) (c .before .before .before .before .before .before .loop-test .taken))
+narrow-requires c κs =
+    let t = at-turn (at-floor (c .before) .before) in
+    let h = t .before in
+    omega (arith, h .before .pre .ceiling (h .loop .i) (t .loop-test .taken))
 
 risen-requires : tie.Need-risen-requires Inv-loop μ-loop
-risen-requires c κs = omega (arith, c .before .before .before .before .before .before .before .before .before .before .before .pre .ceiling (c .before .before .before .before .before .before .before .before .before .before .loop .i) (c .before .before .before .before .before .before .before .before .before .loop-test .taken), c .before .before .before .before .before .before .before .before .before .before .before .pre .rise (c .before .before .before .before .before .before .before .before .before .before .loop .i) (c .before .before .before .before .before .before .before .before .before .loop-test .taken))
+risen-requires c κs =
+    let t = at-turn (at-floor (at-kept c .before .before) .before) in
+    let h = t .before in
+    let p = h .before .pre in
+    omega (arith, p .ceiling (h .loop .i) (t .loop-test .taken), p .rise (h .loop .i) (t .loop-test .taken))
 
 loop-again : tie.Need-loop-again Inv-loop μ-loop
-loop-again c = upto-more (c .before .before .before .before .before .before .before .before .before .before .before .loop .inv) (c .before .before .before .before .before .before .before .before .before .before .loop-test .taken) (c .before .before .before .before .before .before .before .before .wide .ensures .0) (c .before .before .before .before .before .before .before .max .ensures) (c .before .before .before .before .before .wide2 .ensures .0) (c .before .before .before .before .if1 .left) (c .before .before .before .narrow .ensures) (c .before .wide3 .ensures .0) (c .risen .ensures)
+loop-again c = upto-more (kept c)
 
 returns-2 : tie.Need-returns-2 Inv-loop μ-loop
 returns-2 c = upto-all (c .before .loop .inv) (c .loop-test .left)

@@ -4,7 +4,9 @@ use Rattle.tighten_ceilings.proofs.lower_day.Statement.{statement}
 use Rattle.tighten_ceilings.proofs.lower_day.Tie as tie
 
 lower-requires : tie.Need-lower-requires
-lower-requires c κs = let e = c .before .before .before .before .before .pre .1 in rw (c .before .before .before .before .min .ensures, c .before .before .wide .ensures .0) (c .before .before .before .before .before .pre .0, (e .days, (e .low, e .base)))
+lower-requires c κs =
+    let p = c .before .before .before .before .before .pre in
+    rw (c .before .before .before .before .min .ensures, c .before .before .wide .ensures .0) (p .0, (p .1 .days, (p .1 .low, p .1 .base)))
 
 returns : tie.Need-returns
 returns c = rw (c .before .before .before .before .before .min .ensures) at (c .lower .ensures)

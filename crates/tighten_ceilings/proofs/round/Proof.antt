@@ -1,30 +1,73 @@
--- `round` meets its contract. Its calls' results are `rounded`'s parts.
-use Rattle.tighten_ceilings.proofs.Laws.{round-overload, round-over, round-room, round-excess, round-days, round-end}
+-- `round` meets its contract: its calls' results are `rounded`'s parts, said once as a record of Laws.
+use Rattle.tighten_ceilings.proofs.Laws.{Stepping, round-overload, round-over, round-room, round-excess, round-days, round-end}
+use Prim.Native.Nat.{_+_, _<_}
 use borrow.Author.Needs.{needs}
 use native.Mathlib.Omega.{arith}
 use Rattle.tighten_ceilings.proofs.round.Statement.{statement}
 use Rattle.tighten_ceilings.proofs.round.Tie as tie
 
+-- ---- the places on the way: the overload is known, the last day's floor is read, the step is known
+
+abbrev at-start : tie.After-overload-of → tie.Start
+at-start c = c .before
+
+abbrev at-overload : tie.After-wide → tie.After-overload-of
+at-overload c = c .before .before
+
+abbrev at-floor : tie.After-struct-known2 → tie.After-wide
+at-floor c = c .before .before
+
+abbrev at-step : tie.After-settle → tie.After-step-of
+at-step c = c .before .before
+
+stepping : (c : tie.After-settle)
+    → let f = at-floor (at-step c .before) in
+    let o = at-overload f in
+    let a = at-start o .args in
+    let d = a .day in
+    let r = c .settle .result in
+    Stepping (a .floors .now) (a .rises .now) (a .n) (a .i) (a .margin) (d .v) (d .count) (d .sum) (d .end) (o .overload-of .result) (f .wide .result) (at-step c .step-of .result)
+    (r .v) (r .count) (r .sum) (r .end)
+stepping c =
+    let f = at-floor (at-step c .before) in
+    let o = at-overload f in
+    record {
+      overloaded = at-start o .pre;
+      overload = o .overload-of .ensures;
+      floor = f .wide .ensures .0;
+      step = at-step c .step-of .ensures;
+      found = c .settle .ensures;
+    }
+
 overload-of-requires : tie.Need-overload-of-requires
 overload-of-requires c κs = round-overload (c .pre)
 
 sub-excess : tie.Need-sub-excess
-sub-excess c = omega (arith, round-over (c .before .pre) (c .overload-of .ensures))
+sub-excess c = omega (arith, round-over (at-start c .pre) (c .overload-of .ensures))
+
+-- the last day is below the level
+room : (c : tie.After-wide) → let s = at-start (at-overload c) in c .wide .result + s .args .day .end < s .args .day .v
+room c = round-room (at-start (at-overload c) .pre) (c .wide .ensures .0)
 
 add-room : tie.Need-add-room
-add-room c = omega (arith, round-room (c .before .before .before .before .pre) (c .before .wide .ensures .0))
+add-room c = omega (arith, room (c .before))
 
 sub-room : tie.Need-sub-room
-sub-room c = omega (arith, round-room (c .before .before .before .before .before .pre) (c .before .before .wide .ensures .0))
+sub-room c = omega (arith, room (at-floor c))
 
 step-of-requires : tie.Need-step-of-requires
-step-of-requires c κs = omega (arith, round-overload (c .before .before .before .before .before .pre) .0, round-excess (c .before .before .before .before .before .pre) (c .before .before .before .before .overload-of .ensures), c .before .before .before .before .before .pre .found .run .some)
+step-of-requires c κs =
+    let o = at-overload (at-floor c) in
+    let p = at-start o .pre in
+    omega (arith, round-overload p .0, round-excess p (o .overload-of .ensures), p .found .run .some)
 
 settle-requires : tie.Need-settle-requires
-settle-requires c κs = (c .before .before .before .before .before .before .before .pre .carried, round-days (c .before .before .before .before .before .before .before .pre) (c .before .step-of .result))
+settle-requires c κs =
+    let p = at-start (at-overload (at-floor (c .before .before))) .pre in
+    (p .carried, round-days p (c .before .step-of .result))
 
 returns : tie.Need-returns
-returns c = round-end (c .before .before .before .before .before .before .before .before .pre) (c .before .before .before .before .before .before .before .overload-of .result) (c .before .before .before .before .before .before .before .overload-of .ensures) (c .before .before .before .before .before .wide .ensures .0) (c .before .before .step-of .ensures) (c .settle .ensures)
+returns c = round-end (stepping c)
 
 pub round-spec : {M : Type 1} → statement M
 round-spec =

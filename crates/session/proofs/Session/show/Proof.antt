@@ -36,10 +36,10 @@ returns-2 : tie.Need-returns-2
 returns-2 c = let e = c .too-short2 .ensures in (e ∙ second-short _ _ _ (c .before .if2 .taken), (left _ _ _ e, left _ _ _ e))
 
 decode-all-requires : tie.Need-decode-all-requires
-decode-all-requires c κs = let p = present (at-long c) in (refl, p .most, search needs, λ k h. omega (arith, p .floor k h))
+decode-all-requires c κs = let p = present (at-long c) in (refl, omega (arith, p .most), search needs, λ k h. omega (arith, p .floor k h))
 
 decode-all-requires-2 : tie.Need-decode-all-requires-2
-decode-all-requires-2 c κs = let p = present (at-long (at-floors c .before)) in (refl, p .most, search needs, λ k h. omega (arith, p .ceiling k h))
+decode-all-requires-2 c κs = let p = present (at-long (at-floors c .before)) in (refl, omega (arith, p .most), search needs, λ k h. omega (arith, p .ceiling k h))
 
 returns-3 : tie.Need-returns-3
 returns-3 c =

@@ -1,5 +1,4 @@
 -- `Cut::numbered` meets its contract: each arm knows the kind, or that it is none of the four.
--- Assumes nothing.
 use mathlib.Core.Path.{refl}
 use borrow.Author.Tests.{ne-eqb}
 use mir.Facts.{toZ-ofZ}
