@@ -130,31 +130,36 @@ abbrev fall : (ℕ → ℕ) → ℕ → ℕ → ℕ → ℕ → ℕ → ℕ
 fall a n i margin v c = step (over a n i v - margin) c (v - a (i + c - 1))
 
 -- a level v that day i is not above, and its days
-module _ {a z : ℕ → ℕ} {n i v c s e : ℕ} (up : Rising a n) (f : Found a z n i v c s e) (base : a i ≤ v) where
+pub record Based (a z : ℕ → ℕ) (n i v c s e : ℕ) : Type 0 where
+  pub up : Rising a n
+  pub found : Found a z n i v c s e
+  pub base : a i ≤ v
+
+module _ {a z : ℕ → ℕ} {n i v c s e : ℕ} (b : Based a z n i v c s e) where
   found-past : (k : ℕ) → i + c ≤ k → k < n → v ≤ a k
-  found-past k h u = window-past a n i v k (omega (arith, f .count)) u
+  found-past k h u = window-past a n i v k (omega (arith, b .found .count)) u
 
   found-under : 1 < c → a (i + c - 1) < v
-  found-under h = let p : c ≡ window a n i v = f .count in rw p (window-under a n i v (omega arith))
+  found-under h = let p : c ≡ window a n i v = b .found .count in rw p (window-under a n i v (omega arith))
 
   found-all : (k : ℕ) → i ≤ k → k < i + c → a k ≤ v
   found-all k h u = pick (decLt 1 c)
     where
       pick : Dec (1 < c) → a k ≤ v
-      pick (yes y) = omega (arith, found-under y, up k (i + c - 1) (omega arith) (omega (arith, f .run .inside)))
-      pick (no y) = let p : k ≡ i = omega arith in rw p base
+      pick (yes y) = omega (arith, found-under y, b .up k (i + c - 1) (omega arith) (omega (arith, b .found .run .inside)))
+      pick (no y) = let p : k ≡ i = omega arith in rw p (b .base)
 
   found-zeros : over a n i v ≡ sumFor (above a v) i c
   found-zeros =
-      let p : c + (n - i - c) ≡ n - i = omega (arith, f .run .inside) in
-      rw p at (sum-zeros (above a v) i c (n - i - c) (λ k h u. omega (arith, found-past k h (omega (arith, f .run .inside)))))
+      let p : c + (n - i - c) ≡ n - i = omega (arith, b .found .run .inside) in
+      rw p at (sum-zeros (above a v) i c (n - i - c) (λ k h u. omega (arith, found-past k h (omega (arith, b .found .run .inside)))))
 
   -- v counts once for each day
   pub found-over : over a n i v + s ≡ c * v
-  found-over = omega (arith, found-zeros, f .run .total, excess-exact a i c v found-all)
+  found-over = omega (arith, found-zeros, b .found .run .total, excess-exact a i c v found-all)
 
   rounded-fall : (margin : ℕ) → rounded a n i margin v ≡ v - fall a n i margin v c
-  rounded-fall margin = let p : c ≡ window a n i v = f .count in rw p (rounded-is a n i margin v)
+  rounded-fall margin = let p : c ≡ window a n i v = b .found .count in rw p (rounded-is a n i margin v)
 
   module _ {margin : ℕ} (h : margin < over a n i v) where
     pub found-active : a (i + c - 1) < v
@@ -162,32 +167,35 @@ module _ {a z : ℕ → ℕ} {n i v c s e : ℕ} (up : Rising a n) (f : Found a 
       where
         pick : Dec (1 < c) → a (i + c - 1) < v
         pick (yes y) = found-under y
-        pick (no y) = let p : i + c - 1 ≡ i = omega (arith, f .run .some) in rw p (over-base a n i v margin up h)
+        pick (no y) = let p : i + c - 1 ≡ i = omega (arith, b .found .run .some) in rw p (over-base a n i v margin (b .up) h)
 
     fall-is : (0 < fall a n i margin v c) × (fall a n i margin v c ≤ v - a (i + c - 1)) × (c * (fall a n i margin v c - 1) < over a n i v - margin)
-    fall-is = stepped (over a n i v - margin) c (v - a (i + c - 1)) (omega arith) (f .run .some) (omega (arith, found-active))
+    fall-is = stepped (over a n i v - margin) c (v - a (i + c - 1)) (omega arith) (b .found .run .some) (omega (arith, found-active))
 
 -- round: with o the overload, x the last day's floor, r the step
 module _ {fs rs : List ℕ} {n i margin v c s e : ℕ} (p : Overloaded fs rs n i margin v c s e) where
   round-base : shifted fs rs n i ≤ v
   round-base = omega (arith, over-base (shifted fs rs n) n i v margin (rises (p .carried)) (p .more))
 
+  round-based : Based (shifted fs rs n) (shift (at rs) n) n i v c s e
+  round-based = record { up = rises (p .carried); found = p .found; base = round-base }
+
   pub round-overload : (c ≤ 512) × (v ≤ 16777216) × (s ≤ c * v)
   round-overload =
-      (omega (arith, p .found .run .inside, p .carried .most), p .low, omega (arith, found-over (rises (p .carried)) (p .found) round-base))
+      (omega (arith, p .found .run .inside, p .carried .most), p .low, omega (arith, found-over round-based))
 
   pub round-over : {o : ℕ} → o + s ≡ c * v → o ≡ over (shifted fs rs n) n i v
-  round-over q = omega (arith, found-over (rises (p .carried)) (p .found) round-base)
+  round-over q = omega (arith, found-over round-based)
 
   pub round-room : {x : ℕ} → x ≡ at fs (i + c - 1) → x + e < v
-  round-room q = omega (arith, p .found .run .last, found-active (rises (p .carried)) (p .found) round-base (p .more))
+  round-room q = omega (arith, p .found .run .last, found-active round-based (p .more))
 
   pub round-excess : {o : ℕ} → o + s ≡ c * v → o ≤ 8589934592
   round-excess q = omega (arith, mul-le-mul {n₁ = c} {m₁ = v} {n₂ = 512} {m₂ = 16777216} (round-overload .0) (p .low))
 
   pub round-days : (r : ℕ) → DaysIn fs rs n i (v - r) c s e
   round-days r =
-      record { run = p .found .run; past = λ k l u. omega (arith, found-past (rises (p .carried)) (p .found) round-base k l u) }
+      record { run = p .found .run; past = λ k l u. omega (arith, found-past round-based k l u) }
 
 -- what the calls of a round gave: the overload o, the last day's floor x, the step r, and the days of the level r below
 pub record Stepping (fs rs : List ℕ) (n i margin v c s e o x r u c′ s′ e′ : ℕ) : Type 0 where
@@ -203,7 +211,7 @@ round-end {fs} {rs} {n} {i} {margin} {v} {c} {s} {e} {o} {x} {r} t =
     let po : o ≡ over (shifted fs rs n) n i v = round-over p (t .overload) in
     let px : x + e ≡ shifted fs rs n (i + c - 1) = omega (arith, t .floor, p .found .run .last) in
     let pr : r ≡ fall (shifted fs rs n) n i margin v c = rw (po, px) at (t .step) in
-    record { level = omega (arith, t .found .0, rounded-fall (rises (p .carried)) (p .found) (round-base p) margin); found = rw (t .found .0) (t .found .1) }
+    record { level = omega (arith, t .found .0, rounded-fall (round-based p) margin); found = rw (t .found .0) (t .found .1) }
 
 -- ---- lower
 
@@ -222,11 +230,14 @@ too-high : (c w k q x y s margin : ℕ) → x + s ≡ c * (w + k) → k ≤ q �
 too-high c w k q x y s margin e h u lo = omega (arith, mul-le-mul-left c h)
 
 module _ {a z : ℕ → ℕ} {n i margin cap v c s e : ℕ} (up : Rising a n) (t : Stand a z n i margin cap v c s e) where
+  stand-based : Based a z n i v c s e
+  stand-based = record { up = up; found = t .found; base = t .base }
+
   pub stand-overload : n ≤ 512 → cap ≤ 16777216 → (c ≤ 512) × (v ≤ 16777216) × (s ≤ c * v)
-  stand-overload m h = (omega (arith, t .found .run .inside), omega (arith, t .fits), omega (arith, found-over up (t .found) (t .base)))
+  stand-overload m h = (omega (arith, t .found .run .inside), omega (arith, t .fits), omega (arith, found-over stand-based))
 
   pub stand-over : {o : ℕ} → o + s ≡ c * v → o ≡ over a n i v
-  stand-over q = omega (arith, found-over up (t .found) (t .base))
+  stand-over q = omega (arith, found-over stand-based)
 
   pub stand-done : {o : ℕ} → o + s ≡ c * v → o ≤ margin → Lowest a z n i margin cap v c s e
   stand-done q h =
@@ -243,15 +254,15 @@ module _ {a z : ℕ → ℕ} {n i margin cap v c s e : ℕ} (up : Rising a n) (t
         let w : c + (n - i - c) ≡ n - i = omega (arith, t .found .run .inside) in
         let part : sumFor (above a u) i c ≤ over a n i u = rw w at (sum-part (above a u) i c (n - i - c)) in
         let low : c * u ≤ over a n i u + s = omega (arith, excess-low a i c u, t .found .run .total) in
-        let x : over a n i v + s ≡ c * (u + (v - u)) = rw d (found-over up (t .found) (t .base)) in
-        too-high c u (v - u) (fall a n i margin v c - 1) (over a n i v) (over a n i u) s margin x (omega arith) (fall-is up (t .found) (t .base) h .2) low
+        let x : over a n i v + s ≡ c * (u + (v - u)) = rw d (found-over stand-based) in
+        too-high c u (v - u) (fall a n i margin v c - 1) (over a n i v) (over a n i u) s margin x (omega arith) (fall-is stand-based h .2) low
 
     module _ {u c′ s′ e′ : ℕ} (q : Rounded a z n i margin v u c′ s′ e′) where
       stand-level : u ≡ v - fall a n i margin v c
-      stand-level = q .level ∙ rounded-fall up (t .found) (t .base) margin
+      stand-level = q .level ∙ rounded-fall stand-based margin
 
       pub stand-less : u < v
-      stand-less = omega (arith, stand-level, fall-is up (t .found) (t .base) h .0, found-active up (t .found) (t .base) h)
+      stand-less = omega (arith, stand-level, fall-is stand-based h .0, found-active stand-based h)
 
       pub stand-turn : Stand a z n i margin cap u c′ s′ e′
       stand-turn =
@@ -260,8 +271,8 @@ module _ {a z : ℕ → ℕ} {n i margin cap v c s e : ℕ} (up : Rising a n) (t
             base = omega (
               arith,
               stand-level,
-              fall-is up (t .found) (t .base) h .1,
-              found-active up (t .found) (t .base) h,
+              fall-is stand-based h .1,
+              found-active stand-based h,
               up i (i + c - 1) (omega (arith, t .found .run .some)) (omega (arith, t .found .run .inside)),
             );
             fits = omega (arith, stand-less, t .fits);
@@ -456,6 +467,6 @@ module _ {fs cs rs : List ℕ} {n margin : ℕ} {out : List ℕ} {here e v c s i
           inside = d .found .run .inside;
           total = d .found .run .total;
           last = d .found .run .last;
-          past = λ k l u. found-past (rises (floors-carried (t .ready))) (d .found) (d .level .least) k l u;
+          past = λ k l u. found-past (record { up = rises (floors-carried (t .ready)); found = d .found; base = d .level .least }) k l u;
           base = λ k l. omega (arith, rises (floors-carried (t .ready)) k (i - 1) (omega arith) (omega (arith, t .head .most)), d .level .least);
         }
