@@ -11,13 +11,21 @@ use Rattle.theory_lists.specs.Written.{written}
 use Rattle.base_codes.specs.Code.{within, code, on}
 use Rattle.theory_method.specs.Filter.{Box, box, Tight, tightened, zeros}
 use Rattle.session.specs.Profile.{Profile}
+use Rattle.session.specs.declared.Numbers.{Numbers}
 use Rattle.session.specs.declared.Ranges.{Ranges}
 use Rattle.session.specs.declared.Session.{Session}
 use Rattle.session.specs.declared.Opened.{Opened}
 
--- what is handed over at opening
-abbrev pub profile : ℕ → List ℤ → List ℤ → List ℤ → ℤ → ℤ → Profile
-profile n fs cs rs lo hi = record { days = n; floors = fs; ceilings = cs; rises = rs; lowest = lo; highest = hi }
+-- what is handed over at opening: a profile's numbers and its lists
+abbrev pub profile : Numbers → List ℤ → List ℤ → List ℤ → Profile
+profile m fs cs rs = record { days = m .days; floors = fs; ceilings = cs; rises = rs; lowest = m .lowest; highest = m .highest }
+
+abbrev pub numbersOf : Profile → Numbers
+numbersOf p = record { days = p .days; lowest = p .lowest; highest = p .highest }
+
+-- what readers give beside a refusal: the day count and the total's bounds are 0
+abbrev pub noNumbers : Numbers
+noNumbers = record { days = 0; lowest = pos 0; highest = pos 0 }
 
 -- ---- the refusals
 

@@ -4,13 +4,20 @@ ghost use lib.ListN.{length};
 ghost use Rattle.theory_lists.specs.Lent.{lentList};
 ghost use Rattle.theory_method.specs.Filter.{InBounds};
 ghost use Rattle.tighten_filtering.specs.Boxed.{boxed};
-ghost use Rattle.session.specs.Opening.{opened, refusedWith, profile};
+ghost use Rattle.session.specs.Opening.{opened, refusedWith, profile, noNumbers};
 ghost use Rattle.session.specs.Stages.{openedCodes, lengthRefusal};
 ghost use Rattle.session.specs.Showing.{SessionInBounds, shown, listTooShort, floorOn, ceilingOn};
 use base_codes::Coded;
 use base_codes::CodedNumbers;
 use limits::MOST_DAYS;
 use limits::TOTAL_OFFSET;
+
+// A profile's numbers, beside its lists: the day count, and the total's floor and ceiling.
+pub struct Numbers {
+    pub days: usize,
+    pub lowest: i32,
+    pub highest: i32,
+}
 
 // The range of each day as levels, a point plus 1,000, and of the total, held plus 512,000.
 pub struct Ranges {
@@ -41,6 +48,17 @@ pub struct Shown {
     pub least: i32,
     pub most: i32,
     pub spent: bool,
+}
+
+// What stands in place of a profile's numbers beside a refusal.
+pub fn no_numbers() -> Numbers
+    ensures { λ r. ⌜ r ≡ noNumbers ⌝ }
+{
+    Numbers {
+        days: 0,
+        lowest: 0,
+        highest: 0,
+    }
 }
 
 // The level of 0 points.
@@ -163,16 +181,12 @@ impl Session {
     pub const HIGHEST_TOTAL: i32 = limits::HIGHEST_TOTAL;
 
     // Opens a profile: document 01's checks 1, 2, 3, 4, 5, 6, then 8.
-    pub fn open(
-        days: usize,
-        floors: &[i16],
-        ceilings: &[i16],
-        rises: &[i16],
-        lowest: i32,
-        highest: i32,
-    ) -> Opened
-        ensures { λ r. ⌜ r ≡ opened (profile days (now (floors .entry)) (now (ceilings .entry)) (now (rises .entry)) lowest highest) ⌝ }
+    pub fn open(numbers: Numbers, floors: &[i16], ceilings: &[i16], rises: &[i16]) -> Opened
+        ensures { λ r. ⌜ r ≡ opened (profile numbers (now (floors .entry)) (now (ceilings .entry)) (now (rises .entry))) ⌝ }
     {
+        let days = numbers.days;
+        let lowest = numbers.lowest;
+        let highest = numbers.highest;
         let refusal = length_refusal(days, floors.len(), ceilings.len(), rises.len());
         if refusal != 0 {
             return refused(refusal);

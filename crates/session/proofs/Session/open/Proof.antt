@@ -4,7 +4,9 @@ use Prim.Native.Nat.{ℕ}
 use mathlib.Core.Path.{_≡_, sym, _∙_}
 use mathlib.Core.List.{List}
 use denote.Ref.{now}
-use borrow.Author.Needs.{needs}
+use mir.Syntax.{w32}
+use mir.Val.{SFits}
+use borrow.Author.Needs.{needs, sfits-of}
 use native.Mathlib.Omega.{arith}
 use Rattle.limits.specs.Limits.{lowestPoint, highestPoint, lowestRise, highestRise, lowestTotal, highestTotal}
 use Rattle.base_codes.specs.Code.{coded}
@@ -16,9 +18,12 @@ use Rattle.session.proofs.Checks.{lengths-refused, floor-outside, ceili
 use Rattle.session.proofs.Session.open.Statement.{statement}
 use Rattle.session.proofs.Session.open.Tie as tie
 
--- ---- the places on the way: where the check before a call had passed
+-- ---- the places on the way: the profile's numbers are told, then where the check before a call had passed
 
-abbrev from-lengths : tie.After-length-refusal → tie.Start
+abbrev at-start : tie.After-struct-told2 → tie.Start
+at-start c = c .before .before
+
+abbrev from-lengths : tie.After-length-refusal → tie.After-struct-told2
 from-lengths c = c .before
 
 abbrev from-floors : tie.After-code-all → tie.Else1
@@ -43,28 +48,35 @@ lowest-call c = c .before .before .before
 abbrev highest-call : tie.After-known-told2 → tie.After-code2
 highest-call c = c .before .before .before
 
--- the start, seen from where each check has passed
-abbrev past-lengths : tie.Else1 → tie.Start
+-- the numbers, seen from where each check has passed
+abbrev past-lengths : tie.Else1 → tie.After-struct-told2
 past-lengths c = from-lengths (c .before)
 
-abbrev past-floors : tie.Else2 → tie.Start
+abbrev past-floors : tie.Else2 → tie.After-struct-told2
 past-floors c = past-lengths (from-floors (c .before))
 
-abbrev past-ceilings : tie.Else3 → tie.Start
+abbrev past-ceilings : tie.Else3 → tie.After-struct-told2
 past-ceilings c = past-floors (from-ceilings (c .before))
 
-abbrev past-rises : tie.Else4 → tie.Start
+abbrev past-rises : tie.Else4 → tie.After-struct-told2
 past-rises c = past-ceilings (from-rises (c .before))
 
-abbrev past-lowest : tie.After-known-told → tie.Start
+abbrev past-lowest : tie.After-known-told → tie.After-struct-told2
 past-lowest c = past-rises (from-lowest (lowest-call c))
 
-abbrev past-highest : tie.After-known-told2 → tie.Start
+abbrev past-highest : tie.After-known-told2 → tie.After-struct-told2
 past-highest c = past-lowest (from-highest (highest-call c))
 
 -- what is opened
-abbrev handed : tie.Start → Profile
-handed c = let a = c .args in profile (a .days) (now (a .floors)) (now (a .ceilings)) (now (a .rises)) (a .lowest) (a .highest)
+abbrev handed : tie.After-struct-told2 → Profile
+handed c = let a = at-start c .args in profile (a .numbers) (now (a .floors)) (now (a .ceilings)) (now (a .rises))
+
+-- its total's bounds fit 32 bits
+lowest-fits : (c : tie.After-struct-told2) → SFits w32 (handed c .lowest)
+lowest-fits c = sfits-of {w = w32} (c .struct-told2 .given .1 .0 .1)
+
+highest-fits : (c : tie.After-struct-told2) → SFits w32 (handed c .highest)
+highest-fits c = sfits-of {w = w32} (c .struct-told2 .given .1 .1 .0 .1)
 
 -- the codes that are stored
 abbrev low : tie.Else2 → List ℕ
@@ -104,10 +116,10 @@ rises-passed c =
 
 -- the bounds of the total, as their calls saw them
 lowest-coded : (c : tie.After-code) → c .code .result ≡ coded lowestTotal highestTotal (handed (past-rises (from-lowest c)) .lowest)
-lowest-coded c = coded-seen lowestTotal highestTotal (past-rises (from-lowest c) .fits .lowest) (c .code .ensures)
+lowest-coded c = coded-seen lowestTotal highestTotal (lowest-fits (past-rises (from-lowest c))) (c .code .ensures)
 
 highest-coded : (c : tie.After-code2) → c .code2 .result ≡ coded lowestTotal highestTotal (handed (past-lowest (from-highest c)) .highest)
-highest-coded c = coded-seen lowestTotal highestTotal (past-lowest (from-highest c) .fits .highest) (c .code2 .ensures)
+highest-coded c = coded-seen lowestTotal highestTotal (highest-fits (past-lowest (from-highest c))) (c .code2 .ensures)
 
 lowest-passed : (c : tie.After-known-told)
     → let r = from-lowest (lowest-call c) in
