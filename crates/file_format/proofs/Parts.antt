@@ -12,15 +12,17 @@ use Rattle.base_codes.specs.Code.{on}
 use Rattle.base_little_endian.specs.Fields.{u16Bytes, u32Bytes, i16Bytes, i32Bytes}
 use Rattle.base_little_endian.proofs.Laws.{u16-length, i16-length}
 use Rattle.session.specs.Profile.{Profile}
+use Rattle.session.specs.Opening.{numbersOf}
+use Rattle.session.specs.declared.Numbers.{Numbers}
 use Rattle.session_cuts.specs.declared.Cut.{Cut}
 use Rattle.session_cuts.specs.Sheet.{cutOn, kindOf, dayOf, valueOf}
 use Rattle.file_format.specs.Format.{dayOffset, cutOffset, fileLength, header, dayBytes, cutBytes, dayRow, file}
 
 -- ---- how long each part is
 
-pub header-length : (n m : ℕ) (low high : ℤ) → length (header n m low high) ≡ 16
+pub header-length : (m : Numbers) (cuts : ℕ) → length (header m cuts) ≡ 16
 unfolding header u16Bytes u32Bytes i32Bytes
-header-length n m low high = refl
+header-length m cuts = refl
 
 pub day-length : (floor ceiling rise : ℤ) → length (dayBytes floor ceiling rise) ≡ 6
 unfolding dayBytes i16Bytes u16Bytes
@@ -32,7 +34,7 @@ cut-length c = refl
 
 module _ (p : Profile) (cs : List Cut) where
   head : List ℕ
-  head = header (p .days) (length cs) (p .lowest) (p .highest)
+  head = header (numbersOf p) (length cs)
 
   cutRow : ℕ → List ℕ
   cutRow j = cutBytes (cutOn cs j)
@@ -46,7 +48,7 @@ module _ (p : Profile) (cs : List Cut) where
 
   head-length : length head ≡ 16
   unfolding head
-  head-length = header-length (p .days) (length cs) (p .lowest) (p .highest)
+  head-length = header-length (numbersOf p) (length cs)
 
   front-length : length (head ++ rows (dayRow p) (p .days)) ≡ dayOffset (p .days)
   front-length = omega (arith, length-append head (rows (dayRow p) (p .days)), head-length, length-rows (dayRow p) 6 (p .days) row-length)
@@ -66,7 +68,7 @@ module _ (p : Profile) (cs : List Cut) where
   file-cuts = rw (whole, ← front-length) (drop-append-seam (head ++ rows (dayRow p) (p .days)) (rows cutRow (length cs)))
 
   -- the three parts, stored one after another
-  pub parts-stored : (l : List ℕ) {a b out : List ℕ} → a ≡ sets l 0 (header (p .days) (length cs) (p .lowest) (p .highest)) → b ≡ sets a 16 (rows (dayRow p) (p .days))
+  pub parts-stored : (l : List ℕ) {a b out : List ℕ} → a ≡ sets l 0 (header (numbersOf p) (length cs)) → b ≡ sets a 16 (rows (dayRow p) (p .days))
       → out ≡ sets b (dayOffset (p .days)) (rows (λ j. cutBytes (cutOn cs j)) (length cs)) → out ≡ sets l 0 (file p cs)
   unfolding head cutRow
   parts-stored l e f g =
@@ -77,7 +79,7 @@ module _ (p : Profile) (cs : List Cut) where
 
   -- b is laid out as the file of p and cs
   pub record Laid (b : List ℕ) : Type 0 where
-    pub top : Part b 0 (header (p .days) (length cs) (p .lowest) (p .highest))
+    pub top : Part b 0 (header (numbersOf p) (length cs))
     pub day : (k : ℕ) → k < p .days → Part b (dayOffset k) (dayRow p k)
     pub cut : (j : ℕ) → j < length cs → Part b (cutOffset (p .days) j) (cutBytes (cutOn cs j))
 
@@ -104,13 +106,13 @@ module _ (p : Profile) (cs : List Cut) where
 
 -- ---- the fields of each part
 
-pub record Header (b : List ℕ) (n m : ℕ) (low high : ℤ) : Type 0 where
-  pub days : Part b 0 (u16Bytes n)
-  pub cuts : Part b 2 (u16Bytes m)
+pub record Header (b : List ℕ) (m : Numbers) (count : ℕ) : Type 0 where
+  pub days : Part b 0 (u16Bytes (m .days))
+  pub cuts : Part b 2 (u16Bytes count)
   pub daysOffset : Part b 4 (u16Bytes 16)
-  pub cutsOffset : Part b 6 (u16Bytes (dayOffset n))
-  pub lowest : Part b 8 (i32Bytes low)
-  pub highest : Part b 12 (i32Bytes high)
+  pub cutsOffset : Part b 6 (u16Bytes (dayOffset (m .days)))
+  pub lowest : Part b 8 (i32Bytes (m .lowest))
+  pub highest : Part b 12 (i32Bytes (m .highest))
 
 pub record Day (b : List ℕ) (i : ℕ) (low high step : ℤ) : Type 0 where
   pub floor : Part b i (i16Bytes low)
@@ -122,43 +124,43 @@ pub record CutFields (b : List ℕ) (i : ℕ) (c : Cut) : Type 0 where
   pub day : Part b (i + 2) (u16Bytes (dayOf c))
   pub value : Part b (i + 4) (i32Bytes (valueOf c))
 
-module _ (n m : ℕ) (low high : ℤ) where
+module _ (m : Numbers) (cuts : ℕ) where
   abbrev two : List ℕ
-  two = u16Bytes n ++ u16Bytes m
+  two = u16Bytes (m .days) ++ u16Bytes cuts
 
   abbrev three : List ℕ
   three = two ++ u16Bytes 16
 
   abbrev four : List ℕ
-  four = three ++ u16Bytes (dayOffset n)
+  four = three ++ u16Bytes (dayOffset (m .days))
 
   abbrev five : List ℕ
-  five = four ++ i32Bytes low
+  five = four ++ i32Bytes (m .lowest)
 
   module _ {b : List ℕ} where
-    pub header-fields : Part b 0 (header n m low high) → Header b n m low high
+    pub header-fields : Part b 0 (header m cuts) → Header b m cuts
     unfolding header u16Bytes u32Bytes i32Bytes
     header-fields p =
-        let p5 : Part b 0 five = part-left five (i32Bytes high) refl p in
-        let p4 : Part b 0 four = part-left four (i32Bytes low) refl p5 in
-        let p3 : Part b 0 three = part-left three (u16Bytes (dayOffset n)) refl p4 in
+        let p5 : Part b 0 five = part-left five (i32Bytes (m .highest)) refl p in
+        let p4 : Part b 0 four = part-left four (i32Bytes (m .lowest)) refl p5 in
+        let p3 : Part b 0 three = part-left three (u16Bytes (dayOffset (m .days))) refl p4 in
         let p2 : Part b 0 two = part-left two (u16Bytes 16) refl p3 in
         record {
-          days = part-left (u16Bytes n) (u16Bytes m) (u16-length n) p2;
-          cuts = part-right (u16Bytes n) (u16Bytes m) (u16-length n) p2;
+          days = part-left (u16Bytes (m .days)) (u16Bytes cuts) (u16-length (m .days)) p2;
+          cuts = part-right (u16Bytes (m .days)) (u16Bytes cuts) (u16-length (m .days)) p2;
           daysOffset = part-right two (u16Bytes 16) refl p3;
-          cutsOffset = part-right three (u16Bytes (dayOffset n)) refl p4;
-          lowest = part-right four (i32Bytes low) refl p5;
-          highest = part-right five (i32Bytes high) refl p;
+          cutsOffset = part-right three (u16Bytes (dayOffset (m .days))) refl p4;
+          lowest = part-right four (i32Bytes (m .lowest)) refl p5;
+          highest = part-right five (i32Bytes (m .highest)) refl p;
         }
 
-    pub header-part : Header b n m low high → Part b 0 (header n m low high)
+    pub header-part : Header b m cuts → Part b 0 (header m cuts)
     unfolding header u16Bytes u32Bytes i32Bytes
     header-part h =
-        part-both five (i32Bytes high) refl
-        (part-both four (i32Bytes low) refl
-        (part-both three (u16Bytes (dayOffset n)) refl
-        (part-both two (u16Bytes 16) refl (part-both (u16Bytes n) (u16Bytes m) (u16-length n) (h .days) (h .cuts)) (h .daysOffset))
+        part-both five (i32Bytes (m .highest)) refl
+        (part-both four (i32Bytes (m .lowest)) refl
+        (part-both three (u16Bytes (dayOffset (m .days))) refl
+        (part-both two (u16Bytes 16) refl (part-both (u16Bytes (m .days)) (u16Bytes cuts) (u16-length (m .days)) (h .days) (h .cuts)) (h .daysOffset))
         (h .cutsOffset))
         (h .lowest))
         (h .highest)

@@ -98,8 +98,8 @@ module _ (p : Profile) (cs : List Cut) (w : Passed p cs) where
   unfolding b
   parts = laid p cs (part-all (file p cs))
 
-  head : Header b (p .days) (length cs) (p .lowest) (p .highest)
-  head = header-fields (p .days) (length cs) (p .lowest) (p .highest) (parts .top)
+  head : Header b (Opening.numbersOf p) (length cs)
+  head = header-fields (Opening.numbersOf p) (length cs) (parts .top)
 
   days : dayCount b ≡ p .days
   days = u16-read (p .days) (head .days)

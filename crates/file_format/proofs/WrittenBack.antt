@@ -17,7 +17,7 @@ use Rattle.session_cuts.specs.declared.Cut.the-variants.{DayFloor}
 use Rattle.session_cuts.specs.declared.Numbered.the-variants.{Unknown}
 use Rattle.session_cuts.specs.Numbered.{numbered}
 use Rattle.session_cuts.specs.Sheet.{cutOn, kindOf, dayOf, valueOf}
-use Rattle.file_format.specs.Format.{dayOffset, cutOffset, dayCount, cutCount, totalFloorAt, totalCeilingAt, floorAt, ceilingAt, riseAt, numberedAt, cutAt, known, profileIn, cutsIn, cutBytes, file}
+use Rattle.file_format.specs.Format.{dayOffset, cutOffset, dayCount, cutCount, floorAt, ceilingAt, riseAt, numberedAt, cutAt, known, numbersIn, profileIn, cutsIn, cutBytes, file}
 use Rattle.file_format.proofs.Parts.{Laid, laid-part, length-file, Header, header-part, Day, day-part, cut-part}
 use Rattle.file_format.proofs.Taken.{Taken}
 
@@ -54,7 +54,7 @@ module _ (b : List ℕ) (bytes : Bytes b) (t : Taken b) where
   unfolding cutsIn
   count = length-listOf (λ j. known (cutAt b j)) (cutCount b)
 
-  top : Header b (dayCount b) (length (cutsIn b)) (totalFloorAt b) (totalCeilingAt b)
+  top : Header b (numbersIn b) (length (cutsIn b))
   top =
       record {
         days = u16-part bytes 0;
@@ -95,7 +95,7 @@ module _ (b : List ℕ) (bytes : Bytes b) (t : Taken b) where
   unfolding profileIn
   all =
       record {
-        top = header-part (dayCount b) (length (cutsIn b)) (totalFloorAt b) (totalCeilingAt b) top;
+        top = header-part (numbersIn b) (length (cutsIn b)) top;
         day = λ k h. day-part (on (profileIn b .floors) k) (on (profileIn b .ceilings) k) (on (profileIn b .rises) k) (day k h);
         cut = λ j h. cut j (omega (arith, count));
       }

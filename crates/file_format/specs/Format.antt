@@ -9,7 +9,8 @@ use Rattle.theory_lists.specs.Rows.{rows}
 use Rattle.base_codes.specs.Code.{on}
 use Rattle.base_little_endian.specs.Fields.{u16At, i16At, i32At, u16Bytes, i16Bytes, i32Bytes}
 use Rattle.session.specs.Profile.{Profile}
-use Rattle.session.specs.Opening.{profile}
+use Rattle.session.specs.Opening.{profile, numbersOf}
+use Rattle.session.specs.declared.Numbers.{Numbers}
 use Rattle.session_cuts.specs.declared.Cut.{Cut}
 use Rattle.session_cuts.specs.declared.Cut.the-variants.{DayFloor}
 use Rattle.session_cuts.specs.declared.Numbered.{Numbered}
@@ -85,19 +86,23 @@ abbrev pub known : Numbered → Cut
 known (Known c) = c
 known Unknown = DayFloor 0 (pos 0)
 
+-- a profile's numbers, beside its lists
+abbrev pub numbersIn : List ℕ → Numbers
+numbersIn b = record { days = dayCount b; lowest = totalFloorAt b; highest = totalCeilingAt b }
+
 -- the profile and the cuts of a file that the reader takes; the last rise is not handed on
 unfoldable pub profileIn : List ℕ → Profile
-profileIn b =
-    profile (dayCount b) (listOf (floorAt b) (dayCount b)) (listOf (ceilingAt b) (dayCount b)) (listOf (riseAt b) (dayCount b - 1)) (totalFloorAt b) (totalCeilingAt b)
+profileIn b = profile (numbersIn b) (listOf (floorAt b) (dayCount b)) (listOf (ceilingAt b) (dayCount b)) (listOf (riseAt b) (dayCount b - 1))
 
 unfoldable pub cutsIn : List ℕ → List Cut
 cutsIn b = listOf (λ j. known (cutAt b j)) (cutCount b)
 
 -- ---- the bytes of a profile and its cuts
 
--- of n days and m cuts, with the total's floor and ceiling
-unfoldable pub header : ℕ → ℕ → ℤ → ℤ → List ℕ
-header n m low high = u16Bytes n ++ u16Bytes m ++ u16Bytes headerLength ++ u16Bytes (dayOffset n) ++ i32Bytes low ++ i32Bytes high
+-- of a profile's numbers and how many cuts there are
+unfoldable pub header : Numbers → ℕ → List ℕ
+header m cuts =
+    u16Bytes (m .days) ++ u16Bytes cuts ++ u16Bytes headerLength ++ u16Bytes (dayOffset (m .days)) ++ i32Bytes (m .lowest) ++ i32Bytes (m .highest)
 
 -- floor, ceiling, rise to the next day
 unfoldable pub dayBytes : ℤ → ℤ → ℤ → List ℕ
@@ -111,4 +116,4 @@ abbrev pub dayRow : Profile → ℕ → List ℕ
 dayRow p k = dayBytes (on (p .floors) k) (on (p .ceilings) k) (on (p .rises) k)
 
 unfoldable pub file : Profile → List Cut → List ℕ
-file p cs = header (p .days) (length cs) (p .lowest) (p .highest) ++ rows (dayRow p) (p .days) ++ rows (λ j. cutBytes (cutOn cs j)) (length cs)
+file p cs = header (numbersOf p) (length cs) ++ rows (dayRow p) (p .days) ++ rows (λ j. cutBytes (cutOn cs j)) (length cs)
