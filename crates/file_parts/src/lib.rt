@@ -17,16 +17,20 @@ use file_format::CUT_BYTES;
 use file_format::DAY_BYTES;
 use file_format::HEADER_BYTES;
 use limits::MOST_CUTS;
+use session::Numbers;
 use session_cuts::Cut;
 use session_cuts::Entry;
 
 // Where the days begin, as the header has it.
 const DAYS_OFFSET: u16 = HEADER_BYTES as u16;
 
-pub fn put_header(days: usize, cuts: usize, lowest: i32, highest: i32, out: &mut [u8])
-    requires { ⌜ (days ≤ mostDays) × (cuts ≤ mostCuts) × (headerLength ≤ length (now out)) ⌝ }
-    ensures { λ r. ⌜ now (out .exit) ≡ sets (now (out .entry)) 0 (header days cuts lowest highest) ⌝ }
+pub fn put_header(numbers: Numbers, cuts: usize, out: &mut [u8])
+    requires { ⌜ (numbers .days ≤ mostDays) × (cuts ≤ mostCuts) × (headerLength ≤ length (now out)) ⌝ }
+    ensures { λ r. ⌜ now (out .exit) ≡ sets (now (out .entry)) 0 (header numbers cuts) ⌝ }
 {
+    let days = numbers.days;
+    let lowest = numbers.lowest;
+    let highest = numbers.highest;
     put_u16(out, 0, days as u16);
     put_u16(out, 2, cuts as u16);
     put_u16(out, 4, DAYS_OFFSET);
