@@ -2,14 +2,14 @@
 use mathlib.Core.Bool.{cond}
 use mathlib.Core.List.{List}
 use Prim.Native.Nat.{ℕ, _+_, _*_}
-use lib.IntN.{pos}
 use lib.Dec.{eqb}
 use lib.ListN.{replicate}
 use Rattle.limits.specs.Limits.{mostCuts}
 use Rattle.theory_lists.specs.Written.{written}
+use Rattle.session.specs.Opening.{noNumbers}
 use Rattle.session_cuts.specs.declared.Sheet.{Sheet}
 use Rattle.session_cuts.specs.Sheet.{blank}
-use Rattle.file_format.specs.Format.{cutLength, dayOffset, dayCount, cutCount, totalFloorAt, totalCeilingAt, numberedAt, known}
+use Rattle.file_format.specs.Format.{cutLength, dayOffset, dayCount, cutCount, numberedAt, known, numbersIn}
 use Rattle.file_format.specs.Reading.{readingRefusal}
 use Rattle.file_reading.specs.declared.ReadAnswer.{ReadAnswer}
 
@@ -19,12 +19,11 @@ sheetFrom b from m = record { count = m; entries = written (λ j. record { cut =
 
 -- beside a refusal's number: no day, no cut, and 0 for both of the total's bounds
 abbrev pub refusedRead : ℕ → ReadAnswer
-refusedRead number = record { refusal = number; days = 0; lowest = pos 0; highest = pos 0; sheet = record { count = 0; entries = replicate mostCuts blank } }
+refusedRead number = record { refusal = number; numbers = noNumbers; sheet = record { count = 0; entries = replicate mostCuts blank } }
 
--- the day count, the total's bounds and the cuts of a file
+-- the numbers of a file's profile, and its cuts
 unfoldable pub contents : List ℕ → ReadAnswer
-contents b =
-    record { refusal = 0; days = dayCount b; lowest = totalFloorAt b; highest = totalCeilingAt b; sheet = sheetFrom b (dayOffset (dayCount b)) (cutCount b) }
+contents b = record { refusal = 0; numbers = numbersIn b; sheet = sheetFrom b (dayOffset (dayCount b)) (cutCount b) }
 
 -- what reading gives beside the lists, with lists of these lengths lent for floors, ceilings and rises
 unfoldable pub readFrom : List ℕ → ℕ → ℕ → ℕ → ReadAnswer

@@ -16,17 +16,17 @@ use file_format::CUT_BYTES;
 use file_format::DAY_BYTES;
 use file_format::HEADER_BYTES;
 use limits::MOST_CUTS;
+use session::Numbers;
+use session::no_numbers;
 use session_cuts::Cut;
 use session_cuts::Entry;
 use session_cuts::Numbered;
 use session_cuts::Sheet;
 
-// The refusal's number, 0 for none; the day count, the total's bounds and the cuts.
+// The refusal's number, 0 for none; the profile's numbers and the cuts.
 pub struct ReadAnswer {
     pub refusal: u8,
-    pub days: usize,
-    pub lowest: i32,
-    pub highest: i32,
+    pub numbers: Numbers,
     pub sheet: Sheet,
 }
 
@@ -65,11 +65,10 @@ fn refused(number: u8) -> ReadAnswer
         cut: Cut::DayFloor(0, 0),
     };
     let entries = [blank; MOST_CUTS];
+    let numbers = no_numbers();
     ReadAnswer {
         refusal: number,
-        days: 0,
-        lowest: 0,
-        highest: 0,
+        numbers,
         sheet: Sheet { count: 0, entries },
     }
 }
@@ -81,13 +80,16 @@ fn read_contents(bytes: &[u8], days: usize) -> ReadAnswer
 {
     let lowest = i32_at(bytes, 8);
     let highest = i32_at(bytes, 12);
+    let numbers = Numbers {
+        days,
+        lowest,
+        highest,
+    };
     let count = wide(u16_at(bytes, 2));
     let sheet = read_sheet(bytes, HEADER_BYTES + days * DAY_BYTES, count);
     ReadAnswer {
         refusal: 0,
-        days,
-        lowest,
-        highest,
+        numbers,
         sheet,
     }
 }

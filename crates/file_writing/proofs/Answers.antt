@@ -43,7 +43,7 @@ pub record Checked (p : Profile) (s : Sheet) : Type 0 where
 -- the output has room, and the three parts of the file were stored in it one after another
 pub record Stored (p : Profile) (s : Sheet) (l a b out : List ℕ) : Type 0 where
   pub room : fileLength (p .days) (s .count) ≤ length l
-  pub header-stored : a ≡ sets l 0 (header (p .days) (s .count) (p .lowest) (p .highest))
+  pub header-stored : a ≡ sets l 0 (header (Opening.numbersOf p) (s .count))
   pub days-stored : b ≡ sets a 16 (rows (dayRow p) (p .days))
   pub cuts-stored : out ≡ sets b (dayOffset (p .days)) (rows (λ j. cutBytes (getD (s .entries) j blank .cut)) (s .count))
 

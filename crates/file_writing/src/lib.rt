@@ -15,6 +15,7 @@ use file_parts::put_days;
 use file_parts::put_entries;
 use file_parts::put_header;
 use limits::MOST_CUTS;
+use session::Numbers;
 use session::Session;
 use session_cuts::Entry;
 use session_cuts::Sheet;
@@ -26,17 +27,10 @@ pub struct WriteAnswer {
 }
 
 // 1, 2, 3, 4, 5, 6 as opening does; whether there is a schedule is not checked.
-pub fn profile_refusal(
-    days: usize,
-    floors: &[i16],
-    ceilings: &[i16],
-    rises: &[i16],
-    lowest: i32,
-    highest: i32,
-) -> u8
-    ensures { λ r. ⌜ r ≡ earlyOpening (profile days (now (floors .entry)) (now (ceilings .entry)) (now (rises .entry)) lowest highest) ⌝ }
+pub fn profile_refusal(numbers: Numbers, floors: &[i16], ceilings: &[i16], rises: &[i16]) -> u8
+    ensures { λ r. ⌜ r ≡ earlyOpening (profile numbers (now (floors .entry)) (now (ceilings .entry)) (now (rises .entry))) ⌝ }
 {
-    let opened = Session::open(days, floors, ceilings, rises, lowest, highest);
+    let opened = Session::open(numbers, floors, ceilings, rises);
     if opened.refusal == 8 {
         return 0;
     }
@@ -77,24 +71,23 @@ fn refuse(number: u8) -> WriteAnswer
 
 // Writes a file: document 01's checks 1 to 6 as opening does, each cut in order as cutting does, then 2 where the output is too short.
 pub fn write(
-    days: usize,
+    numbers: Numbers,
     floors: &[i16],
     ceilings: &[i16],
     rises: &[i16],
-    lowest: i32,
-    highest: i32,
     sheet: Sheet,
     out: &mut [u8],
 ) -> WriteAnswer
-    ensures { λ r. ⌜ r ≡ writeAnswer (profile days (now (floors .entry)) (now (ceilings .entry)) (now (rises .entry)) lowest highest) (cutsOf sheet) (length (now (out .entry))) ⌝ }
-    ensures { λ r. ⌜ now (out .exit) ≡ output (profile days (now (floors .entry)) (now (ceilings .entry)) (now (rises .entry)) lowest highest) (cutsOf sheet) (now (out .entry)) ⌝ }
+    ensures { λ r. ⌜ r ≡ writeAnswer (profile numbers (now (floors .entry)) (now (ceilings .entry)) (now (rises .entry))) (cutsOf sheet) (length (now (out .entry))) ⌝ }
+    ensures { λ r. ⌜ now (out .exit) ≡ output (profile numbers (now (floors .entry)) (now (ceilings .entry)) (now (rises .entry))) (cutsOf sheet) (now (out .entry)) ⌝ }
 {
+    let days = numbers.days;
     let count = sheet.count;
     let entries = sheet.entries;
     if MOST_CUTS < count {
         return refuse(1);
     }
-    let of_profile = profile_refusal(days, floors, ceilings, rises, lowest, highest);
+    let of_profile = profile_refusal(numbers, floors, ceilings, rises);
     let of_cuts = entries_refusal(entries, count, days);
     if of_profile != 0 {
         return refuse(of_profile);
@@ -107,7 +100,7 @@ pub fn write(
     if out.len() < length {
         return refuse(2);
     }
-    put_header(days, count, lowest, highest, out);
+    put_header(numbers, count, out);
     put_days(floors, ceilings, rises, days, out);
     put_entries(entries, count, from, out);
     WriteAnswer { refusal: 0, length }

@@ -1,6 +1,5 @@
 -- `profile_refusal` meets its contract: opening's number is that of its checks but where it is 8, and then those refuse nothing (`opened-refusal`).
 use mathlib.Core.Path.{_≡_, ap, sym, _∙_}
-use mir.Facts.{toZ-ofZ}
 use Rattle.session.specs.Profile.{Profile}
 use Rattle.session.specs.Opening.{profile, opened}
 use Rattle.session.proofs.SessionBounds.{opened-refusal}
@@ -14,12 +13,10 @@ abbrev at-opened : tie.After-struct-known → tie.After-open
 at-opened c = c .before
 
 abbrev handed : tie.After-open → Profile
-handed c = let a = c .before .args in profile (a .days) (a .floors .now) (a .ceilings .now) (a .rises .now) (a .lowest) (a .highest)
+handed c = let a = c .before .args in profile (a .numbers) (a .floors .now) (a .ceilings .now) (a .rises .now)
 
 opens : (c : tie.After-open) → c .«open» .result .refusal ≡ opened (handed c) .refusal
-opens c =
-    let f = c .before .fits in
-    ap (λ (o : Opened). o .refusal) (rw (toZ-ofZ (f .lowest), toZ-ofZ (f .highest)) at (c .«open» .ensures))
+opens c = ap (λ (o : Opened). o .refusal) (c .«open» .ensures)
 
 returns : tie.Need-returns
 returns c = let o = at-opened (c .before) in sym (opened-refusal (handed o) .0 (sym (opens o) ∙ c .if1 .taken))

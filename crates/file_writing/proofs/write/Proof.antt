@@ -1,7 +1,6 @@
 -- `write` meets its contract: a law of Answers for each refusal, by the checks that have passed before it, and one for the three parts stored.
 use mathlib.Core.Path.{_≡_, sym, _∙_}
 use native.Mathlib.Omega.{arith}
-use mir.Facts.{toZ-ofZ}
 use Rattle.session.specs.Profile.{Profile}
 use Rattle.session.specs.Opening.{profile, earlyOpening}
 use Rattle.session.proofs.Entered.{Sized, entered}
@@ -56,11 +55,11 @@ abbrev from-checked : tie.Else3 → tie.Start
 from-checked c = from-opens (test-cuts (c .before))
 
 abbrev given : tie.Start → Profile
-given c = let a = c .args in profile (a .days) (a .floors .now) (a .ceilings .now) (a .rises .now) (a .lowest) (a .highest)
+given c = let a = c .args in profile (a .numbers) (a .floors .now) (a .ceilings .now) (a .rises .now)
 
 -- what is checked as opening does
 by-opening : (c : tie.After-profile-refusal) → c .profile-refusal .result ≡ earlyOpening (given (handed c))
-by-opening c = let f = handed c .fits in rw (toZ-ofZ (f .lowest), toZ-ofZ (f .highest)) at (c .profile-refusal .ensures)
+by-opening c = c .profile-refusal .ensures
 
 opens : (c : tie.Else2) → Opens (given (from-opens c)) (from-opens c .args .sheet)
 opens c = let p = at-profile (test-profile (c .before)) in record { few = at-few p .if1 .left; profile = sym (by-opening p) ∙ c .if2 .left }
@@ -129,9 +128,8 @@ returns-5 c =
     let h = at-header (d .before) in
     let r = at-room (h .before) in
     let k = test-room (r .before) in
-    let f = from-checked k .fits in
     written _ _ (checked k)
-    (record { room = r .if4 .left; header-stored = rw (toZ-ofZ (f .lowest), toZ-ofZ (f .highest)) at (h .put-header .ensures); days-stored = d .put-days .ensures; cuts-stored = e .put-entries .ensures })
+    (record { room = r .if4 .left; header-stored = h .put-header .ensures; days-stored = d .put-days .ensures; cuts-stored = e .put-entries .ensures })
 
 pub write-spec : {M : Type 1} → statement M
 write-spec =
