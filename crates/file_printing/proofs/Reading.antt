@@ -9,7 +9,7 @@ use Rattle.theory_lists.specs.Lent.{lentList, list-filled}
 use Rattle.theory_lists.specs.ListOf.{listOf, take-written}
 use Rattle.session.specs.Opening.{profile}
 use Rattle.session_cuts.specs.Sheet.{cutsOf}
-use Rattle.file_format.specs.Format.{dayCount, cutCount, floorAt, ceilingAt, riseAt, profileIn, cutsIn}
+use Rattle.file_format.specs.Format.{dayCount, cutCount, floorAt, ceilingAt, riseAt, numbersIn, profileIn, cutsIn}
 use Rattle.file_format.specs.Reading.{earlyReading}
 use Rattle.file_format.proofs.Taken.{not-refused}
 use Rattle.file_reading.specs.Reading.{sheetFrom, contents, readFrom}
@@ -19,9 +19,9 @@ use Rattle.file_reading.specs.declared.ReadAnswer.{ReadAnswer}
 -- what is handed on of a file that is not refused: its profile and its cuts
 pub record Got (b : List ℕ) (r : ReadAnswer) (fs cs rs : List ℤ) : Type 0 where
   pub none : earlyReading b ≡ 0
-  pub some : 0 < r .days
-  pub few : r .days ≤ 512
-  pub entered : profile (r .days) (take (r .days) fs) (take (r .days) cs) (take (r .days - 1) rs) (r .lowest) (r .highest) ≡ profileIn b
+  pub some : 0 < r .numbers .days
+  pub few : r .numbers .days ≤ 512
+  pub entered : profile (r .numbers) (take (r .numbers .days) fs) (take (r .numbers .days) cs) (take (r .numbers .days - 1) rs) ≡ profileIn b
   pub fewCuts : r .sheet .count ≤ 512
   pub cuts : cutsOf (r .sheet) ≡ cutsIn b
 
@@ -44,16 +44,16 @@ module _ (b : List ℕ) {r : ReadAnswer} {fs cs rs : List ℤ} (u : Unrefused b 
       let whole = read-taken b 512 512 511 (sym (ap (λ a. a .refusal) (u .answer)) ∙ u .passed) in
       let all : r ≡ contents b = u .answer ∙ whole .0 in
       let t = whole .1 in
-      let d : r .days ≡ dayCount b = ap (λ a. a .days) all in
+      let m : r .numbers ≡ numbersIn b = ap (λ a. a .numbers) all in
       let count : r .sheet .count ≡ cutCount b = ap (λ a. a .sheet .count) all in
       let low = lent (floorAt b) (dayCount b) 512 (u .floors) (t .few) in
       let high = lent (ceilingAt b) (dayCount b) 512 (u .ceilings) (t .few) in
       let steps = lent (riseAt b) (dayCount b - 1) 511 (u .rises) (omega (arith, t .few)) in
       record {
         none = not-refused b t;
-        some = omega (arith, t .some);
-        few = omega (arith, t .few);
-        entered = rw (d, low, high, steps, ap (λ a. a .lowest) all, ap (λ a. a .highest) all) refl;
+        some = rw m (t .some);
+        few = rw m (t .few);
+        entered = rw (m, low, high, steps) refl;
         fewCuts = rw count (t .fewCuts);
         cuts = ap (λ a. cutsOf (a .sheet)) all ∙ sheet-cuts b (t .fewCuts);
       }

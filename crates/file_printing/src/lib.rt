@@ -14,6 +14,7 @@ ghost use Rattle.file_printing.specs.Printing.{dayLineLength, cutOnce, c
 ghost use Rattle.file_printing.specs.Stages.{stageOf, numberOf};
 use limits::MOST_CUTS;
 use limits::MOST_DAYS;
+use session::Numbers;
 use session::Opened;
 use session::Session;
 use session_cuts::Entry;
@@ -167,28 +168,20 @@ fn put_refusal(number: u8, out: &mut [u8; MOST_TEXT_BYTES]) -> usize
 
 // Opens what was read of a file.
 fn open_read(
-    days: usize,
+    numbers: Numbers,
     floors: &[i16; MOST_DAYS],
     ceilings: &[i16; MOST_DAYS],
     rises: &[i16; MOST_RISES],
-    lowest: i32,
-    highest: i32,
 ) -> Opened
-    requires { ⌜ (0 < days) × (days ≤ mostDays) ⌝ }
-    ensures { λ r. ⌜ r ≡ opened (profile days (take days (now (floors .entry))) (take days (now (ceilings .entry))) (take (days - 1) (now (rises .entry))) lowest highest) ⌝ }
+    requires { ⌜ (0 < numbers .days) × (numbers .days ≤ mostDays) ⌝ }
+    ensures { λ r. ⌜ r ≡ opened (profile numbers (take (numbers .days) (now (floors .entry))) (take (numbers .days) (now (ceilings .entry))) (take (numbers .days - 1) (now (rises .entry)))) ⌝ }
 {
+    let days = numbers.days;
     let low: &[i16] = floors;
     let high: &[i16] = ceilings;
     let least: &[i16] = rises;
     let steps = days - 1;
-    Session::open(
-        days,
-        &low[..days],
-        &high[..days],
-        &least[..steps],
-        lowest,
-        highest,
-    )
+    Session::open(numbers, &low[..days], &high[..days], &least[..steps])
 }
 
 // Reads a file, opens its profile, applies its cuts in order, and stores at the front of `out` the first refusal, or the ranges.
@@ -205,14 +198,8 @@ pub fn print_ranges(file: &[u8], out: &mut [u8; MOST_TEXT_BYTES]) -> usize
     let Stage::Passed = reading else {
         return put_refusal(number_of(reading), out);
     };
-    let opened = open_read(
-        read.days,
-        &floors,
-        &ceilings,
-        &rises,
-        read.lowest,
-        read.highest,
-    );
+    let numbers = read.numbers;
+    let opened = open_read(numbers, &floors, &ceilings, &rises);
     let opening = stage_of(opened.refusal);
     let Stage::Passed = opening else {
         return put_refusal(number_of(opening), out);

@@ -1,6 +1,5 @@
 -- `open_read` meets its contract, which is that of `open`: the parts that are lent are as long as they say.
 use Prim.Native.Nat.{_-_}
-use mir.Facts.{toZ-ofZ}
 use mathlib.Core.Path.{sym}
 use lib.Seq.{length-take-le}
 use borrow.Author.Needs.{needs}
@@ -21,16 +20,13 @@ abbrev from-rises : tie.After-open-arg3 → tie.Start
 from-rises c = at-start (at-floors (at-ceilings c))
 
 slice-aggregate-open : tie.Need-slice-aggregate-open
-slice-aggregate-open c = let a = at-start c .args in sym (length-take-le (a .days) (a .floors .now) (search needs))
+slice-aggregate-open c = let a = at-start c .args in sym (length-take-le (a .numbers .days) (a .floors .now) (search needs))
 
 slice-aggregate-open-2 : tie.Need-slice-aggregate-open-2
-slice-aggregate-open-2 c = let a = at-start (at-floors c) .args in sym (length-take-le (a .days) (a .ceilings .now) (search needs))
+slice-aggregate-open-2 c = let a = at-start (at-floors c) .args in sym (length-take-le (a .numbers .days) (a .ceilings .now) (search needs))
 
 slice-aggregate-open-3 : tie.Need-slice-aggregate-open-3
-slice-aggregate-open-3 c = let a = from-rises c .args in sym (length-take-le (a .days - 1) (a .rises .now) (search needs))
-
-returns : tie.Need-returns
-returns c = let f = from-rises (c .before) .fits in rw (toZ-ofZ (f .lowest), toZ-ofZ (f .highest)) at (c .«open» .ensures)
+slice-aggregate-open-3 c = let a = from-rises c .args in sym (length-take-le (a .numbers .days - 1) (a .rises .now) (search needs))
 
 pub open-read-spec : {M : Type 1} → statement M
 open-read-spec =
@@ -41,4 +37,4 @@ open-read-spec =
     slice-aggregate-open-2
     slice-aggregate-open-3
     (λ c. search needs)
-    returns)
+    (λ c. c .«open» .ensures))

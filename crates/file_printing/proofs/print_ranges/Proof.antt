@@ -3,9 +3,6 @@ use Prim.Native.Nat.{ℕ}
 use mathlib.Core.Path.{_≡_, ap, sym, _∙_}
 use mathlib.Core.List.{List}
 use native.Mathlib.Omega.{arith}
-use mir.Syntax.{w32}
-use mir.Facts.{toZ-ofZ}
-use borrow.Author.Needs.{sfits-of}
 use Rattle.session.specs.Opening.{opened}
 use Rattle.session.specs.declared.Opened.{Opened}
 use Rattle.session.proofs.SessionBounds.{opened-in-bounds}
@@ -33,8 +30,8 @@ test-reading c = c
 abbrev at-reading : tie.After-enum-told → tie.After-stage-of
 at-reading c = test-reading (c .before .before)
 
-abbrev at-passed : tie.After-struct-told2 → tie.After-enum-told
-at-passed c = c .before .before .before .before .before
+abbrev at-passed : tie.After-rises3 → tie.After-enum-told
+at-passed c = c .before .before .before .before
 
 abbrev at-opening : tie.After-stage-of2 → tie.After-open-read
 at-opening c = c .before
@@ -75,11 +72,7 @@ got-file c =
     got (bytes r) (record { answer = e .0; passed = none; floors = e .1 .0; ceilings = e .1 .1 .0; rises = e .1 .1 .1 })
 
 opens : (c : tie.After-open-read) → c .open-read .result ≡ opened (profileIn (opened-bytes c))
-opens c =
-    let r = at-read (at-reading (from-opened c)) in
-    let total = c .before .struct-told2 .given in
-    rw (toZ-ofZ (sfits-of {w = w32} {z = r .read .result .lowest} (total .1 .1 .0 .1)), toZ-ofZ (sfits-of {w = w32} {z = r .read .result .highest} (total .1 .1 .1 .0 .1))) at (c .open-read .ensures)
-    ∙ ap opened (got-file (from-opened c) .entered)
+opens c = c .open-read .ensures ∙ ap opened (got-file (from-opened c) .entered)
 
 cuts : (c : tie.After-cut-all) → printed (opened-bytes (at-opened (c .before))) ≡ answerText (c .cut-all .result)
 cuts c =
