@@ -20,38 +20,41 @@ use Rattle.session.proofs.Lengths.{days-taken}
 use Rattle.base_little_endian.specs.Fields.{u16Bytes, i16Bytes}
 use Rattle.base_little_endian.proofs.Laws.{u16-length, i16-length}
 use Rattle.c_lists.specs.Lists.{pointAt, pointsIn, pointBytes, cellBytes, lentPoints}
-use Rattle.c_lists.specs.Profiles.{haveLengths, byteLengthRefusal}
+use Rattle.c_lists.specs.Profiles.{ByteProfile, haveLengths, byteCountsRefusal, byteLengthRefusal}
 
 -- ---- the lengths by what the tests found
 
 module _ (n floors ceilings rises : ℕ) {found : Bool} (some : n ≡ 0 → ⊥) (few : n ≤ 512) (e : found ≡ haveLengths n floors ceilings rises) where
-  judged : cond {A = ℕ} found 0 2 ≡ byteLengthRefusal n floors ceilings rises
-  unfolding byteLengthRefusal
+  judged : cond {A = ℕ} found 0 2 ≡ byteCountsRefusal n floors ceilings rises
+  unfolding byteCountsRefusal
   judged = ap (λ b. cond b 0 2) e ∙ days-taken n (cond (haveLengths n floors ceilings rises) 0 2) some few
 
-  pub lengths-wrong : found ≡ false → 2 ≡ byteLengthRefusal n floors ceilings rises
+  pub lengths-wrong : found ≡ false → 2 ≡ byteCountsRefusal n floors ceilings rises
   lengths-wrong h = ap (λ b. cond b 0 2) (sym h) ∙ judged
 
-  pub lengths-right : found ≡ true → 0 ≡ byteLengthRefusal n floors ceilings rises
+  pub lengths-right : found ≡ true → 0 ≡ byteCountsRefusal n floors ceilings rises
   lengths-right h = ap (λ b. cond b 0 2) (sym h) ∙ judged
 
 -- what 1 and 2 let pass
-pub record Long (n floors ceilings rises : ℕ) : Type 0 where
-  pub some : 0 < n
-  pub few : n ≤ 512
-  pub floors-long : floors ≡ n * 2
-  pub ceilings-long : ceilings ≡ n * 2
-  pub rises-long : rises ≡ (n - 1) * 2
+pub record Long (h : ByteProfile) : Type 0 where
+  pub some : 0 < h .numbers .days
+  pub few : h .numbers .days ≤ 512
+  pub floors-long : length (h .floors) ≡ h .numbers .days * 2
+  pub ceilings-long : length (h .ceilings) ≡ h .numbers .days * 2
+  pub rises-long : length (h .rises) ≡ (h .numbers .days - 1) * 2
 
-pub long : (n floors ceilings rises : ℕ) → byteLengthRefusal n floors ceilings rises ≡ 0 → Long n floors ceilings rises
-unfolding byteLengthRefusal
-long n floors ceilings rises e =
+pub long : (h : ByteProfile) → byteLengthRefusal h ≡ 0 → Long h
+unfolding byteCountsRefusal
+long h e =
+    let n : ℕ = h .numbers .days in
+    let floors : Bool = eqb (length (h .floors)) (n * 2) in
+    let ceilings : Bool = eqb (length (h .ceilings)) (n * 2) in
+    let rises : Bool = eqb (length (h .rises)) ((n - 1) * 2) in
     let checks = cond-zero _ 0 _ e in
     let counts = or-false (eqb n 0) (ltb 512 n) (checks .0) in
     let apart : (n ≡ 0 → ⊥) = eqb-false n 0 (counts .0) in
-    let points : Bool = eqb floors (n * 2) && eqb ceilings (n * 2) in
-    let all = and-eq-true-iff points (eqb rises ((n - 1) * 2)) .0 (cond-first (haveLengths n floors ceilings rises) 1 (checks .1)) in
-    let two = and-eq-true-iff (eqb floors (n * 2)) (eqb ceilings (n * 2)) .0 (all .0) in
+    let all = and-eq-true-iff (floors && ceilings) rises .0 (cond-first (floors && ceilings && rises) 1 (checks .1)) in
+    let two = and-eq-true-iff floors ceilings .0 (all .0) in
     record {
       some = omega (arith, apart);
       few = ltb-false 512 n (counts .1);

@@ -8,7 +8,7 @@ ghost use Rattle.theory_lists.specs.Sum.{at};
 ghost use Rattle.theory_lists.specs.Written.{written};
 ghost use Rattle.base_codes.specs.Code.{on};
 ghost use Rattle.c_lists.specs.Lists.{pointAt, pointBytes, cellBytes};
-ghost use Rattle.c_lists.specs.Profiles.{haveLengths, byteLengthRefusal};
+ghost use Rattle.c_lists.specs.Profiles.{haveLengths, byteCountsRefusal};
 use base_little_endian::i16_at;
 use base_little_endian::put_i16;
 use base_little_endian::put_u16;
@@ -61,7 +61,7 @@ fn have_lengths(days: usize, floors: usize, ceilings: usize, rises: usize) -> bo
 
 // 1 for a bad day count, 2 for a list of the wrong length, else 0.
 pub fn length_refusal(days: usize, floors: usize, ceilings: usize, rises: usize) -> u8
-    ensures { λ r. ⌜ r ≡ byteLengthRefusal days floors ceilings rises ⌝ }
+    ensures { λ r. ⌜ r ≡ byteCountsRefusal days floors ceilings rises ⌝ }
 {
     if days == 0 {
         return 1;

@@ -3,17 +3,17 @@ use borrow.Author.Tests.{not-true, not-false}
 use borrow.Author.Needs.{needs}
 use native.Mathlib.Omega.{arith}
 use Rattle.session.proofs.Lengths.{no-days, many-days}
-use Rattle.c_lists.specs.Profiles.{byteLengthRefusal}
+use Rattle.c_lists.specs.Profiles.{byteCountsRefusal}
 use Rattle.c_lists.proofs.Laws.{lengths-wrong, lengths-right}
 use Rattle.c_lists.proofs.length_refusal.Statement.{statement}
 use Rattle.c_lists.proofs.length_refusal.Tie as tie
 
 returns : tie.Need-returns
-unfolding byteLengthRefusal
+unfolding byteCountsRefusal
 returns c = no-days (c .before .args .days) _ (c .if1 .taken)
 
 returns-2 : tie.Need-returns-2
-unfolding byteLengthRefusal
+unfolding byteCountsRefusal
 returns-2 c = many-days (c .before .before .args .days) _ (c .before .if1 .left) (omega arith)
 
 returns-3 : tie.Need-returns-3
