@@ -16,7 +16,7 @@ use Rattle.session_cuts.specs.declared.Numbered.{Numbered}
 use Rattle.session_cutting.specs.Cutting.{afterNumbered, changedDays}
 use Rattle.session_cutting.specs.declared.CutAnswer.{CutAnswer}
 use Rattle.c_lists.specs.Lists.{cellBytes}
-use Rattle.c_lists.specs.Profiles.{byteLengthRefusal, profileOf}
+use Rattle.c_lists.specs.Profiles.{ByteProfile, byteLengthRefusal, profileOf}
 use Rattle.c_storage.specs.Layout.{sessionBytes, encoding, decoding}
 
 abbrev pub isSession : List ℕ → Bool
@@ -24,14 +24,14 @@ isSession b = eqb (length b) sessionBytes
 
 -- ---- opening
 
-unfoldable pub openRefusal : List ℕ → ℕ → List ℕ → List ℕ → List ℕ → ℤ → ℤ → ℕ
-openRefusal b n fs cs rs lo hi =
-    let lengths : ℕ = byteLengthRefusal n (length fs) (length cs) (length rs) in
-    cond (isSession b) (cond (eqb lengths 0) (opened (profileOf n fs cs rs lo hi) .refusal) lengths) 2
+unfoldable pub openRefusal : List ℕ → ByteProfile → ℕ
+openRefusal b h =
+    let lengths : ℕ = byteLengthRefusal h in
+    cond (isSession b) (cond (eqb lengths 0) (opened (profileOf h) .refusal) lengths) 2
 
 -- the session's bytes afterwards: as they were beside a refusal
-unfoldable pub bytesOpened : List ℕ → ℕ → List ℕ → List ℕ → List ℕ → ℤ → ℤ → List ℕ
-bytesOpened b n fs cs rs lo hi = cond (eqb (openRefusal b n fs cs rs lo hi) 0) (encoding (opened (profileOf n fs cs rs lo hi) .session)) b
+unfoldable pub bytesOpened : List ℕ → ByteProfile → List ℕ
+bytesOpened b h = cond (eqb (openRefusal b h) 0) (encoding (opened (profileOf h) .session)) b
 
 -- ---- cutting, where the list for changed days has that many bytes
 
@@ -54,3 +54,13 @@ changedBytes b t l =
 
 unfoldable pub shownOver : List ℕ → ℕ → ℕ → Shown
 shownOver b floors ceilings = cond (isSession b) (shown (decoding b) (floors / 2) (ceilings / 2)) listTooShort
+
+-- what showing gives, with a number for whether the session is spent: 1, or 0
+pub record Marked : Type 0 where
+  pub refusal : ℕ
+  pub least : ℤ
+  pub most : ℤ
+  pub spent : ℕ
+
+abbrev pub marked : Shown → Marked
+marked s = record { refusal = s .refusal; least = s .least; most = s .most; spent = cond (s .spent) 1 0 }

@@ -5,7 +5,7 @@ ghost use Rattle.session_cuts.specs.Numbered.{numbered};
 ghost use Rattle.session.specs.Showing.{floorOn, ceilingOn};
 ghost use Rattle.session.specs.Opening.{opened};
 ghost use Rattle.c_lists.specs.Lists.{lentPoints};
-ghost use Rattle.c_lists.specs.Profiles.{byteLengthRefusal, profileOf};
+ghost use Rattle.c_lists.specs.Profiles.{byteProfile, byteLengthRefusal, profileOf};
 ghost use Rattle.c_storage.specs.Layout.{decoding};
 ghost use Rattle.c_sessions.specs.Sessions.{openRefusal, bytesOpened, cutAnswer, bytesCut, changedBytes, shownOver};
 use base_numbers::min;
@@ -17,6 +17,7 @@ use c_storage::SESSION_BYTES;
 use c_storage::decode;
 use c_storage::encode;
 use limits::MOST_DAYS;
+use session::Numbers;
 use session::Opened;
 use session::Session;
 use session::Shown;
@@ -25,54 +26,39 @@ use session_cutting::CutAnswer;
 // ---- opening
 
 // Opens a profile whose lists are as long as its days ask.
-fn open_lists(
-    days: usize,
-    floors: &[u8],
-    ceilings: &[u8],
-    rises: &[u8],
-    lowest: i32,
-    highest: i32,
-) -> Opened
-    requires { ⌜ byteLengthRefusal days (length (now floors)) (length (now ceilings)) (length (now rises)) ≡ 0 ⌝ }
-    ensures { λ r. ⌜ r ≡ opened (profileOf days (now (floors .entry)) (now (ceilings .entry)) (now (rises .entry)) lowest highest) ⌝ }
+fn open_lists(numbers: Numbers, floors: &[u8], ceilings: &[u8], rises: &[u8]) -> Opened
+    requires { ⌜ byteLengthRefusal (byteProfile numbers (now floors) (now ceilings) (now rises)) ≡ 0 ⌝ }
+    ensures { λ r. ⌜ r ≡ opened (profileOf (byteProfile numbers (now (floors .entry)) (now (ceilings .entry)) (now (rises .entry)))) ⌝ }
 {
+    let days = numbers.days;
     let mut low = [0i16; MOST_DAYS];
     let mut high = [0i16; MOST_DAYS];
     let mut steps = [0i16; MOST_DAYS];
     points(floors, days, &mut low);
     points(ceilings, days, &mut high);
     points(rises, days - 1, &mut steps);
-    Session::open(
-        days,
-        &low[..days],
-        &high[..days],
-        &steps[..days - 1],
-        lowest,
-        highest,
-    )
+    Session::open(numbers, &low[..days], &high[..days], &steps[..days - 1])
 }
 
 // Opens a profile: document 01's checks 1 to 6, then 8; a refusal writes no byte.
 pub fn open(
     session: &mut [u8],
-    days: usize,
+    numbers: Numbers,
     floors: &[u8],
     ceilings: &[u8],
     rises: &[u8],
-    lowest: i32,
-    highest: i32,
 ) -> u8
-    ensures { λ r. ⌜ r ≡ openRefusal (now (session .entry)) days (now (floors .entry)) (now (ceilings .entry)) (now (rises .entry)) lowest highest ⌝ }
-    ensures { λ r. ⌜ now (session .exit) ≡ bytesOpened (now (session .entry)) days (now (floors .entry)) (now (ceilings .entry)) (now (rises .entry)) lowest highest ⌝ }
+    ensures { λ r. ⌜ r ≡ openRefusal (now (session .entry)) (byteProfile numbers (now (floors .entry)) (now (ceilings .entry)) (now (rises .entry))) ⌝ }
+    ensures { λ r. ⌜ now (session .exit) ≡ bytesOpened (now (session .entry)) (byteProfile numbers (now (floors .entry)) (now (ceilings .entry)) (now (rises .entry))) ⌝ }
 {
     if session.len() != SESSION_BYTES {
         return 2;
     }
-    let refusal = length_refusal(days, floors.len(), ceilings.len(), rises.len());
+    let refusal = length_refusal(numbers.days, floors.len(), ceilings.len(), rises.len());
     if refusal != 0 {
         return refusal;
     }
-    let opened = open_lists(days, floors, ceilings, rises, lowest, highest);
+    let opened = open_lists(numbers, floors, ceilings, rises);
     if opened.refusal != 0 {
         return opened.refusal;
     }

@@ -1,18 +1,11 @@
 -- `open` meets its contract: the tests decide each return, by what a refusal and the bytes are. What was opened is stated once (`opens`).
 use mathlib.Core.Path.{_≡_, refl, sym, _∙_}
 use mathlib.Core.Bool.{true}
-use Prim.Native.Nat.{ℕ}
-use lib.IntN.{ℤ}
-use lib.ListN.{length}
-use mir.Syntax.{w32}
-use mir.Val.{toZ, ofZ}
-use mir.Facts.{toZ-ofZ}
 use borrow.Author.Tests.{eq-eqb, ne-eqb}
 use borrow.Author.Needs.{needs}
-use Rattle.session.specs.Profile.{Profile}
 use Rattle.session.specs.Opening.{opened}
 use Rattle.session.proofs.SessionBounds.{opened-in-bounds}
-use Rattle.c_lists.specs.Profiles.{byteLengthRefusal, profileOf}
+use Rattle.c_lists.specs.Profiles.{ByteProfile, byteProfile, byteLengthRefusal, profileOf}
 use Rattle.c_sessions.specs.Sessions.{isSession, openRefusal, bytesOpened}
 use Rattle.c_sessions.proofs.open.Statement.{statement}
 use Rattle.c_sessions.proofs.open.Tie as tie
@@ -48,40 +41,19 @@ at-stored c = c .before .before
 abbrev from-session : tie.Else1 → tie.Start
 from-session c = at-start (at-known c)
 
-abbrev days : tie.Start → ℕ
-days s = s .args .days
-
-abbrev lowest : tie.Start → ℤ
-lowest s = s .args .lowest
-
-abbrev highest : tie.Start → ℤ
-highest s = s .args .highest
-
-abbrev lengths : tie.Start → ℕ
-lengths s = let a = s .args in byteLengthRefusal (days s) (length (a .floors .now)) (length (a .ceilings .now)) (length (a .rises .now))
-
-abbrev handed : tie.Start → Profile
-handed s = let a = s .args in profileOf (days s) (a .floors .now) (a .ceilings .now) (a .rises .now) (lowest s) (highest s)
+abbrev handed : tie.Start → ByteProfile
+handed s = let a = s .args in byteProfile (a .numbers) (a .floors .now) (a .ceilings .now) (a .rises .now)
 
 -- ---- what was found
-
--- the total's bounds are seen as they are
-lowest-seen : (c : tie.Else1) → toZ w32 (ofZ w32 (lowest (from-session c))) ≡ lowest (from-session c)
-lowest-seen c = toZ-ofZ (from-session c .fits .lowest)
-
-highest-seen : (c : tie.Else1) → toZ w32 (ofZ w32 (highest (from-session c))) ≡ highest (from-session c)
-highest-seen c = toZ-ofZ (from-session c .fits .highest)
 
 is-session : (c : tie.Else1) → isSession (from-session c .args .session .now) ≡ true
 is-session c = eq-eqb _ _ (c .if1 .left)
 
-right-lengths : (c : tie.Else2) → lengths (from-session (at-session (at-judged c))) ≡ 0
+right-lengths : (c : tie.Else2) → byteLengthRefusal (handed (from-session (at-session (at-judged c)))) ≡ 0
 right-lengths c = sym (at-judged c .length-refusal .ensures) ∙ c .if2 .left
 
-opens : (c : tie.After-open-lists) → c .open-lists .result ≡ opened (handed (from-session (at-session (at-judged (at-lengths c)))))
-opens c =
-    let s = at-session (at-judged (at-lengths c)) in
-    rw (lowest-seen s, highest-seen s) at (c .open-lists .ensures)
+opens : (c : tie.After-open-lists) → c .open-lists .result ≡ opened (profileOf (handed (from-session (at-session (at-judged (at-lengths c))))))
+opens c = c .open-lists .ensures
 
 -- ---- the answers
 

@@ -1,13 +1,8 @@
 -- `open_lists` meets its contract: each array holds its list's points (`Held`), so that its lent part is the profile's list.
 use Prim.Native.Nat.{ℕ, _-_}
-use mathlib.Core.Path.{_≡_}
-use lib.IntN.{ℤ}
-use lib.ListN.{length}
-use mir.Syntax.{w32}
-use mir.Val.{toZ, ofZ}
-use mir.Facts.{toZ-ofZ}
 use native.Mathlib.Omega.{arith}
 use borrow.Author.Needs.{needs}
+use Rattle.c_lists.specs.Profiles.{byteProfile}
 use Rattle.c_lists.proofs.Laws.{Long, long, Held, held}
 use Rattle.c_sessions.proofs.open_lists.Statement.{statement}
 use Rattle.c_sessions.proofs.open_lists.Tie as tie
@@ -50,13 +45,7 @@ at-steps-lent c = c .before
 -- ---- what was handed over, and its lengths, past 1 and 2
 
 abbrev days : tie.Start → ℕ
-days s = s .args .days
-
-abbrev lowest : tie.Start → ℤ
-lowest s = s .args .lowest
-
-abbrev highest : tie.Start → ℤ
-highest s = s .args .highest
+days s = s .args .numbers .days
 
 abbrev from-floors : tie.After-points → tie.Start
 from-floors c = at-start (at-known (at-low c))
@@ -67,15 +56,8 @@ from-ceilings c = from-floors (at-floors (at-high c))
 abbrev from-rises : tie.After-points3 → tie.Start
 from-rises c = from-ceilings (at-ceilings (at-steps c))
 
--- the total's bounds are seen as they are
-lowest-seen : (c : tie.After-points) → toZ w32 (ofZ w32 (lowest (from-floors c))) ≡ lowest (from-floors c)
-lowest-seen c = toZ-ofZ (from-floors c .fits .lowest)
-
-highest-seen : (c : tie.After-points) → toZ w32 (ofZ w32 (highest (from-floors c))) ≡ highest (from-floors c)
-highest-seen c = toZ-ofZ (from-floors c .fits .highest)
-
-sizes : (s : tie.Start) → let a = s .args in Long (days s) (length (a .floors .now)) (length (a .ceilings .now)) (length (a .rises .now))
-sizes s = long _ _ _ _ (s .pre)
+sizes : (s : tie.Start) → let a = s .args in Long (byteProfile (a .numbers) (a .floors .now) (a .ceilings .now) (a .rises .now))
+sizes s = long _ (s .pre)
 
 -- ---- what the arrays hold
 
@@ -128,7 +110,7 @@ returns c =
     let r = at-rises (at-low-lent (at-high-lent (at-steps-lent c))) in
     let h = at-ceilings (at-steps r) in
     let l = at-floors (at-high h) in
-    rw (lowest-seen l, highest-seen l, low l .same, high h .same, steps r .same) at (c .«open» .ensures)
+    rw (low l .same, high h .same, steps r .same) at (c .«open» .ensures)
 
 pub open-lists-spec : {M : Type 1} → statement M
 open-lists-spec =
