@@ -27,14 +27,14 @@ use Rattle.c_files.specs.Reading.{noRoomOver, readingRefusalOver, refuse
 -- what the reader of files found, where it refused nothing
 pub record Found (b : List ℕ) (r : ReadAnswer) : Type 0 where
   pub taken : Taken b
-  pub days : r .days ≡ dayCount b
+  pub days : r .numbers .days ≡ dayCount b
   pub all : r ≡ contents b
 
 pub found : (b : List ℕ) {r : ReadAnswer} → r ≡ readFrom b 512 512 512 → r .refusal ≡ 0 → Found b r
 unfolding contents
 found b e z =
     let t = read-taken b 512 512 512 (sym (ap (λ a. a .refusal) e) ∙ z) in
-    record { taken = t .1; days = ap (λ a. a .days) (e ∙ t .0); all = e ∙ t .0 }
+    record { taken = t .1; days = ap (λ a. a .numbers .days) (e ∙ t .0); all = e ∙ t .0 }
 
 -- what 2 lets pass
 pub record Room (n m floors ceilings rises cuts : ℕ) : Type 0 where
@@ -81,7 +81,7 @@ module _ (b fs cs rs ks : List ℕ) where
       let number : a .refusal ≡ earlyReading b = ap (λ s. s .refusal) e ∙ read-number b 512 512 512 (omega arith) (omega arith) (omega arith) in
       refused (a .refusal) (rw (← number, ne-eqb (a .refusal) 0 x) refl) x d
 
-  pub too-short : {a : ReadAnswer} {m : ℕ} {r : Contents} → Found b a → m ≡ cutCount b → noRoomOver (a .days) m (length fs) (length cs) (length rs) (length ks) ≡ true
+  pub too-short : {a : ReadAnswer} {m : ℕ} {r : Contents} → Found b a → m ≡ cutCount b → noRoomOver (a .numbers .days) m (length fs) (length cs) (length rs) (length ks) ≡ true
       → r ≡ refusedContents 2 → Answers r fs cs rs ks
   unfolding readingRefusalOver
   too-short here em e d = refused 2 (rw (not-refused b (here .taken), rw (here .days, em) at e) refl) (λ z. omega arith) d
@@ -90,7 +90,7 @@ module _ (b fs cs rs ks : List ℕ) where
   pub record Passed (a : ReadAnswer) (m : ℕ) : Type 0 where
     pub found : Found b a
     pub count : m ≡ cutCount b
-    pub room : noRoomOver (a .days) m (length fs) (length cs) (length rs) (length ks) ≡ false
+    pub room : noRoomOver (a .numbers .days) m (length fs) (length cs) (length rs) (length ks) ≡ false
 
   -- what is stored in the lists: the points, by way of the arrays that the reader of files filled, and the file's cuts as they stand
   pub record Stored (a : ReadAnswer) (floors ceilings rises cuts : List ℕ) : Type 0 where
@@ -100,25 +100,25 @@ module _ (b fs cs rs ks : List ℕ) where
     pub low-read : low ≡ lentList (a .refusal) (floorAt b) (dayCount b) (replicate 512 (pos 0))
     pub high-read : high ≡ lentList (a .refusal) (ceilingAt b) (dayCount b) (replicate 512 (pos 0))
     pub steps-read : steps ≡ lentList (a .refusal) (riseAt b) (dayCount b - 1) (replicate 512 (pos 0))
-    pub floors-put : floors ≡ sets fs 0 (pointBytes (on low) (a .days))
-    pub ceilings-put : ceilings ≡ sets cs 0 (pointBytes (on high) (a .days))
-    pub rises-put : rises ≡ sets rs 0 (pointBytes (on steps) (a .days - 1))
-    pub cuts-put : cuts ≡ sets ks 0 (drop (dayOffset (a .days)) b)
+    pub floors-put : floors ≡ sets fs 0 (pointBytes (on low) (a .numbers .days))
+    pub ceilings-put : ceilings ≡ sets cs 0 (pointBytes (on high) (a .numbers .days))
+    pub rises-put : rises ≡ sets rs 0 (pointBytes (on steps) (a .numbers .days - 1))
+    pub cuts-put : cuts ≡ sets ks 0 (drop (dayOffset (a .numbers .days)) b)
 
-  pub read-all : {a : ReadAnswer} {m : ℕ} {lowest highest : ℤ} {floors ceilings rises cuts : List ℕ} → Passed a m → lowest ≡ a .lowest → highest ≡ a .highest
-      → Stored a floors ceilings rises cuts → Answers (record { refusal = 0; days = a .days; cuts = m; lowest = lowest; highest = highest }) floors ceilings rises cuts
+  pub read-all : {a : ReadAnswer} {m : ℕ} {floors ceilings rises cuts : List ℕ} → Passed a m → Stored a floors ceilings rises cuts
+      → Answers (record { refusal = 0; numbers = a .numbers; cuts = m }) floors ceilings rises cuts
   unfolding readingRefusalOver readInto contents lentPoints cutsLent
-  read-all {a} {m} p el eh s =
+  read-all {a} {m} p s =
       let here = p .found in
       let n = here .days in
       let z : a .refusal ≡ 0 = ap (λ q. q .refusal) (here .all) in
-      let few : a .days ≤ 512 = omega (arith, here .taken .few) in
-      let less : a .days - 1 ≤ 512 = omega arith in
-      let room = roomy (a .days) m (length fs) (length cs) (length rs) (length ks) (p .room) in
-      let low : CutCall (a .refusal) (floorAt b) (a .days) fs (s .low) _ = record { none = z; few = few; room = room .floors-long; lent = rw (← n) at (s .low-read); stored = s .floors-put } in
-      let high : CutCall (a .refusal) (ceilingAt b) (a .days) cs (s .high) _ = record { none = z; few = few; room = room .ceilings-long; lent = rw (← n) at (s .high-read); stored = s .ceilings-put } in
-      let steps : CutCall (a .refusal) (riseAt b) (a .days - 1) rs (s .steps) _ = record { none = z; few = less; room = room .rises-long; lent = rw (← n) at (s .steps-read); stored = s .rises-put } in
-      let rest = s .cuts-put ∙ front-sets (drop (dayOffset (a .days)) b) ks (omega (arith, length-drop (dayOffset (a .days)) b, here .taken .whole, room .cuts-long)) in (
-        rw (not-refused b (here .taken), rw (n, p .count) at (p .room), n, p .count, el, eh, here .all) refl,
-        (rw (← n) (points-stored (floorAt b) (a .days) fs low), (rw (← n) (points-stored (ceilingAt b) (a .days) cs high), (rw (← n) (points-stored (riseAt b) (a .days - 1) rs steps), rw (← n) rest))),
+      let few : a .numbers .days ≤ 512 = omega (arith, here .taken .few) in
+      let less : a .numbers .days - 1 ≤ 512 = omega arith in
+      let room = roomy (a .numbers .days) m (length fs) (length cs) (length rs) (length ks) (p .room) in
+      let low : CutCall (a .refusal) (floorAt b) (a .numbers .days) fs (s .low) _ = record { none = z; few = few; room = room .floors-long; lent = rw (← n) at (s .low-read); stored = s .floors-put } in
+      let high : CutCall (a .refusal) (ceilingAt b) (a .numbers .days) cs (s .high) _ = record { none = z; few = few; room = room .ceilings-long; lent = rw (← n) at (s .high-read); stored = s .ceilings-put } in
+      let steps : CutCall (a .refusal) (riseAt b) (a .numbers .days - 1) rs (s .steps) _ = record { none = z; few = less; room = room .rises-long; lent = rw (← n) at (s .steps-read); stored = s .rises-put } in
+      let rest = s .cuts-put ∙ front-sets (drop (dayOffset (a .numbers .days)) b) ks (omega (arith, length-drop (dayOffset (a .numbers .days)) b, here .taken .whole, room .cuts-long)) in (
+        rw (not-refused b (here .taken), rw (n, p .count) at (p .room), p .count, here .all) refl,
+        (rw (← n) (points-stored (floorAt b) (a .numbers .days) fs low), (rw (← n) (points-stored (ceilingAt b) (a .numbers .days) cs high), (rw (← n) (points-stored (riseAt b) (a .numbers .days - 1) rs steps), rw (← n) rest))),
       )

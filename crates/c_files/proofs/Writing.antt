@@ -24,23 +24,23 @@ use Rattle.file_format.proofs.Parts.{cut-length, length-file, parts-stored}
 use Rattle.file_format.proofs.WrittenBack.{cut-back}
 use Rattle.file_writing.specs.declared.WriteAnswer.{WriteAnswer}
 use Rattle.c_lists.specs.Lists.{pointsIn}
-use Rattle.c_lists.specs.Profiles.{byteLengthRefusal, profileOf}
+use Rattle.c_lists.specs.Profiles.{ByteProfile, byteLengthRefusal, profileOf}
 use Rattle.c_lists.proofs.Laws.{Long, long}
 use Rattle.c_files.specs.Writing.{numberedRefusal, cutsInBytes, lengthsRefusal, earlyWritingOver, writingRefusalOver, writeOver, outputOver}
 
 -- what 1 and 2 let pass
-pub record Sized (n floors ceilings rises cuts : ℕ) : Type 0 where
-  pub lists : Long n floors ceilings rises
+pub record Sized (h : ByteProfile) (cuts : ℕ) : Type 0 where
+  pub lists : Long h
   pub few : cuts / 8 ≤ 512
   pub whole : cuts ≡ cuts / 8 * 8
 
-pub sized : (n floors ceilings rises cuts : ℕ) → lengthsRefusal n floors ceilings rises cuts ≡ 0 → Sized n floors ceilings rises cuts
+pub sized : (h : ByteProfile) (cuts : ℕ) → lengthsRefusal (byteLengthRefusal h) cuts ≡ 0 → Sized h cuts
 unfolding lengthsRefusal
-sized n floors ceilings rises cuts e =
+sized h cuts e =
     let counts = cond-zero (ltb 512 (cuts / 8)) 0 _ e in
-    let lists = then-zero (byteLengthRefusal n floors ceilings rises) _ (counts .1) in
+    let lists = then-zero (byteLengthRefusal h) _ (counts .1) in
     let rest : cuts % 8 ≡ 0 = eqb-true _ _ (cond-first (eqb (cuts % 8) 0) 1 (lists .1)) in
-    record { lists = long n floors ceilings rises (lists .0); few = ltb-false 512 (cuts / 8) (counts .0); whole = omega arith }
+    record { lists = long h (lists .0); few = ltb-false 512 (cuts / 8) (counts .0); whole = omega arith }
 
 -- the first refusal of the cuts, or 0
 abbrev cutsRefusal : ℕ → List ℕ → ℕ
@@ -73,13 +73,16 @@ module _ (b : List ℕ) where
 
 -- ---- what is answered
 
-module _ (n : ℕ) (fs cs rs : List ℕ) (lo hi : ℤ) (b : List ℕ) where
+module _ (h : ByteProfile) (b : List ℕ) where
+  abbrev n : ℕ
+  n = h .numbers .days
+
   abbrev p : Profile
-  p = profileOf n fs cs rs lo hi
+  p = profileOf h
 
   -- no check of the lists or of the profile refuses
   pub record Opens : Type 0 where
-    pub lengths : lengthsRefusal n (length fs) (length cs) (length rs) (length b) ≡ 0
+    pub lengths : lengthsRefusal (byteLengthRefusal h) (length b) ≡ 0
     pub profile : earlyOpening p ≡ 0
 
   -- no check before the output's length refuses
@@ -87,29 +90,29 @@ module _ (n : ℕ) (fs cs rs : List ℕ) (lo hi : ℤ) (b : List ℕ) where
     pub opens : Opens
     pub formed : cutsRefusal n b ≡ 0
 
-  none-early : Checked → earlyWritingOver n fs cs rs lo hi b ≡ 0
+  none-early : Checked → earlyWritingOver h b ≡ 0
   unfolding earlyWritingOver
   none-early c = rw (c .opens .lengths, c .opens .profile) (c .formed)
 
   module _ (l : List ℕ) where
     -- what `write` ensures
     abbrev Answers : WriteAnswer → List ℕ → Type 0
-    Answers r out = (r ≡ writeOver n fs cs rs lo hi b (length l)) × (out ≡ outputOver n fs cs rs lo hi b l)
+    Answers r out = (r ≡ writeOver h b (length l)) × (out ≡ outputOver h b l)
 
-    refused : (number : ℕ) {r : WriteAnswer} → writingRefusalOver n fs cs rs lo hi b (length l) ≡ number → (number ≡ 0 → ⊥) → r ≡ record { refusal = number; length = 0 } → Answers r l
+    refused : (number : ℕ) {r : WriteAnswer} → writingRefusalOver h b (length l) ≡ number → (number ≡ 0 → ⊥) → r ≡ record { refusal = number; length = 0 } → Answers r l
     unfolding writeOver outputOver
     refused number e x a = (rw (e, ne-eqb number 0 x) a, rw (e, ne-eqb number 0 x) refl)
 
     module _ {number : ℕ} {r : WriteAnswer} (x : number ≡ 0 → ⊥) (a : r ≡ record { refusal = number; length = 0 }) where
-      early : number ≡ earlyWritingOver n fs cs rs lo hi b → Answers r l
+      early : number ≡ earlyWritingOver h b → Answers r l
       unfolding writingRefusalOver
       early e = refused number (rw (← e, ne-eqb number 0 x) refl) x a
 
-      pub bad-lengths : number ≡ lengthsRefusal n (length fs) (length cs) (length rs) (length b) → Answers r l
+      pub bad-lengths : number ≡ lengthsRefusal (byteLengthRefusal h) (length b) → Answers r l
       unfolding earlyWritingOver
       bad-lengths e = early (rw (← e, ne-eqb number 0 x) refl)
 
-      pub bad-profile : lengthsRefusal n (length fs) (length cs) (length rs) (length b) ≡ 0 → number ≡ earlyOpening p → Answers r l
+      pub bad-profile : lengthsRefusal (byteLengthRefusal h) (length b) ≡ 0 → number ≡ earlyOpening p → Answers r l
       unfolding earlyWritingOver
       bad-profile lengths e = early (rw (lengths, ← e, ne-eqb number 0 x) refl)
 
@@ -124,27 +127,27 @@ module _ (n : ℕ) (fs cs rs : List ℕ) (lo hi : ℤ) (b : List ℕ) where
       pub rises : List ℤ
       pub one : List ℕ
       pub two : List ℕ
-      pub floors-held : floors ≡ pointsIn fs n
-      pub ceilings-held : ceilings ≡ pointsIn cs n
-      pub rises-held : rises ≡ pointsIn rs (n - 1)
-      pub header-put : one ≡ sets l 0 (header n (length b / 8) lo hi)
+      pub floors-held : floors ≡ pointsIn (h .floors) n
+      pub ceilings-held : ceilings ≡ pointsIn (h .ceilings) n
+      pub rises-held : rises ≡ pointsIn (h .rises) (n - 1)
+      pub header-put : one ≡ sets l 0 (header (h .numbers) (length b / 8))
       pub days-put : two ≡ sets one 16 (rows (λ k. dayBytes (on floors k) (on ceilings k) (on rises k)) n)
       pub cuts-put : out ≡ sets two (dayOffset n) b
 
     module _ (c : Checked) where
       pub too-short : {r : WriteAnswer} → length l < fileLength n (length b / 8) → r ≡ record { refusal = 2; length = 0 } → Answers r l
       unfolding writingRefusalOver
-      too-short h a = refused 2 (rw (none-early c, lt-ltb (length l) (fileLength n (length b / 8)) h) refl) (λ z. omega arith) a
+      too-short short a = refused 2 (rw (none-early c, lt-ltb (length l) (fileLength n (length b / 8)) short) refl) (λ z. omega arith) a
 
-      module _ (bytes : Bytes b) (h : fileLength n (length b / 8) ≤ length l) where
-        accepted : writingRefusalOver n fs cs rs lo hi b (length l) ≡ 0
+      module _ (bytes : Bytes b) (room : fileLength n (length b / 8) ≤ length l) where
+        accepted : writingRefusalOver h b (length l) ≡ 0
         unfolding writingRefusalOver
-        accepted = rw (none-early c, le-ltb (length l) (fileLength n (length b / 8)) h) refl
+        accepted = rw (none-early c, le-ltb (length l) (fileLength n (length b / 8)) room) refl
 
         pub written : {out : List ℕ} → Stored out → Answers (record { refusal = 0; length = fileLength n (length b / 8) }) out
         unfolding writeOver outputOver
         written {out} d =
-            let s = sized n (length fs) (length cs) (length rs) (length b) (c .opens .lengths) in
+            let s = sized h (length b) (c .opens .lengths) in
             let days = rw (d .floors-held, d .ceilings-held, d .rises-held) at (d .days-put) in
             let whole : out ≡ sets l 0 (file p (cutsInBytes b)) = parts-stored p (cutsInBytes b) l (rw (length-cuts b) (d .header-put)) days (rw (cuts-back b n bytes (c .formed) (s .whole)) (d .cuts-put)) in
             (rw accepted refl, rw accepted (whole ∙ front-sets (file p (cutsInBytes b)) l (omega (arith, length-file p (cutsInBytes b), length-cuts b))))

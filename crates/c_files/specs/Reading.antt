@@ -2,11 +2,11 @@
 use mathlib.Core.Bool.{Bool, cond, _||_}
 use mathlib.Core.List.{List}
 use Prim.Native.Nat.{ℕ, _-_, _*_, _/_}
-use lib.IntN.{pos}
 use lib.Dec.{eqb, ltb}
 use lib.ListN.{drop}
 use Rattle.theory_lists.specs.Front.{inFront}
-use Rattle.file_format.specs.Format.{cutLength, dayOffset, dayCount, cutCount, totalFloorAt, totalCeilingAt}
+use Rattle.session.specs.Opening.{noNumbers}
+use Rattle.file_format.specs.Format.{cutLength, dayOffset, dayCount, cutCount, numbersIn}
 use Rattle.file_format.specs.Reading.{earlyReading}
 use Rattle.c_files.specs.declared.Contents.{Contents}
 
@@ -21,10 +21,10 @@ readingRefusalOver b floors ceilings rises cuts =
 
 -- beside a refusal's number: no day, no cut, and 0 for both of the total's bounds
 abbrev pub refusedContents : ℕ → Contents
-refusedContents number = record { refusal = number; days = 0; cuts = 0; lowest = pos 0; highest = pos 0 }
+refusedContents number = record { refusal = number; numbers = noNumbers; cuts = 0 }
 
 abbrev pub contentsOf : List ℕ → Contents
-contentsOf b = record { refusal = 0; days = dayCount b; cuts = cutCount b; lowest = totalFloorAt b; highest = totalCeilingAt b }
+contentsOf b = record { refusal = 0; numbers = numbersIn b; cuts = cutCount b }
 
 -- what reading gives beside the lists
 unfoldable pub readInto : List ℕ → ℕ → ℕ → ℕ → ℕ → Contents

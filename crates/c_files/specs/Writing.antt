@@ -2,7 +2,6 @@
 use mathlib.Core.Bool.{cond}
 use mathlib.Core.List.{List}
 use Prim.Native.Nat.{ℕ, _*_, _/_, _%_}
-use lib.IntN.{ℤ}
 use lib.Dec.{eqb, ltb}
 use lib.ListN.{length}
 use Rattle.limits.specs.Limits.{mostCuts}
@@ -16,7 +15,7 @@ use Rattle.session_cuts.specs.declared.Numbered.the-variants.{Known, Unknown}
 use Rattle.session_cutting.specs.Cutting.{malformed}
 use Rattle.file_format.specs.Format.{cutLength, fileLength, numberedAt, known, file}
 use Rattle.file_writing.specs.declared.WriteAnswer.{WriteAnswer}
-use Rattle.c_lists.specs.Profiles.{byteLengthRefusal, profileOf}
+use Rattle.c_lists.specs.Profiles.{ByteProfile, byteLengthRefusal, profileOf}
 
 -- the refusal of a numbered cut by itself: an unknown kind is 12
 abbrev pub numberedRefusal : ℕ → Numbered → ℕ
@@ -27,34 +26,31 @@ numberedRefusal n Unknown = 12
 unfoldable pub cutsInBytes : List ℕ → List Cut
 cutsInBytes b = listOf (λ j. known (numberedAt b (j * cutLength))) (length b / cutLength)
 
--- 1: the day count, or more than 512 cuts; 2: a list of the wrong length, each given by its count of bytes; else 0
-unfoldable pub lengthsRefusal : ℕ → ℕ → ℕ → ℕ → ℕ → ℕ
-lengthsRefusal n floors ceilings rises cuts =
-    cond (ltb mostCuts (cuts / cutLength)) 1
-    (cond (eqb (byteLengthRefusal n floors ceilings rises) 0) (cond (eqb (cuts % cutLength) 0) 0 2) (byteLengthRefusal n floors ceilings rises))
+-- 1 for more than 512 cuts, then the refusal of the profile's own lengths, then 2 for a list of cuts with that many bytes that is of the wrong length; else 0
+unfoldable pub lengthsRefusal : ℕ → ℕ → ℕ
+lengthsRefusal lists cuts = cond (ltb mostCuts (cuts / cutLength)) 1 (cond (eqb lists 0) (cond (eqb (cuts % cutLength) 0) 0 2) lists)
 
 -- 1, 2, then 3, 4, 5, 6 as opening does, then each cut in order as cutting does: the first refusal before the output's length that applies, or 0
-unfoldable pub earlyWritingOver : ℕ → List ℕ → List ℕ → List ℕ → ℤ → ℤ → List ℕ → ℕ
-earlyWritingOver n fs cs rs lo hi b =
-    let lengths : ℕ = lengthsRefusal n (length fs) (length cs) (length rs) (length b) in
-    let values : ℕ = earlyOpening (profileOf n fs cs rs lo hi) in
+unfoldable pub earlyWritingOver : ByteProfile → List ℕ → ℕ
+earlyWritingOver h b =
+    let lengths : ℕ = lengthsRefusal (byteLengthRefusal h) (length b) in
+    let values : ℕ = earlyOpening (profileOf h) in
     cond (eqb lengths 0)
-    (cond (eqb values 0) (firstNonzero (λ j. numberedRefusal n (numberedAt b (j * cutLength))) (length b / cutLength)) values)
+    (cond (eqb values 0) (firstNonzero (λ j. numberedRefusal (h .numbers .days) (numberedAt b (j * cutLength))) (length b / cutLength)) values)
     lengths
 
 -- the first refusal of writing that applies, or 0, with an output of that length: 2 where the output is too short
-unfoldable pub writingRefusalOver : ℕ → List ℕ → List ℕ → List ℕ → ℤ → ℤ → List ℕ → ℕ → ℕ
-writingRefusalOver n fs cs rs lo hi b room =
-    let early : ℕ = earlyWritingOver n fs cs rs lo hi b in
-    cond (eqb early 0) (cond (ltb room (fileLength n (length b / cutLength))) 2 0) early
+unfoldable pub writingRefusalOver : ByteProfile → List ℕ → ℕ → ℕ
+writingRefusalOver h b room =
+    let early : ℕ = earlyWritingOver h b in
+    cond (eqb early 0) (cond (ltb room (fileLength (h .numbers .days) (length b / cutLength))) 2 0) early
 
 -- the file's length, or 0 beside a refusal's number
-unfoldable pub writeOver : ℕ → List ℕ → List ℕ → List ℕ → ℤ → ℤ → List ℕ → ℕ → WriteAnswer
-writeOver n fs cs rs lo hi b room =
-    let refusal : ℕ = writingRefusalOver n fs cs rs lo hi b room in
-    cond (eqb refusal 0) (record { refusal = 0; length = fileLength n (length b / cutLength) }) (record { refusal = refusal; length = 0 })
+unfoldable pub writeOver : ByteProfile → List ℕ → ℕ → WriteAnswer
+writeOver h b room =
+    let refusal : ℕ = writingRefusalOver h b room in
+    cond (eqb refusal 0) (record { refusal = 0; length = fileLength (h .numbers .days) (length b / cutLength) }) (record { refusal = refusal; length = 0 })
 
 -- the output afterwards: the file at its front, or as it was beside a refusal
-unfoldable pub outputOver : ℕ → List ℕ → List ℕ → List ℕ → ℤ → ℤ → List ℕ → List ℕ → List ℕ
-outputOver n fs cs rs lo hi b l =
-    cond (eqb (writingRefusalOver n fs cs rs lo hi b (length l)) 0) (inFront (file (profileOf n fs cs rs lo hi) (cutsInBytes b)) l) l
+unfoldable pub outputOver : ByteProfile → List ℕ → List ℕ → List ℕ
+outputOver h b l = cond (eqb (writingRefusalOver h b (length l)) 0) (inFront (file (profileOf h) (cutsInBytes b)) l) l

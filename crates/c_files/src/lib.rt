@@ -6,6 +6,7 @@ ghost use lib.Seq.{sets};
 ghost use Rattle.limits.specs.Limits.{mostCuts};
 ghost use Rattle.theory_lists.specs.First.{firstNonzero};
 ghost use Rattle.c_lists.specs.Lists.{lentPoints};
+ghost use Rattle.c_lists.specs.Profiles.{byteProfile, byteCountsRefusal};
 ghost use Rattle.file_format.specs.Format.{cutLength, dayCount, floorAt, ceilingAt, riseAt, numberedAt};
 ghost use Rattle.c_files.specs.Reading.{noRoomOver, refusedContents, readInto, cutsLent};
 ghost use Rattle.c_files.specs.Writing.{numberedRefusal, lengthsRefusal, writeOver, outputOver};
@@ -24,16 +25,16 @@ use file_writing::WriteAnswer;
 use file_writing::profile_refusal;
 use limits::MOST_CUTS;
 use limits::MOST_DAYS;
+use session::Numbers;
+use session::no_numbers;
 use session_cuts::Numbered;
 use session_cutting::malformed;
 
-// What reading gives beside the lists: the refusal's number, 0 for none; how many days and cuts there are, and the total's bounds.
+// What reading gives beside the lists: the refusal's number, 0 for none; the profile's numbers, and how many cuts there are.
 pub struct Contents {
     pub refusal: u8,
-    pub days: usize,
+    pub numbers: Numbers,
     pub cuts: usize,
-    pub lowest: i32,
-    pub highest: i32,
 }
 
 // Stores all bytes that stand from `start` on, from a place on.
@@ -54,12 +55,11 @@ fn put_rest(from: &[u8], start: usize, out: &mut [u8], place: usize)
 fn refused(number: u8) -> Contents
     ensures { λ r. ⌜ r ≡ refusedContents number ⌝ }
 {
+    let numbers = no_numbers();
     Contents {
         refusal: number,
-        days: 0,
+        numbers,
         cuts: 0,
-        lowest: 0,
-        highest: 0,
     }
 }
 
@@ -99,7 +99,8 @@ pub fn read(
     if found.refusal != 0 {
         return refused(found.refusal);
     }
-    let days = found.days;
+    let numbers = found.numbers;
+    let days = numbers.days;
     let count = wide(u16_at(file, 2));
     if has_no_room(
         days,
@@ -115,14 +116,10 @@ pub fn read(
     put_points(&high, days, ceilings);
     put_points(&steps, days - 1, rises);
     put_rest(file, HEADER_BYTES + days * DAY_BYTES, cuts, 0);
-    let lowest = found.lowest;
-    let highest = found.highest;
     Contents {
         refusal: 0,
-        days,
+        numbers,
         cuts: count,
-        lowest,
-        highest,
     }
 }
 
@@ -156,7 +153,7 @@ fn cuts_refusal(cuts: &[u8], count: usize, days: usize) -> u8
 
 // 1 for the counts, then 2 for a list of the wrong length, else 0, by the lists' counts of bytes.
 fn lengths_refusal(days: usize, floors: usize, ceilings: usize, rises: usize, cuts: usize) -> u8
-    ensures { λ r. ⌜ r ≡ lengthsRefusal days floors ceilings rises cuts ⌝ }
+    ensures { λ r. ⌜ r ≡ lengthsRefusal (byteCountsRefusal days floors ceilings rises) cuts ⌝ }
 {
     if MOST_CUTS < cuts / CUT_BYTES {
         return 1;
@@ -182,18 +179,17 @@ fn refuse(number: u8) -> WriteAnswer
 
 // Writes a file: document 01's checks 1 to 6 as opening does, each cut in order as cutting does, then 2 where the output is too short.
 pub fn write(
-    days: usize,
+    numbers: Numbers,
     floors: &[u8],
     ceilings: &[u8],
     rises: &[u8],
-    lowest: i32,
-    highest: i32,
     cuts: &[u8],
     out: &mut [u8],
 ) -> WriteAnswer
-    ensures { λ r. ⌜ r ≡ writeOver days (now (floors .entry)) (now (ceilings .entry)) (now (rises .entry)) lowest highest (now (cuts .entry)) (length (now (out .entry))) ⌝ }
-    ensures { λ r. ⌜ now (out .exit) ≡ outputOver days (now (floors .entry)) (now (ceilings .entry)) (now (rises .entry)) lowest highest (now (cuts .entry)) (now (out .entry)) ⌝ }
+    ensures { λ r. ⌜ r ≡ writeOver (byteProfile numbers (now (floors .entry)) (now (ceilings .entry)) (now (rises .entry))) (now (cuts .entry)) (length (now (out .entry))) ⌝ }
+    ensures { λ r. ⌜ now (out .exit) ≡ outputOver (byteProfile numbers (now (floors .entry)) (now (ceilings .entry)) (now (rises .entry))) (now (cuts .entry)) (now (out .entry)) ⌝ }
 {
+    let days = numbers.days;
     let of_lists = lengths_refusal(days, floors.len(), ceilings.len(), rises.len(), cuts.len());
     if of_lists != 0 {
         return refuse(of_lists);
@@ -204,14 +200,7 @@ pub fn write(
     points(floors, days, &mut low);
     points(ceilings, days, &mut high);
     points(rises, days - 1, &mut steps);
-    let of_profile = profile_refusal(
-        days,
-        &low[..days],
-        &high[..days],
-        &steps[..days - 1],
-        lowest,
-        highest,
-    );
+    let of_profile = profile_refusal(numbers, &low[..days], &high[..days], &steps[..days - 1]);
     if of_profile != 0 {
         return refuse(of_profile);
     }
@@ -225,7 +214,7 @@ pub fn write(
     if out.len() < length {
         return refuse(2);
     }
-    put_header(days, count, lowest, highest, out);
+    put_header(numbers, count, out);
     put_days(&low[..days], &high[..days], &steps[..days - 1], days, out);
     put_rest(cuts, 0, out, from);
     WriteAnswer { refusal: 0, length }

@@ -5,7 +5,7 @@ use mathlib.Core.Path.{_≡_, refl, sym, _∙_}
 use lib.Dec.{ltb}
 use borrow.Author.Tests.{eq-eqb, ne-eqb, lt-ltb, le-ltb}
 use borrow.Author.Needs.{needs}
-use Rattle.c_lists.specs.Profiles.{byteLengthRefusal}
+use Rattle.c_lists.specs.Profiles.{byteCountsRefusal}
 use Rattle.c_files.specs.Writing.{lengthsRefusal}
 use Rattle.c_files.proofs.lengths_refusal.Statement.{statement}
 use Rattle.c_files.proofs.lengths_refusal.Tie as tie
@@ -21,7 +21,7 @@ at-few c = c .before
 few : (c : tie.Else1) → ltb 512 (at-start c .args .cuts / 8) ≡ false
 few c = le-ltb _ _ (c .if1 .left)
 
-right : (c : tie.Else2) → let a = at-start (at-few (c .before)) .args in byteLengthRefusal (a .days) (a .floors) (a .ceilings) (a .rises) ≡ 0
+right : (c : tie.Else2) → let a = at-start (at-few (c .before)) .args in byteCountsRefusal (a .days) (a .floors) (a .ceilings) (a .rises) ≡ 0
 right c = sym (c .before .length-refusal .ensures) ∙ c .if2 .left
 
 returns : tie.Need-returns

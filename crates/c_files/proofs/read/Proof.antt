@@ -4,9 +4,7 @@ use mathlib.Core.Path.{_≡_, sym, _∙_}
 use mathlib.Core.List.{List}
 use native.Mathlib.Omega.{arith}
 use lib.ListN.{length}
-use mir.Syntax.{w32}
-use mir.Facts.{toZ-ofZ}
-use borrow.Author.Needs.{needs, sfits-of}
+use borrow.Author.Needs.{needs}
 use Rattle.file_format.specs.Format.{cutCount}
 use Rattle.file_reading.specs.declared.ReadAnswer.{ReadAnswer}
 use Rattle.c_files.specs.Reading.{noRoomOver}
@@ -29,7 +27,7 @@ abbrev at-read : tie.After-struct-known → tie.After-read
 at-read c = c .before .before .before .before
 
 abbrev at-right : tie.After-u16-at → tie.Else1
-at-right c = c .before
+at-right c = c .before .before
 
 abbrev at-number : tie.After-wide → tie.After-u16-at
 at-number c = c .before
@@ -57,8 +55,8 @@ at-rises c = c .before .before
 abbrev at-offset : tie.After-put-rest-arg → tie.After-slice-known7
 at-offset c = c .before
 
-abbrev at-cuts : tie.After-struct-told2 → tie.After-put-rest
-at-cuts c = c .before .before .before .before
+abbrev at-cuts : tie.After-slice-known8 → tie.After-put-rest
+at-cuts c = c .before .before
 
 -- ---- what was handed over, and what was read
 
@@ -95,7 +93,7 @@ answer c = from-right c .read .result
 here : (c : tie.Else1) → Found (bytes (from-read (from-right c))) (answer c)
 here c = found _ (from-right c .read .ensures .0) (c .if1 .left)
 
-few : (c : tie.Else1) → answer c .days ≤ 512
+few : (c : tie.Else1) → answer c .numbers .days ≤ 512
 few c = omega (arith, here c .days, here c .taken .few)
 
 count : (c : tie.After-wide) → c .wide .result ≡ cutCount (bytes (from-read (from-right (from-counted c))))
@@ -105,7 +103,7 @@ judged : (c : tie.After-has-no-room)
     → let w = at-counted c in
     let e = from-counted w in
     let a = from-read (from-right e) .args in
-    c .has-no-room .result ≡ noRoomOver (answer e .days) (w .wide .result) (length (a .floors .now)) (length (a .ceilings .now)) (length (a .rises .now)) (length (a .cuts .now))
+    c .has-no-room .result ≡ noRoomOver (answer e .numbers .days) (w .wide .result) (length (a .floors .now)) (length (a .ceilings .now)) (length (a .rises .now)) (length (a .cuts .now))
 judged c = c .has-no-room .ensures
 
 -- past 2
@@ -122,7 +120,7 @@ room : (c : tie.Else2)
     → let w = from-roomy c in
     let e = from-counted w in
     let a = from-read (from-right e) .args in
-    Room (answer e .days) (w .wide .result) (length (a .floors .now)) (length (a .ceilings .now)) (length (a .rises .now)) (length (a .cuts .now))
+    Room (answer e .numbers .days) (w .wide .result) (length (a .floors .now)) (length (a .ceilings .now)) (length (a .rises .now)) (length (a .cuts .now))
 room c = roomy _ _ _ _ _ _ (passed c .room)
 
 -- ---- what is stored
@@ -159,7 +157,7 @@ returns : tie.Need-returns
 returns c = let t = c .before in bad-file _ _ _ _ _ (at-read (t .before) .read .ensures .0) (t .if1 .taken) (c .refused .ensures)
 
 u16-at-requires : tie.Need-u16-at-requires
-u16-at-requires c κs = omega (arith, here c .taken .whole)
+u16-at-requires c κs = omega (arith, here (c .before) .taken .whole)
 
 has-no-room-requires : tie.Need-has-no-room-requires
 has-no-room-requires c κs = let h = here (from-counted c) in (omega (arith, h .days, h .taken .some), omega (arith, count c, h .taken .fewCuts))
@@ -202,8 +200,7 @@ returns-3 : tie.Need-returns-3
 returns-3 c =
     let k = at-cuts c in
     let e = from-floors (from-ceilings (from-rises (at-rises (at-offset (k .before))))) in
-    let total = c .struct-told2 .given .1 .1 in
-    read-all _ _ _ _ _ (passed e) (toZ-ofZ (sfits-of {w = w32} (total .0 .1))) (toZ-ofZ (sfits-of {w = w32} (total .1 .0 .1))) (stored k)
+    read-all _ _ _ _ _ (passed e) (stored k)
 
 pub read-spec : {M : Type 1} → statement M
 read-spec =

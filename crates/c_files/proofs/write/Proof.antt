@@ -1,18 +1,13 @@
 -- `write` meets its contract: a law for each return, by what the checks found (`Sized`, `Opens`, then `Checked`) and, where all pass, by what the output got
 -- (`Stored`). Each array holds its list's points (`Held`), to be opened and to be written.
-use Prim.Native.Nat.{ℕ, _-_}
+use Prim.Native.Nat.{_-_}
 use mathlib.Core.Path.{_≡_, sym, _∙_}
 use native.Mathlib.Omega.{arith}
-use lib.IntN.{ℤ}
 use lib.ListN.{length}
-use mir.Syntax.{w32}
-use mir.Val.{toZ, ofZ}
-use mir.Facts.{toZ-ofZ}
 use borrow.Author.Needs.{needs}
 use Rattle.base_little_endian.specs.Fields.{Bytes}
-use Rattle.session.specs.Profile.{Profile}
 use Rattle.session.specs.Opening.{earlyOpening}
-use Rattle.c_lists.specs.Profiles.{profileOf}
+use Rattle.c_lists.specs.Profiles.{ByteProfile, byteProfile, byteLengthRefusal, profileOf}
 use Rattle.c_lists.proofs.Laws.{Held, held}
 use Rattle.c_files.specs.Writing.{lengthsRefusal}
 use Rattle.c_files.proofs.Writing.{Sized, sized, Opens, Checked, Stored, bad-lengths, bad-profile, bad-cut, too-short, written}
@@ -133,89 +128,58 @@ the-lists c = from-floors (the-floors c)
 
 -- ---- what was handed over
 
-abbrev days : tie.Start → ℕ
-days s = s .args .days
-
-abbrev lowest : tie.Start → ℤ
-lowest s = s .args .lowest
-
-abbrev highest : tie.Start → ℤ
-highest s = s .args .highest
-
-abbrev handed : tie.Start → Profile
-handed s = let a = s .args in profileOf (days s) (a .floors .now) (a .ceilings .now) (a .rises .now) (lowest s) (highest s)
-
-abbrev lengths : tie.Start → ℕ
-lengths s = let a = s .args in lengthsRefusal (days s) (length (a .floors .now)) (length (a .ceilings .now)) (length (a .rises .now)) (length (a .cuts .now))
+abbrev handed : tie.Start → ByteProfile
+handed s = let a = s .args in byteProfile (a .numbers) (a .floors .now) (a .ceilings .now) (a .rises .now)
 
 cut-bytes : (c : tie.After-shared-slice-known4) → Bytes (at-start c .args .cuts .now)
 cut-bytes c = record { small = λ k. omega (arith, c .shared-slice-known4 .given k) }
 
 -- ---- what the checks found, and what the arrays hold
 
--- the total's bounds are seen as they are
-lowest-seen : (c : tie.Else1) → toZ w32 (ofZ w32 (lowest (from-right c))) ≡ lowest (from-right c)
-lowest-seen c = toZ-ofZ (from-right c .fits .lowest)
-
-highest-seen : (c : tie.Else1) → toZ w32 (ofZ w32 (highest (from-right c))) ≡ highest (from-right c)
-highest-seen c = toZ-ofZ (from-right c .fits .highest)
-
 -- past 1 and 2
-right-lengths : (c : tie.Else1) → lengths (from-right c) ≡ 0
+right-lengths : (c : tie.Else1) → let s = from-right c in lengthsRefusal (byteLengthRefusal (handed s)) (length (s .args .cuts .now)) ≡ 0
 right-lengths c = sym (c .before .lengths-refusal .ensures) ∙ c .if1 .left
 
-sizes : (c : tie.Else1)
-    → let s = from-right c in
-    let a = s .args in
-    Sized (days s) (length (a .floors .now)) (length (a .ceilings .now)) (length (a .rises .now)) (length (a .cuts .now))
-sizes c = sized _ _ _ _ _ (right-lengths c)
+sizes : (c : tie.Else1) → let s = from-right c in Sized (handed s) (length (s .args .cuts .now))
+sizes c = sized _ _ (right-lengths c)
 
-low : (c : tie.After-points) → let s = from-right (from-floors c) in Held (s .args .floors .now) (days s) (c .points .last .1 .1 .0)
+low : (c : tie.After-points) → let a = from-right (from-floors c) .args in Held (a .floors .now) (a .numbers .days) (c .points .last .1 .1 .0)
 low c = held _ _ (sizes (from-floors c) .lists .few) (c .points .ensures)
 
-high : (c : tie.After-points2) → let s = from-right (from-floors (from-ceilings c)) in Held (s .args .ceilings .now) (days s) (c .points2 .last .1 .1 .0)
+high : (c : tie.After-points2) → let a = from-right (from-floors (from-ceilings c)) .args in Held (a .ceilings .now) (a .numbers .days) (c .points2 .last .1 .1 .0)
 high c = held _ _ (sizes (from-floors (from-ceilings c)) .lists .few) (c .points2 .ensures)
 
 steps : (c : tie.After-points3)
-    → let s = from-right (from-floors (from-ceilings (from-rises c))) in
-    Held (s .args .rises .now) (days s - 1) (c .points3 .last .1 .1 .0)
+    → let a = from-right (from-floors (from-ceilings (from-rises c))) .args in
+    Held (a .rises .now) (a .numbers .days - 1) (c .points3 .last .1 .1 .0)
 steps c = held _ _ (omega (arith, sizes (from-floors (from-ceilings (from-rises c))) .lists .few)) (c .points3 .ensures)
 
 -- what is checked as opening does
-by-opening : (c : tie.After-profile-refusal) → c .profile-refusal .result ≡ earlyOpening (handed (from-right (from-floors (from-ceilings (from-rises (from-profile c))))))
+by-opening : (c : tie.After-profile-refusal) → c .profile-refusal .result ≡ earlyOpening (profileOf (handed (from-right (from-floors (from-ceilings (from-rises (from-profile c)))))))
 by-opening c =
     let r = from-profile c in
     let h = from-rises r in
     let l = from-ceilings h in
-    let e = from-floors l in
-    rw (lowest-seen e, highest-seen e, low l .same, high h .same, steps r .same) at (c .profile-refusal .ensures)
+    rw (low l .same, high h .same, steps r .same) at (c .profile-refusal .ensures)
 
-opens : (c : tie.Else2)
-    → let s = from-right (from-floors (from-ceilings (from-rises (from-profile (c .before))))) in
-    let a = s .args in
-    Opens (days s) (a .floors .now) (a .ceilings .now) (a .rises .now) (lowest s) (highest s) (a .cuts .now)
+opens : (c : tie.Else2) → let s = from-right (from-floors (from-ceilings (from-rises (from-profile (c .before))))) in Opens (handed s) (s .args .cuts .now)
 opens c =
     let p = c .before in
     record { lengths = right-lengths (from-floors (from-ceilings (from-rises (from-profile p)))); profile = sym (by-opening p) ∙ c .if2 .left }
 
 -- past the checks of the lists, the profile and the cuts
-checked : (c : tie.Else3)
-    → let s = from-right (the-lists c) in
-    let a = s .args in
-    Checked (days s) (a .floors .now) (a .ceilings .now) (a .rises .now) (lowest s) (highest s) (a .cuts .now)
+checked : (c : tie.Else3) → let s = from-right (the-lists c) in Checked (handed s) (s .args .cuts .now)
 checked c = record { opens = opens (at-opens (c .before)); formed = sym (c .before .cuts-refusal .ensures) ∙ c .if3 .left }
 
 -- ---- what is stored
 
 stored : (c : tie.After-put-rest)
     → let s = from-right (the-lists (from-header (from-days (from-rest c)) .before)) in
-    let a = s .args in
-    Stored (days s) (a .floors .now) (a .ceilings .now) (a .rises .now) (lowest s) (highest s) (a .cuts .now) (a .out .now) (c .put-rest .last .1 .1 .0)
+    Stored (handed s) (s .args .cuts .now) (s .args .out .now) (c .put-rest .last .1 .1 .0)
 stored c =
     let d = from-rest c in
     let h = from-days d in
     let e = from-header h .before in
-    let i = the-lists e in
     record {
       floors = _;
       ceilings = _;
@@ -225,7 +189,7 @@ stored c =
       floors-held = low (the-floors e) .same;
       ceilings-held = high (the-ceilings e) .same;
       rises-held = steps (the-rises e) .same;
-      header-put = rw (lowest-seen i, highest-seen i) at (h .put-header .ensures);
+      header-put = h .put-header .ensures;
       days-put = d .put-days .ensures;
       cuts-put = c .put-rest .ensures;
     }
@@ -233,7 +197,7 @@ stored c =
 -- ---- the lengths refused
 
 returns : tie.Need-returns
-returns c = let t = c .before in bad-lengths _ _ _ _ _ _ _ _ (t .if1 .taken) (c .refuse .ensures) (t .before .lengths-refusal .ensures)
+returns c = let t = c .before in bad-lengths _ _ _ (t .if1 .taken) (c .refuse .ensures) (t .before .lengths-refusal .ensures)
 
 -- ---- the points
 
@@ -276,7 +240,7 @@ returns-2 : tie.Need-returns-2
 returns-2 c =
     let t = c .before in
     let p = t .before in
-    bad-profile _ _ _ _ _ _ _ _ (t .if2 .taken) (c .refuse2 .ensures) (right-lengths (from-floors (from-ceilings (from-rises (from-profile p))))) (by-opening p)
+    bad-profile _ _ _ (t .if2 .taken) (c .refuse2 .ensures) (right-lengths (from-floors (from-ceilings (from-rises (from-profile p))))) (by-opening p)
 
 cuts-refusal-requires : tie.Need-cuts-refusal-requires
 cuts-refusal-requires c κs = let s = sizes (from-floors (from-ceilings (from-rises (from-profile (c .before))))) in (s .few, omega arith)
@@ -284,7 +248,7 @@ cuts-refusal-requires c κs = let s = sizes (from-floors (from-ceilings (from-ri
 returns-3 : tie.Need-returns-3
 returns-3 c =
     let t = c .before in
-    bad-cut _ _ _ _ _ _ _ _ (t .if3 .taken) (c .refuse3 .ensures) (opens (at-opens (t .before))) (t .before .cuts-refusal .ensures)
+    bad-cut _ _ _ (t .if3 .taken) (c .refuse3 .ensures) (opens (at-opens (t .before))) (t .before .cuts-refusal .ensures)
 
 mul-from : tie.Need-mul-from
 mul-from c = omega (arith, sizes (the-lists c) .lists .few)
@@ -299,7 +263,7 @@ add-length : tie.Need-add-length
 add-length c = let s = sizes (the-lists c) in omega (arith, s .lists .few, s .few)
 
 returns-4 : tie.Need-returns-4
-returns-4 c = let t = c .before in too-short _ _ _ _ _ _ _ _ (checked (t .before)) (omega (arith, t .if4 .taken)) (c .refuse4 .ensures)
+returns-4 c = let t = c .before in too-short _ _ _ (checked (t .before)) (omega (arith, t .if4 .taken)) (c .refuse4 .ensures)
 
 -- ---- the file
 
@@ -349,7 +313,7 @@ returns-5 c =
     let k = at-cuts c in
     let r = from-header (from-days (from-rest k)) in
     let e = r .before in
-    written _ _ _ _ _ _ _ _ (checked e) (cut-bytes (at-known (the-lists e .before))) (r .if4 .left) (stored k)
+    written _ _ _ (checked e) (cut-bytes (at-known (the-lists e .before))) (r .if4 .left) (stored k)
 
 pub write-spec : {M : Type 1} → statement M
 write-spec =
