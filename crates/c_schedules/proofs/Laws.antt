@@ -86,3 +86,7 @@ module _ (b l : List ℕ) where
       → f ≡ inspected s (take (s .days) low) → f ≡ inspectedOver b l
   unfolding both inspectedOver
   inspect-all {s} d e w f = rw (e, ← d, ← held l (s .days) (held-few b d) w .same) f
+
+-- a finding by its numbers
+pub found : {refusal rule place : ℕ} {f : Finding} → (refusal ≡ f .refusal) × (rule ≡ f .rule) × (place ≡ f .place) → record { refusal = refusal; rule = rule; place = place } ≡ f
+found e = λ i. record { refusal = e .0 i; rule = e .1 i; place = e .2 i }

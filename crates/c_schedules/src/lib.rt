@@ -116,7 +116,7 @@ fn judge(session: &[u8], list: &[u8]) -> Inspection
 }
 
 pub fn inspect(session: &[u8], list: &[u8]) -> Finding
-    ensures { λ r. ⌜ (r .refusal ≡ inspectedOver (now (session .entry)) (now (list .entry)) .refusal) × (r .rule ≡ inspectedOver (now (session .entry)) (now (list .entry)) .rule) × (r .place ≡ inspectedOver (now (session .entry)) (now (list .entry)) .place) ⌝ }
+    ensures { λ r. ⌜ record { refusal = r .refusal; rule = r .rule; place = r .place } ≡ inspectedOver (now (session .entry)) (now (list .entry)) ⌝ }
 {
     number(judge(session, list))
 }
