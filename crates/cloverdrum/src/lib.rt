@@ -8,14 +8,16 @@ ghost use Rattle.session_cuts.specs.Numbered.{numbered};
 ghost use Rattle.session.specs.Showing.{floorOn, ceilingOn};
 ghost use Rattle.file_format.specs.Format.{dayCount, floorAt, ceilingAt, riseAt};
 ghost use Rattle.c_lists.specs.Lists.{lentPoints};
+ghost use Rattle.c_lists.specs.Profiles.{byteProfile};
 ghost use Rattle.c_storage.specs.Layout.{sessionBytes, decoding};
 ghost use Rattle.c_files.specs.Reading.{readInto, cutsLent};
 ghost use Rattle.c_files.specs.Writing.{writeOver, outputOver};
-ghost use Rattle.c_sessions.specs.Sessions.{openRefusal, bytesOpened, cutAnswer, bytesCut, changedBytes, shownOver};
+ghost use Rattle.c_sessions.specs.Sessions.{openRefusal, bytesOpened, cutAnswer, bytesCut, changedBytes, shownOver, marked};
 ghost use Rattle.c_schedules.specs.Schedules.{setpointFor, writeRefusal, inspectedOver};
 ghost use Rattle.c_schedules.specs.declared.Subject.the-variants.{Day, Total};
 use c_schedules::Subject;
 use c_storage::SESSION_BYTES;
+use session::Numbers;
 
 // How many bytes a session has.
 #[no_mangle]
@@ -37,18 +39,15 @@ pub extern "C" fn cloverdrum_open(
     total_floor: i32,
     total_ceiling: i32,
 ) -> u8
-    ensures { λ r. ⌜ r ≡ openRefusal (now (session .entry)) days (now (floors .entry)) (now (ceilings .entry)) (now (rises .entry)) «total_floor» «total_ceiling» ⌝ }
-    ensures { λ r. ⌜ now (session .exit) ≡ bytesOpened (now (session .entry)) days (now (floors .entry)) (now (ceilings .entry)) (now (rises .entry)) «total_floor» «total_ceiling» ⌝ }
+    ensures { λ r. ⌜ r ≡ openRefusal (now (session .entry)) (byteProfile (record { days = days; lowest = «total_floor»; highest = «total_ceiling» }) (now (floors .entry)) (now (ceilings .entry)) (now (rises .entry))) ⌝ }
+    ensures { λ r. ⌜ now (session .exit) ≡ bytesOpened (now (session .entry)) (byteProfile (record { days = days; lowest = «total_floor»; highest = «total_ceiling» }) (now (floors .entry)) (now (ceilings .entry)) (now (rises .entry))) ⌝ }
 {
-    c_sessions::open(
-        session,
+    let numbers = Numbers {
         days,
-        floors,
-        ceilings,
-        rises,
-        total_floor,
-        total_ceiling,
-    )
+        lowest: total_floor,
+        highest: total_ceiling,
+    };
+    c_sessions::open(session, numbers, floors, ceilings, rises)
 }
 
 // ---- cutting
@@ -62,10 +61,9 @@ pub extern "C" fn cloverdrum_cut(
     changed: &mut [u8],
     changed_days: &mut usize,
 ) -> u8
-    ensures { λ r. ⌜ r ≡ cutAnswer (now (session .entry)) (numbered kind day value) (length (now (changed .entry))) .refusal ⌝ }
+    ensures { λ r. ⌜ record { refusal = r; changed = now («changed_days» .exit) } ≡ cutAnswer (now (session .entry)) (numbered kind day value) (length (now (changed .entry))) ⌝ }
     ensures { λ r. ⌜ now (session .exit) ≡ bytesCut (now (session .entry)) (numbered kind day value) (length (now (changed .entry))) ⌝ }
     ensures { λ r. ⌜ now (changed .exit) ≡ changedBytes (now (session .entry)) (numbered kind day value) (now (changed .entry)) ⌝ }
-    ensures { λ r. ⌜ now («changed_days» .exit) ≡ cutAnswer (now (session .entry)) (numbered kind day value) (length (now (changed .entry))) .changed ⌝ }
 {
     let answer = c_sessions::cut(session, kind, day, value, changed);
     *changed_days = answer.changed;
@@ -90,12 +88,9 @@ pub extern "C" fn cloverdrum_read(
     total_ceiling: &mut i32,
     spent: &mut u8,
 ) -> u8
-    ensures { λ r. ⌜ r ≡ shownOver (now (session .entry)) (length (now (floors .entry))) (length (now (ceilings .entry))) .refusal ⌝ }
+    ensures { λ r. ⌜ record { refusal = r; least = now («total_floor» .exit); most = now («total_ceiling» .exit); spent = now (spent .exit) } ≡ marked (shownOver (now (session .entry)) (length (now (floors .entry))) (length (now (ceilings .entry)))) ⌝ }
     ensures { λ r. ⌜ now (floors .exit) ≡ lentPoints r (floorOn (decoding (now (session .entry)))) (decoding (now (session .entry)) .days) (now (floors .entry)) ⌝ }
     ensures { λ r. ⌜ now (ceilings .exit) ≡ lentPoints r (ceilingOn (decoding (now (session .entry)))) (decoding (now (session .entry)) .days) (now (ceilings .entry)) ⌝ }
-    ensures { λ r. ⌜ now («total_floor» .exit) ≡ shownOver (now (session .entry)) (length (now (floors .entry))) (length (now (ceilings .entry))) .least ⌝ }
-    ensures { λ r. ⌜ now («total_ceiling» .exit) ≡ shownOver (now (session .entry)) (length (now (floors .entry))) (length (now (ceilings .entry))) .most ⌝ }
-    ensures { λ r. ⌜ now (spent .exit) ≡ cond (shownOver (now (session .entry)) (length (now (floors .entry))) (length (now (ceilings .entry))) .spent) 1 0 ⌝ }
 {
     let shown = c_sessions::show(session, floors, ceilings);
     let low = shown.least;
@@ -136,9 +131,7 @@ pub extern "C" fn cloverdrum_inspect(
     rule: &mut usize,
     place: &mut usize,
 ) -> u8
-    ensures { λ r. ⌜ r ≡ inspectedOver (now (session .entry)) (now (schedule .entry)) .refusal ⌝ }
-    ensures { λ r. ⌜ now (rule .exit) ≡ inspectedOver (now (session .entry)) (now (schedule .entry)) .rule ⌝ }
-    ensures { λ r. ⌜ now (place .exit) ≡ inspectedOver (now (session .entry)) (now (schedule .entry)) .place ⌝ }
+    ensures { λ r. ⌜ record { refusal = r; rule = now (rule .exit); place = now (place .exit) } ≡ inspectedOver (now (session .entry)) (now (schedule .entry)) ⌝ }
 {
     let found = c_schedules::inspect(session, schedule);
     *rule = found.rule;
@@ -160,16 +153,17 @@ pub extern "C" fn cloverdrum_read_file(
     total_floor: &mut i32,
     total_ceiling: &mut i32,
 ) -> u8
-    ensures { λ r. ⌜ record { refusal = r; days = now (days .exit); cuts = now («cuts_count» .exit); lowest = now («total_floor» .exit); highest = now («total_ceiling» .exit) } ≡ readInto (now (file .entry)) (length (now (floors .entry))) (length (now (ceilings .entry))) (length (now (rises .entry))) (length (now (cuts .entry))) ⌝ }
+    ensures { λ r. ⌜ record { refusal = r; numbers = record { days = now (days .exit); lowest = now («total_floor» .exit); highest = now («total_ceiling» .exit) }; cuts = now («cuts_count» .exit) } ≡ readInto (now (file .entry)) (length (now (floors .entry))) (length (now (ceilings .entry))) (length (now (rises .entry))) (length (now (cuts .entry))) ⌝ }
     ensures { λ r. ⌜ now (floors .exit) ≡ lentPoints r (floorAt (now (file .entry))) (dayCount (now (file .entry))) (now (floors .entry)) ⌝ }
     ensures { λ r. ⌜ now (ceilings .exit) ≡ lentPoints r (ceilingAt (now (file .entry))) (dayCount (now (file .entry))) (now (ceilings .entry)) ⌝ }
     ensures { λ r. ⌜ now (rises .exit) ≡ lentPoints r (riseAt (now (file .entry))) (dayCount (now (file .entry)) - 1) (now (rises .entry)) ⌝ }
     ensures { λ r. ⌜ now (cuts .exit) ≡ cutsLent r (now (file .entry)) (now (cuts .entry)) ⌝ }
 {
     let contents = c_files::read(file, floors, ceilings, rises, cuts);
-    let low = contents.lowest;
-    let high = contents.highest;
-    *days = contents.days;
+    let numbers = contents.numbers;
+    let low = numbers.lowest;
+    let high = numbers.highest;
+    *days = numbers.days;
     *cuts_count = contents.cuts;
     *total_floor = low;
     *total_ceiling = high;
@@ -188,19 +182,15 @@ pub extern "C" fn cloverdrum_write_file(
     file: &mut [u8],
     file_bytes: &mut usize,
 ) -> u8
-    ensures { λ r. ⌜ record { refusal = r; length = now («file_bytes» .exit) } ≡ writeOver days (now (floors .entry)) (now (ceilings .entry)) (now (rises .entry)) «total_floor» «total_ceiling» (now (cuts .entry)) (length (now (file .entry))) ⌝ }
-    ensures { λ r. ⌜ now (file .exit) ≡ outputOver days (now (floors .entry)) (now (ceilings .entry)) (now (rises .entry)) «total_floor» «total_ceiling» (now (cuts .entry)) (now (file .entry)) ⌝ }
+    ensures { λ r. ⌜ record { refusal = r; length = now («file_bytes» .exit) } ≡ writeOver (byteProfile (record { days = days; lowest = «total_floor»; highest = «total_ceiling» }) (now (floors .entry)) (now (ceilings .entry)) (now (rises .entry))) (now (cuts .entry)) (length (now (file .entry))) ⌝ }
+    ensures { λ r. ⌜ now (file .exit) ≡ outputOver (byteProfile (record { days = days; lowest = «total_floor»; highest = «total_ceiling» }) (now (floors .entry)) (now (ceilings .entry)) (now (rises .entry))) (now (cuts .entry)) (now (file .entry)) ⌝ }
 {
-    let answer = c_files::write(
+    let numbers = Numbers {
         days,
-        floors,
-        ceilings,
-        rises,
-        total_floor,
-        total_ceiling,
-        cuts,
-        file,
-    );
+        lowest: total_floor,
+        highest: total_ceiling,
+    };
+    let answer = c_files::write(numbers, floors, ceilings, rises, cuts, file);
     *file_bytes = answer.length;
     answer.refusal
 }

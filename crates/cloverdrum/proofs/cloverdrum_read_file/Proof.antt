@@ -1,33 +1,33 @@
--- `cloverdrum_read_file` meets its contract: what `c_files::read` ensures, with its counts and the total's bounds lent back (`lent`).
-use mathlib.Core.Path.{_≡_, _∙_}
-use lib.IntN.{ℤ}
+-- `cloverdrum_read_file` meets its contract, which is that of `read`: the total's bounds are lent back in 32 bits.
 use mir.Facts.{toZ-ofZ}
 use mir.Syntax.{w32}
+use mir.Val.{SFits}
 use borrow.Author.Needs.{needs, sfits-of}
-use Rattle.c_files.specs.declared.Contents.{Contents}
 use Rattle.cloverdrum.proofs.cloverdrum_read_file.Statement.{statement}
 use Rattle.cloverdrum.proofs.cloverdrum_read_file.Tie as tie
 
--- what is lent back, with the total's bounds stored as numbers of 32 bits
-lent : {q z : Contents} {l h : ℤ} → l ≡ q .lowest → h ≡ q .highest → q ≡ z
-    → record { refusal = q .refusal; days = q .days; cuts = q .cuts; lowest = l; highest = h } ≡ z
-lent {q} el eh p = (λ i. record { refusal = q .refusal; days = q .days; cuts = q .cuts; lowest = el i; highest = eh i }) ∙ p
-
--- the places on the way, each from the next: the file is read, and two lists, and then all four, are given back
+-- the places on the way: the file is read, each list is given back, the profile's numbers are told
 abbrev at-read : tie.After-slice-known6 → tie.After-read
 at-read c = c .before .before .before .before
 
-abbrev at-ceilings : tie.After-slice-known8 → tie.After-slice-known6
-at-ceilings c = c .before .before .before .before
+abbrev at-lists : tie.After-slice-known8 → tie.After-slice-known6
+at-lists c = c .before .before .before .before
 
-abbrev at-lists : tie.After-struct-told2 → tie.After-slice-known8
-at-lists c = c .before .before
+abbrev at-given : tie.After-struct-told2 → tie.After-slice-known8
+at-given c = c .before .before .before
+
+abbrev from-told : tie.After-struct-told2 → tie.After-read
+from-told c = at-read (at-lists (at-given c))
+
+-- the total's bounds fit 32 bits
+lowest-fits : (c : tie.After-struct-told2) → SFits w32 (from-told c .read .result .numbers .lowest)
+lowest-fits c = sfits-of {w = w32} (c .struct-told2 .given .1 .0 .1)
+
+highest-fits : (c : tie.After-struct-told2) → SFits w32 (from-told c .read .result .numbers .highest)
+highest-fits c = sfits-of {w = w32} (c .struct-told2 .given .1 .1 .0 .1)
 
 returns : tie.Need-returns
-returns c =
-    let e = at-read (at-ceilings (at-lists c)) .read .ensures in
-    let f = c .struct-told2 .given .1 .1 .1 in
-    (lent (toZ-ofZ {w = w32} (sfits-of (f .0 .1))) (toZ-ofZ {w = w32} (sfits-of (f .1 .0 .1))) (e .0), e .1)
+returns c = let e = from-told c .read .ensures in (rw (toZ-ofZ (lowest-fits c), toZ-ofZ (highest-fits c)) (e .0), e .1)
 
 pub cloverdrum-read-file-spec : {M : Type 1} → statement M
 cloverdrum-read-file-spec =
