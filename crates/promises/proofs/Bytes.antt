@@ -4,7 +4,6 @@ use mathlib.Core.Bool.{Bool, true, false, cond, _||_}
 use mathlib.Core.List.{List, [], _∷_}
 use Prim.Native.Nat.{ℕ, _/_}
 use native.Mathlib.Omega.{arith}
-use lib.IntN.{ℤ}
 use lib.Dec.{eqb}
 use lib.ListN.{length, replicate, length-replicate}
 use borrow.Author.Tests.{eq-eqb, eqb-false}
@@ -15,7 +14,7 @@ use Rattle.session_cuts.specs.declared.Numbered.{Numbered}
 use Rattle.session_cutting.specs.Cutting.{afterNumbered}
 use Rattle.promises.specs.Cuts.{after}
 use Rattle.promises.proofs.Demand1.{demand-1}
-use Rattle.c_lists.specs.Profiles.{byteLengthRefusal, profileOf}
+use Rattle.c_lists.specs.Profiles.{ByteProfile, byteLengthRefusal, profileOf}
 use Rattle.c_storage.specs.Layout.{sessionBytes, encoding, decoding}
 use Rattle.c_storage.specs.Storing.{Storable}
 use Rattle.c_storage.proofs.Lengths.{encoding-length}
@@ -54,25 +53,25 @@ follow s (c ∷ hs) h =
 
 -- ---- opening
 
-module _ (b : List ℕ) (n : ℕ) (fs cs rs : List ℕ) (lo hi : ℤ) (e : openRefusal b n fs cs rs lo hi ≡ 0) where
+module _ (b : List ℕ) (h : ByteProfile) (e : openRefusal b h ≡ 0) where
   abbrev lengths : ℕ
-  lengths = byteLengthRefusal n (length fs) (length cs) (length rs)
+  lengths = byteLengthRefusal h
 
   abbrev number : ℕ
-  number = opened (profileOf n fs cs rs lo hi) .refusal
+  number = opened (profileOf h) .refusal
 
   passes : (a c : Bool) → eqb lengths 0 ≡ c → cond a (cond c number lengths) 2 ≡ 0 → number ≡ 0
   passes true true q z = z
   passes true false q z = absurd (eqb-false lengths 0 q z)
   passes false c q z = absurd (omega arith)
 
-  unrefused : opened (profileOf n fs cs rs lo hi) .refusal ≡ 0
+  unrefused : opened (profileOf h) .refusal ≡ 0
   unfolding openRefusal
   unrefused = passes (isSession b) (eqb lengths 0) refl e
 
-  written : bytesOpened b n fs cs rs lo hi ≡ encoding (opened (profileOf n fs cs rs lo hi) .session)
+  written : bytesOpened b h ≡ encoding (opened (profileOf h) .session)
   unfolding bytesOpened
-  written = rw (eq-eqb (openRefusal b n fs cs rs lo hi) 0 e) refl
+  written = rw (eq-eqb (openRefusal b h) 0 e) refl
 
 -- ---- both
 
@@ -88,8 +87,8 @@ pub record Came (p : Profile) (hs : List ByteCutCall) (b : List ℕ) : Type 0 wh
 pub came : (p : Profile) (hs : List ByteCutCall) (b : List ℕ) → CameFrom p hs b → Came p hs b
 came p hs b c =
     let s : Session = after (opened p .session) (byValue hs) in
-    let opens : opened p .refusal ≡ 0 = rw (← c .entered) at (unrefused (c .lent) (p .days) (c .floors) (c .ceilings) (c .rises) (p .lowest) (p .highest) (c .accepted)) in
-    let opening = written (c .lent) (p .days) (c .floors) (c .ceilings) (c .rises) (p .lowest) (p .highest) (c .accepted) in
+    let opens : opened p .refusal ≡ 0 = rw (← c .entered) at (unrefused (c .lent) (c .handed) (c .accepted)) in
+    let opening = written (c .lent) (c .handed) (c .accepted) in
     let f = follow (opened p .session) hs (opened-storable p opens) in
     let bytes : b ≡ encoding s = c .bytes ∙ ap (λ a. bytesAfter a hs) (opening ∙ rw (← c .entered) refl) ∙ f .0 in
     let held : decoding b ≡ s = ap decoding bytes ∙ decoding-encoding s (f .1) in

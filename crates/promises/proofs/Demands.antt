@@ -37,7 +37,7 @@ use Rattle.promises.proofs.NoneAtCut.{none-at-cut}
 use Rattle.promises.proofs.Reached.{after-reached}
 use Rattle.base_little_endian.specs.Fields.{u16At}
 use Rattle.c_lists.specs.Lists.{cellBytes}
-use Rattle.c_lists.specs.Profiles.{haveLengths, byteLengthRefusal, profileOf}
+use Rattle.c_lists.specs.Profiles.{haveLengths, byteCountsRefusal, byteLengthRefusal, profileOf}
 use Rattle.c_lists.proofs.Laws.{points-left}
 use Rattle.c_storage.specs.Layout.{encoding, decoding}
 use Rattle.c_storage.proofs.Lengths.{cells-length}
@@ -56,7 +56,7 @@ refused : BytesLeft
 unfolding bytesOpened bytesCut changedBytes
 refused =
     record {
-      opening = λ b n fs cs rs lo hi h. rw (ne-eqb (openRefusal b n fs cs rs lo hi) 0 h) refl;
+      opening = λ b p h. rw (ne-eqb (openRefusal b p) 0 h) refl;
       list = λ b t l h. rw (ne-eqb (cutAnswer b t (length l) .refusal) 0 h) refl;
       session = λ b t l h k. left-bytes (cutAnswer b t (length l) .refusal) _ b h k;
       reading = λ b fs cs h. (points-left _ _ _ fs h, points-left _ _ _ cs h);
@@ -64,8 +64,8 @@ refused =
 
 -- ---- 8 at opening
 
-lengths-never-8 : (n floors ceilings rises : ℕ) → byteLengthRefusal n floors ceilings rises ≡ 8 → ⊥
-unfolding byteLengthRefusal
+lengths-never-8 : (n floors ceilings rises : ℕ) → byteCountsRefusal n floors ceilings rises ≡ 8 → ⊥
+unfolding byteCountsRefusal
 lengths-never-8 n floors ceilings rises = go (eqb n 0 || ltb 512 n) (haveLengths n floors ceilings rises)
   where
     go : (a b : Bool) → _≡_ {A = ℕ} (cond a 1 (cond b 0 2)) 8 → ⊥
@@ -75,18 +75,18 @@ lengths-never-8 n floors ceilings rises = go (eqb n 0 || ltb 512 n) (haveLengths
 
 none-at-opening : NoneAtOpening
 unfolding openRefusal
-none-at-opening b n fs cs rs lo hi = go (isSession b) (eqb lengths 0) refl
+none-at-opening b handed = go (isSession b) (eqb lengths 0) refl
   where
     p : Profile
-    p = profileOf n fs cs rs lo hi
+    p = profileOf handed
 
     lengths : ℕ
-    lengths = byteLengthRefusal n (length fs) (length cs) (length rs)
+    lengths = byteLengthRefusal handed
 
     go : (a c : Bool) → eqb lengths 0 ≡ c
         → (cond a (cond c (opened p .refusal) lengths) 2 ≡ 8) ↔ (cond a (cond c (earlyOpening p) lengths) 2 ≡ 0) × ((x : List ℤ) → Schedule p x → ⊥)
     go true true e = demand-2 .none p
-    go true false e = (λ h. absurd (lengths-never-8 n (length fs) (length cs) (length rs) h), λ h. absurd (eqb-false lengths 0 e (h .0)))
+    go true false e = (λ h. absurd (lengths-never-8 _ _ _ _ h), λ h. absurd (eqb-false lengths 0 e (h .0)))
     go false c e = (λ h. absurd (omega arith), λ h. absurd (omega (arith, h .0)))
 
 -- ---- sessions from opening and cuts

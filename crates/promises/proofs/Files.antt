@@ -25,13 +25,14 @@ use Rattle.base_little_endian.specs.Fields.{Bytes, u16At, u32At, i16At, i32At, 
 use Rattle.base_little_endian.proofs.Laws.{u16-most, i16-length, i16-part}
 use Rattle.session.specs.Profile.{Profile}
 use Rattle.session.specs.Opening as Opening
+use Rattle.session.specs.declared.Numbers.{Numbers}
 use Rattle.session_cuts.specs.declared.Cut.the-variants.{DayFloor}
 use Rattle.session_cuts.specs.declared.Numbered.{Numbered}
 use Rattle.session_cuts.specs.declared.Numbered.the-variants.{Known, Unknown}
 use Rattle.session_cuts.specs.Sheet.{cutOn}
 use Rattle.session_cutting.specs.Cutting.{malformed}
 use Rattle.file_format.specs.Format as Format
-use Rattle.file_format.specs.Format.{dayOffset, fileLength, dayCount, cutCount, totalFloorAt, totalCeilingAt, floorAt, ceilingAt, riseAt, numberedAt, known, cutsIn, file}
+use Rattle.file_format.specs.Format.{dayOffset, fileLength, dayCount, cutCount, numbersIn, floorAt, ceilingAt, riseAt, numberedAt, known, cutsIn, file}
 use Rattle.file_format.specs.Reading as Reading
 use Rattle.file_format.specs.Writing.{earlyWriting, writingRefusal}
 use Rattle.file_format.proofs.Parts.{file-cuts}
@@ -40,6 +41,7 @@ use Rattle.file_format.proofs.RoundTrip.{reads-again, written-back}
 use Rattle.file_writing.specs.Writing as ByValue
 use Rattle.file_writing.proofs.Laws.{answered, written-front, written-file}
 use Rattle.c_lists.specs.Lists.{pointAt, pointsIn, pointBytes, lentPoints}
+use Rattle.c_lists.specs.Profiles.{byteProfile, byteLengthRefusal}
 use Rattle.c_lists.proofs.Laws.{points-left, points-filled}
 use Rattle.c_files.specs.declared.Contents.{Contents}
 use Rattle.c_files.specs.Reading.{noRoomOver, readingRefusalOver, refusedContents, contentsOf, readInto, cutsLent}
@@ -70,26 +72,22 @@ points-back {m} {n} xs f bytes long e same =
 -- the lists that stand in a file
 abbrev listsIn : List ℕ → ListsInBytes
 listsIn f =
+    let n : ℕ = dayCount f in
     record {
-      days = dayCount f;
-      floors = pointBytes (floorAt f) (dayCount f);
-      ceilings = pointBytes (ceilingAt f) (dayCount f);
-      rises = pointBytes (riseAt f) (dayCount f - 1);
-      lowest = totalFloorAt f;
-      highest = totalCeilingAt f;
-      cuts = drop (dayOffset (dayCount f)) f;
+      profile = byteProfile (numbersIn f) (pointBytes (floorAt f) n) (pointBytes (ceilingAt f) n) (pointBytes (riseAt f) (n - 1));
+      cuts = drop (dayOffset n) f;
     }
 
 -- each list is one of bytes
 record InBytes (l : ListsInBytes) : Type 0 where
-  floors : Bytes (l .floors)
-  ceilings : Bytes (l .ceilings)
-  rises : Bytes (l .rises)
+  floors : Bytes (l .profile .floors)
+  ceilings : Bytes (l .profile .ceilings)
+  rises : Bytes (l .profile .rises)
   cuts : Bytes (l .cuts)
 
 module _ (l : ListsInBytes) where
   abbrev n : ℕ
-  n = l .days
+  n = l .profile .numbers .days
 
   abbrev b : List ℕ
   b = l .cuts
@@ -103,20 +101,20 @@ module _ (l : ListsInBytes) where
   whole = file p (cutsInBytes b)
 
   abbrev early : ℕ
-  early = earlyWritingOver n (l .floors) (l .ceilings) (l .rises) (l .lowest) (l .highest) b
+  early = earlyWritingOver (l .profile) b
 
   -- what passes over C
   record Passed : Type 0 where
-    pub size : Sized n (length (l .floors)) (length (l .ceilings)) (length (l .rises)) (length b)
+    pub size : Sized (l .profile) (length b)
     pub values : Opening.earlyOpening p ≡ 0
     pub cuts : firstNonzero (λ j. numberedRefusal n (numberedAt b (j * 8))) (length b / 8) ≡ 0
 
   passed : early ≡ 0 → Passed
   unfolding earlyWritingOver
   passed e =
-      let lengths = then-zero (lengthsRefusal n (length (l .floors)) (length (l .ceilings)) (length (l .rises)) (length b)) _ e in
+      let lengths = then-zero (lengthsRefusal (byteLengthRefusal (l .profile)) (length b)) _ e in
       let values = then-zero (Opening.earlyOpening p) _ (lengths .1) in
-      record { size = sized n _ _ _ _ (lengths .0); values = values .0; cuts = values .1 }
+      record { size = sized (l .profile) _ (lengths .0); values = values .0; cuts = values .1 }
 
   -- passes by value
   by-value : Passed → earlyWriting p (cutsInBytes b) ≡ 0
@@ -128,7 +126,7 @@ module _ (l : ListsInBytes) where
       (nonzero-same (λ j. malformed n (cutOn (cutsInBytes b) j)) (λ j. numberedRefusal n (numberedAt b (j * 8))) (length b / 8) same ∙ w .cuts)
 
   module _ (out : List ℕ) (e : write l out .refusal ≡ 0) where
-    none : writingRefusalOver n (l .floors) (l .ceilings) (l .rises) (l .lowest) (l .highest) b (length out) ≡ 0
+    none : writingRefusalOver (l .profile) b (length out) ≡ 0
     unfolding writeOver
     none = sym (answered _ (fileLength n (length b / 8))) ∙ e
 
@@ -164,13 +162,13 @@ module _ (l : ListsInBytes) where
     lists-again bytes =
         let r = reads-again p (cutsInBytes b) (by-value checked) in
         let long = checked .size .lists in
-        let days : dayCount whole ≡ n = ap (λ (q : Profile). q .days) (r .profile) in
-        let floors : listsIn whole .floors ≡ l .floors = points-back (l .floors) _ (bytes .floors) (long .floors-long) days (ap (λ (q : Profile). q .floors) (r .profile)) in
-        let ceilings : listsIn whole .ceilings ≡ l .ceilings = points-back (l .ceilings) _ (bytes .ceilings) (long .ceilings-long) days (ap (λ (q : Profile). q .ceilings) (r .profile)) in
-        let rises : listsIn whole .rises ≡ l .rises = points-back (l .rises) _ (bytes .rises) (long .rises-long) (ap (λ m. m - 1) days) (ap (λ (q : Profile). q .rises) (r .profile)) in
+        let numbers : numbersIn whole ≡ l .profile .numbers = ap Opening.numbersOf (r .profile) in
+        let days : dayCount whole ≡ n = ap (λ (m : Numbers). m .days) numbers in
+        let floors : listsIn whole .profile .floors ≡ l .profile .floors = points-back (l .profile .floors) _ (bytes .floors) (long .floors-long) days (ap (λ (q : Profile). q .floors) (r .profile)) in
+        let ceilings : listsIn whole .profile .ceilings ≡ l .profile .ceilings = points-back (l .profile .ceilings) _ (bytes .ceilings) (long .ceilings-long) days (ap (λ (q : Profile). q .ceilings) (r .profile)) in
+        let rises : listsIn whole .profile .rises ≡ l .profile .rises = points-back (l .profile .rises) _ (bytes .rises) (long .rises-long) (ap (λ m. m - 1) days) (ap (λ (q : Profile). q .rises) (r .profile)) in
         let cuts : listsIn whole .cuts ≡ b = rw days (file-cuts p (cutsInBytes b) ∙ cuts-back b n (bytes .cuts) (checked .cuts) (checked .size .whole)) in
-        rw at-front
-        (rw (floors, ceilings, rises, cuts, days, ap (λ (q : Profile). q .lowest) (r .profile), ap (λ (q : Profile). q .highest) (r .profile)) refl)
+        rw at-front (λ i. record { profile = byteProfile (numbers i) (floors i) (ceilings i) (rises i); cuts = cuts i })
 
 -- ---- written back
 
@@ -253,15 +251,14 @@ module _ (f : List ℕ) (t : Lent) where
     lists-found : readLists f t ≡ listsIn f
     lists-found =
         let c = contents unrefused in
-        let days : readOver f t .days ≡ dayCount f = ap (λ (r : Contents). r .days) c in
+        let numbers : readOver f t .numbers ≡ numbersIn f = ap (λ (r : Contents). r .numbers) c in
+        let days : readOver f t .numbers .days ≡ dayCount f = ap (λ (m : Numbers). m .days) numbers in
         let count : readOver f t .cuts ≡ cutCount f = ap (λ (r : Contents). r .cuts) c in
-        let lowest : readLists f t .lowest ≡ totalFloorAt f = ap (λ (r : Contents). r .lowest) c in
-        let highest : readLists f t .highest ≡ totalCeilingAt f = ap (λ (r : Contents). r .highest) c in
-        let floors : readLists f t .floors ≡ listsIn f .floors = ap (λ m. take (m * 2) (filledOver f t .floors)) days ∙ points-found _ (floorAt f) (dayCount f) (t .floors) e in
-        let ceilings : readLists f t .ceilings ≡ listsIn f .ceilings = ap (λ m. take (m * 2) (filledOver f t .ceilings)) days ∙ points-found _ (ceilingAt f) (dayCount f) (t .ceilings) e in
-        let rises : readLists f t .rises ≡ listsIn f .rises = ap (λ m. take ((m - 1) * 2) (filledOver f t .rises)) days ∙ points-found _ (riseAt f) (dayCount f - 1) (t .rises) e in
+        let floors : readLists f t .profile .floors ≡ listsIn f .profile .floors = ap (λ m. take (m * 2) (filledOver f t .floors)) days ∙ points-found _ (floorAt f) (dayCount f) (t .floors) e in
+        let ceilings : readLists f t .profile .ceilings ≡ listsIn f .profile .ceilings = ap (λ m. take (m * 2) (filledOver f t .ceilings)) days ∙ points-found _ (ceilingAt f) (dayCount f) (t .ceilings) e in
+        let rises : readLists f t .profile .rises ≡ listsIn f .profile .rises = ap (λ m. take ((m - 1) * 2) (filledOver f t .rises)) days ∙ points-found _ (riseAt f) (dayCount f - 1) (t .rises) e in
         let cuts : readLists f t .cuts ≡ listsIn f .cuts = ap (λ m. take (m * 8) (filledOver f t .cuts)) count ∙ cuts-found in
-        λ i. record { days = days i; floors = floors i; ceilings = ceilings i; rises = rises i; lowest = lowest i; highest = highest i; cuts = cuts i }
+        λ i. record { profile = byteProfile (numbers i) (floors i) (ceilings i) (rises i); cuts = cuts i }
 
   left : (readOver f t .refusal ≡ 0 → ⊥) → filledOver f t ≡ t
   unfolding cutsLent
@@ -284,11 +281,11 @@ roomy-taken f t e r =
 output-left : (l : ListsInBytes) (out : List ℕ) → (write l out .refusal ≡ 0 → ⊥) → outputInBytes l out ≡ out
 unfolding writeOver outputOver
 output-left l out h =
-    let number = writingRefusalOver (l .days) (l .floors) (l .ceilings) (l .rises) (l .lowest) (l .highest) (l .cuts) (length out) in
-    rw (ne-eqb number 0 (λ z. h (answered number (fileLength (l .days) (length (l .cuts) / 8)) ∙ z))) refl
+    let number = writingRefusalOver (l .profile) (l .cuts) (length out) in
+    rw (ne-eqb number 0 (λ z. h (answered number (fileLength (l .profile .numbers .days) (length (l .cuts) / 8)) ∙ z))) refl
 
-again : (l : ListsInBytes) (out : List ℕ) (t : Lent) → Bytes (l .floors) → Bytes (l .ceilings) → Bytes (l .rises) → Bytes (l .cuts) → write l out .refusal ≡ 0 → RoomyInBytes l t
-    → ReadAgainInBytes l (writtenInBytes l out) t
+again : (l : ListsInBytes) (out : List ℕ) (t : Lent) → Bytes (l .profile .floors) → Bytes (l .profile .ceilings) → Bytes (l .profile .rises) → Bytes (l .cuts)
+    → write l out .refusal ≡ 0 → RoomyInBytes l t → ReadAgainInBytes l (writtenInBytes l out) t
 again l out t bf bc br bb e r =
     let same = lists-again l out e (record { floors = bf; ceilings = bc; rises = br; cuts = bb }) in
     let z = roomy-taken (writtenInBytes l out) t (taken-again l out e) (rw same r) in

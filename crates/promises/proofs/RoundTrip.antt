@@ -10,9 +10,10 @@ use Rattle.theory_lists.specs.ListOf.{listOf, take-written}
 use Rattle.base_little_endian.specs.Fields.{Bytes}
 use Rattle.session.specs.Profile.{Profile}
 use Rattle.session.specs.Opening.{profile}
+use Rattle.session.specs.declared.Numbers.{Numbers}
 use Rattle.session_cuts.specs.declared.Cut.{Cut}
 use Rattle.session_cuts.specs.Sheet.{cutsOf}
-use Rattle.file_format.specs.Format.{dayCount, totalFloorAt, totalCeilingAt, floorAt, ceilingAt, riseAt, profileIn, cutsIn, file}
+use Rattle.file_format.specs.Format.{dayCount, numbersIn, floorAt, ceilingAt, riseAt, profileIn, cutsIn, file}
 use Rattle.file_format.proofs.Taken.{Taken, not-refused}
 use Rattle.file_format.proofs.RoundTrip.{Reads, reads-again, written-back}
 use Rattle.file_reading.specs.Reading.{contents}
@@ -35,13 +36,12 @@ module _ (b : List ℕ) (l : Lists) (e : read b l .refusal ≡ 0) where
   profile-read =
       let p : Profile = profileFound (read b l) (filled b l) in
       let room = whole .2 in
-      let days : p .days ≡ dayCount b = ap (λ (a : ReadAnswer). a .days) (whole .0) in
+      let numbers : read b l .numbers ≡ numbersIn b = ap (λ (a : ReadAnswer). a .numbers) (whole .0) in
+      let days : p .days ≡ dayCount b = ap (λ (m : Numbers). m .days) numbers in
       let floors : p .floors ≡ profileIn b .floors = found _ (floorAt b) (l .floors) e days (room .floors-long) in
       let ceilings : p .ceilings ≡ profileIn b .ceilings = found _ (ceilingAt b) (l .ceilings) e days (room .ceilings-long) in
       let rises : p .rises ≡ profileIn b .rises = found _ (riseAt b) (l .rises) e (ap (λ n. n - 1) days) (room .rises-long) in
-      let lowest : p .lowest ≡ totalFloorAt b = ap (λ (a : ReadAnswer). a .lowest) (whole .0) in
-      let highest : p .highest ≡ totalCeilingAt b = ap (λ (a : ReadAnswer). a .highest) (whole .0) in
-      λ i. profile (days i) (floors i) (ceilings i) (rises i) (lowest i) (highest i)
+      λ i. profile (numbers i) (floors i) (ceilings i) (rises i)
 
   pub cuts-read : cutsOf (read b l .sheet) ≡ cutsIn b
   unfolding contents

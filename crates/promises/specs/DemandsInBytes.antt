@@ -21,7 +21,7 @@ use Rattle.promises.specs.Cuts.{WellFormed, Looser, ValidIn, Kept}
 use Rattle.promises.specs.Demands.{Exact}
 use Rattle.base_little_endian.specs.Fields.{u16At}
 use Rattle.c_lists.specs.Lists.{pointAt, lentPoints}
-use Rattle.c_lists.specs.Profiles.{byteLengthRefusal, profileOf}
+use Rattle.c_lists.specs.Profiles.{ByteProfile, byteLengthRefusal, profileOf}
 use Rattle.c_storage.specs.Layout.{encoding, decoding}
 use Rattle.c_sessions.specs.Sessions.{isSession, openRefusal, bytesOpened, cutAnswer, bytesCut, changedBytes, shownOver}
 use Rattle.promises.specs.InBytes.{ByteCutCall, byValue, CameFrom}
@@ -41,7 +41,7 @@ ceilingsRead b fs cs = lentPoints (readRanges b fs cs .refusal) (ceilingOn (deco
 -- a refused opening writes none of the session's bytes; a refused cut leaves the list, and the session's bytes too, but for 8; a refused reading leaves both
 -- lists
 pub record BytesLeft : Type 0 where
-  pub opening : (b : List ℕ) (n : ℕ) (fs cs rs : List ℕ) (lo hi : ℤ) → (openRefusal b n fs cs rs lo hi ≡ 0 → ⊥) → bytesOpened b n fs cs rs lo hi ≡ b
+  pub opening : (b : List ℕ) (h : ByteProfile) → (openRefusal b h ≡ 0 → ⊥) → bytesOpened b h ≡ b
   pub list : (b : List ℕ) (t : Numbered) (l : List ℕ) → (cutAnswer b t (length l) .refusal ≡ 0 → ⊥) → changedBytes b t l ≡ l
   pub session : (b : List ℕ) (t : Numbered) (l : List ℕ) → (cutAnswer b t (length l) .refusal ≡ 0 → ⊥) → (cutAnswer b t (length l) .refusal ≡ 8 → ⊥)
       → bytesCut b t (length l) ≡ b
@@ -91,15 +91,14 @@ pub record Reading (p : Profile) (hs : List ByteCutCall) (b fs cs : List ℕ) : 
 -- ---- demand 2: 8 is said exactly where no check before it refuses and there is no schedule
 
 -- the first refusal of opening before 8 that applies, or 0
-abbrev pub earlyOpeningOver : List ℕ → ℕ → List ℕ → List ℕ → List ℕ → ℤ → ℤ → ℕ
-earlyOpeningOver b n fs cs rs lo hi =
-    let lengths : ℕ = byteLengthRefusal n (length fs) (length cs) (length rs) in
-    cond (isSession b) (cond (eqb lengths 0) (earlyOpening (profileOf n fs cs rs lo hi)) lengths) 2
+abbrev pub earlyOpeningOver : List ℕ → ByteProfile → ℕ
+earlyOpeningOver b h =
+    let lengths : ℕ = byteLengthRefusal h in
+    cond (isSession b) (cond (eqb lengths 0) (earlyOpening (profileOf h)) lengths) 2
 
 abbrev pub NoneAtOpening : Type 0
 NoneAtOpening =
-    (b : List ℕ) (n : ℕ) (fs cs rs : List ℕ) (lo hi : ℤ)
-    → (openRefusal b n fs cs rs lo hi ≡ 8) ↔ (earlyOpeningOver b n fs cs rs lo hi ≡ 0) × ((x : List ℤ) → Schedule (profileOf n fs cs rs lo hi) x → ⊥)
+    (b : List ℕ) (h : ByteProfile) → (openRefusal b h ≡ 8) ↔ (earlyOpeningOver b h ≡ 0) × ((x : List ℤ) → Schedule (profileOf h) x → ⊥)
 
 abbrev pub NoneAtCutOver : Profile → List ByteCutCall → List ℕ → ByteCutCall → Type 0
 NoneAtCutOver p hs b h =

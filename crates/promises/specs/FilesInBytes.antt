@@ -3,7 +3,6 @@
 use mathlib.Core.Path.{_≡_}
 use mathlib.Core.List.{List}
 use Prim.Native.Nat.{ℕ, _-_, _*_, _≤_}
-use lib.IntN.{ℤ}
 use lib.ListN.{length, take}
 use Rattle.theory_lists.specs.Front.{inFront}
 use Rattle.base_little_endian.specs.Fields.{Bytes}
@@ -12,29 +11,24 @@ use Rattle.file_format.specs.Format.{dayCount, floorAt, ceilingAt, riseAt}
 use Rattle.file_writing.specs.Writing as ByValue
 use Rattle.file_writing.specs.declared.WriteAnswer.{WriteAnswer}
 use Rattle.c_lists.specs.Lists.{lentPoints}
-use Rattle.c_lists.specs.Profiles.{profileOf}
+use Rattle.c_lists.specs.Profiles.{ByteProfile, byteProfile, profileOf}
 use Rattle.c_files.specs.declared.Contents.{Contents}
 use Rattle.c_files.specs.Reading.{readInto, cutsLent}
 use Rattle.c_files.specs.Writing.{cutsInBytes, writeOver, outputOver}
 
 -- a profile and cuts as the writer is handed them, and as a caller finds them after reading; each list is its bytes
 pub record ListsInBytes : Type 0 where
-  pub days : ℕ
-  pub floors : List ℕ
-  pub ceilings : List ℕ
-  pub rises : List ℕ
-  pub lowest : ℤ
-  pub highest : ℤ
+  pub profile : ByteProfile
   pub cuts : List ℕ
 
 -- ---- writing
 
 -- what the writer gives, and its output afterwards (the contract of `cloverdrum_write_file`)
 abbrev pub write : ListsInBytes → List ℕ → WriteAnswer
-write l out = writeOver (l .days) (l .floors) (l .ceilings) (l .rises) (l .lowest) (l .highest) (l .cuts) (length out)
+write l out = writeOver (l .profile) (l .cuts) (length out)
 
 abbrev pub outputInBytes : ListsInBytes → List ℕ → List ℕ
-outputInBytes l out = outputOver (l .days) (l .floors) (l .ceilings) (l .rises) (l .lowest) (l .highest) (l .cuts) out
+outputInBytes l out = outputOver (l .profile) (l .cuts) out
 
 -- the file is as many bytes of the output as the writer says
 abbrev pub writtenInBytes : ListsInBytes → List ℕ → List ℕ
@@ -42,7 +36,7 @@ writtenInBytes l out = take (write l out .length) (outputInBytes l out)
 
 -- the profile that the lists hold
 abbrev pub profileInBytes : ListsInBytes → Profile
-profileInBytes l = profileOf (l .days) (l .floors) (l .ceilings) (l .rises) (l .lowest) (l .highest)
+profileInBytes l = profileOf (l .profile)
 
 -- ---- reading
 
@@ -69,13 +63,9 @@ filledOver f t =
 -- the lists that a caller finds in them: what lies past the data is no part of them
 abbrev pub foundIn : Contents → Lent → ListsInBytes
 foundIn r t =
+    let n : ℕ = r .numbers .days in
     record {
-      days = r .days;
-      floors = take (r .days * 2) (t .floors);
-      ceilings = take (r .days * 2) (t .ceilings);
-      rises = take ((r .days - 1) * 2) (t .rises);
-      lowest = r .lowest;
-      highest = r .highest;
+      profile = byteProfile (r .numbers) (take (n * 2) (t .floors)) (take (n * 2) (t .ceilings)) (take ((n - 1) * 2) (t .rises));
       cuts = take (r .cuts * 8) (t .cuts);
     }
 
@@ -84,9 +74,9 @@ readLists f t = foundIn (readOver f t) (filledOver f t)
 
 -- the lent lists are long enough
 pub record RoomyInBytes (l : ListsInBytes) (t : Lent) : Type 0 where
-  pub floors : length (l .floors) ≤ length (t .floors)
-  pub ceilings : length (l .ceilings) ≤ length (t .ceilings)
-  pub rises : length (l .rises) ≤ length (t .rises)
+  pub floors : length (l .profile .floors) ≤ length (t .floors)
+  pub ceilings : length (l .profile .ceilings) ≤ length (t .ceilings)
+  pub rises : length (l .profile .rises) ≤ length (t .rises)
   pub cuts : length (l .cuts) ≤ length (t .cuts)
 
 -- ---- the round trips
@@ -108,8 +98,8 @@ pub record ListsLeft : Type 0 where
 
 pub record FilesInBytes : Type 0 where
   pub refused : ListsLeft
-  pub again : (l : ListsInBytes) (out : List ℕ) (t : Lent) → Bytes (l .floors) → Bytes (l .ceilings) → Bytes (l .rises) → Bytes (l .cuts) → write l out .refusal ≡ 0 → RoomyInBytes l t
-      → ReadAgainInBytes l (writtenInBytes l out) t
+  pub again : (l : ListsInBytes) (out : List ℕ) (t : Lent) → Bytes (l .profile .floors) → Bytes (l .profile .ceilings) → Bytes (l .profile .rises) → Bytes (l .cuts)
+      → write l out .refusal ≡ 0 → RoomyInBytes l t → ReadAgainInBytes l (writtenInBytes l out) t
   pub back : (f out : List ℕ) (t : Lent) → Bytes f → readOver f t .refusal ≡ 0 → write (readLists f t) out .refusal ≡ 0 → WrittenBackInBytes f out t
   -- what is written is what the writer by value writes
   pub by-value : (l : ListsInBytes) (out : List ℕ) → write l out .refusal ≡ 0

@@ -6,7 +6,7 @@ use Rattle.session.specs.Profile.{Profile}
 use Rattle.session.specs.Opening.{opened}
 use Rattle.session_cuts.specs.declared.Numbered.{Numbered}
 use Rattle.promises.specs.Cuts.{CutCall, after}
-use Rattle.c_lists.specs.Profiles.{profileOf}
+use Rattle.c_lists.specs.Profiles.{ByteProfile, profileOf}
 use Rattle.c_storage.specs.Layout.{encoding, decoding}
 use Rattle.c_sessions.specs.Sessions.{openRefusal, bytesOpened, bytesCut}
 
@@ -28,12 +28,10 @@ bytesAfter b (h ∷ hs) = bytesAfter (bytesCut b (h .cut) (h .bytes)) hs
 -- b are a session's bytes: opening answered 0 for the profile p, which its byte lists held, and wrote them over what was lent; then came the cuts hs
 pub record CameFrom (p : Profile) (hs : List ByteCutCall) (b : List ℕ) : Type 0 where
   pub lent : List ℕ
-  pub floors : List ℕ
-  pub ceilings : List ℕ
-  pub rises : List ℕ
-  pub entered : p ≡ profileOf (p .days) floors ceilings rises (p .lowest) (p .highest)
-  pub accepted : openRefusal lent (p .days) floors ceilings rises (p .lowest) (p .highest) ≡ 0
-  pub bytes : b ≡ bytesAfter (bytesOpened lent (p .days) floors ceilings rises (p .lowest) (p .highest)) hs
+  pub handed : ByteProfile
+  pub entered : p ≡ profileOf handed
+  pub accepted : openRefusal lent handed ≡ 0
+  pub bytes : b ≡ bytesAfter (bytesOpened lent handed) hs
 
 -- such bytes are the encoding of the session by value after the same cuts, and hold just that session
 pub record InBytes (p : Profile) (hs : List ByteCutCall) (b : List ℕ) : Type 0 where

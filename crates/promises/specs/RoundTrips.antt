@@ -37,7 +37,9 @@ filled b l =
 
 -- the profile that a caller finds in them: what lies past the data is no part of it
 abbrev pub profileFound : ReadAnswer → Lists → Profile
-profileFound r l = profile (r .days) (take (r .days) (l .floors)) (take (r .days) (l .ceilings)) (take (r .days - 1) (l .rises)) (r .lowest) (r .highest)
+profileFound r l =
+    let n : ℕ = r .numbers .days in
+    profile (r .numbers) (take n (l .floors)) (take n (l .ceilings)) (take (n - 1) (l .rises))
 
 -- the bytes that the writer has put at the front of its output
 abbrev pub fileWritten : Profile → List Cut → List ℕ → List ℕ
