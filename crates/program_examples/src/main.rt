@@ -3,6 +3,29 @@ mod cut_refusals;
 mod refusals;
 mod schedule_refusals;
 
+use session::Numbers;
+use session::Opened;
+use session::Session;
+ghost use Rattle.session.specs.Showing.{SessionInBounds};
+
+pub(crate) fn open(
+    days: usize,
+    floors: &[i16],
+    ceilings: &[i16],
+    rises: &[i16],
+    lowest: i32,
+    highest: i32,
+) -> Opened
+    ensures { λ r. ⌜ SessionInBounds (r .session) ⌝ }
+{
+    let numbers = Numbers {
+        days,
+        lowest,
+        highest,
+    };
+    Session::open(numbers, floors, ceilings, rises)
+}
+
 pub(crate) fn numbered(text: &[u8], number: usize) {
     io::write_all(1, text);
     io::print_decimal(1, number as u64);

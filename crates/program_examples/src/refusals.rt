@@ -1,6 +1,6 @@
 // One line for each bound of an entry and each refusal of opening.
 use crate::line;
-use session::Session;
+use crate::open;
 ghost use Prim.Native.Nat.{_≤_, max};
 ghost use lib.ListN.{length};
 
@@ -12,7 +12,7 @@ fn refusal(
     lowest: i32,
     highest: i32,
 ) -> u8 {
-    let o = Session::open(days, floors, ceilings, rises, lowest, highest);
+    let o = open(days, floors, ceilings, rises, lowest, highest);
     o.refusal
 }
 
