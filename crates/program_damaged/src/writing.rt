@@ -28,7 +28,8 @@ pub(crate) fn back(
     ceilings: &[i16; 512],
     rises: &[i16; 511],
 ) -> usize {
-    let days = read.days;
+    let numbers = read.numbers;
+    let days = numbers.days;
     if days == 0 {
         return OTHER;
     }
@@ -42,12 +43,10 @@ pub(crate) fn back(
     let sheet = read.sheet;
     let mut out = [0u8; 76];
     let answer = file_writing::write(
-        days,
+        numbers,
         &low[..days],
         &high[..days],
         &least[..steps],
-        read.lowest,
-        read.highest,
         sheet,
         &mut out,
     );
