@@ -14,7 +14,7 @@ use Rattle.theory_lists.specs.Lent.{lentList}
 use Rattle.theory_lists.specs.Rows.{front-sets}
 use Rattle.base_codes.specs.Code.{on}
 use Rattle.c_lists.specs.Lists.{pointBytes, lentPoints}
-use Rattle.c_lists.proofs.Laws.{CutCall, points-stored}
+use Rattle.c_lists.proofs.Laws.{Handing, points-stored}
 use Rattle.file_format.specs.Format.{dayOffset, dayCount, cutCount, floorAt, ceilingAt, riseAt}
 use Rattle.file_format.specs.Reading.{earlyReading}
 use Rattle.file_format.proofs.Taken.{Taken, not-refused}
@@ -115,9 +115,9 @@ module _ (b fs cs rs ks : List ℕ) where
       let few : a .numbers .days ≤ 512 = omega (arith, here .taken .few) in
       let less : a .numbers .days - 1 ≤ 512 = omega arith in
       let room = roomy (a .numbers .days) m (length fs) (length cs) (length rs) (length ks) (p .room) in
-      let low : CutCall (a .refusal) (floorAt b) (a .numbers .days) fs (s .low) _ = record { none = z; few = few; room = room .floors-long; lent = rw (← n) at (s .low-read); stored = s .floors-put } in
-      let high : CutCall (a .refusal) (ceilingAt b) (a .numbers .days) cs (s .high) _ = record { none = z; few = few; room = room .ceilings-long; lent = rw (← n) at (s .high-read); stored = s .ceilings-put } in
-      let steps : CutCall (a .refusal) (riseAt b) (a .numbers .days - 1) rs (s .steps) _ = record { none = z; few = less; room = room .rises-long; lent = rw (← n) at (s .steps-read); stored = s .rises-put } in
+      let low : Handing (a .refusal) (floorAt b) (a .numbers .days) fs (s .low) _ = record { none = z; few = few; room = room .floors-long; lent = rw (← n) at (s .low-read); stored = s .floors-put } in
+      let high : Handing (a .refusal) (ceilingAt b) (a .numbers .days) cs (s .high) _ = record { none = z; few = few; room = room .ceilings-long; lent = rw (← n) at (s .high-read); stored = s .ceilings-put } in
+      let steps : Handing (a .refusal) (riseAt b) (a .numbers .days - 1) rs (s .steps) _ = record { none = z; few = less; room = room .rises-long; lent = rw (← n) at (s .steps-read); stored = s .rises-put } in
       let rest = s .cuts-put ∙ front-sets (drop (dayOffset (a .numbers .days)) b) ks (omega (arith, length-drop (dayOffset (a .numbers .days)) b, here .taken .whole, room .cuts-long)) in (
         rw (not-refused b (here .taken), rw (n, p .count) at (p .room), p .count, here .all) refl,
         (rw (← n) (points-stored (floorAt b) (a .numbers .days) fs low), (rw (← n) (points-stored (ceilingAt b) (a .numbers .days) cs high), (rw (← n) (points-stored (riseAt b) (a .numbers .days - 1) rs steps), rw (← n) rest))),

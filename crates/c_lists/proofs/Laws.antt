@@ -102,14 +102,14 @@ pub lent-at : {refusal n : ℕ} (f : ℕ → ℤ) {points : List ℤ} (l : List 
 lent-at {refusal} {n} f l z h e k u = rw (e, list-filled refusal f n l z) (written-below f (pos 0) n l k u h)
 
 -- n points of an array that was lent and filled, stored as the front of the list l, which gives out
-pub record CutCall (refusal : ℕ) (f : ℕ → ℤ) (n : ℕ) (l : List ℕ) (points : List ℤ) (out : List ℕ) : Type 0 where
+pub record Handing (refusal : ℕ) (f : ℕ → ℤ) (n : ℕ) (l : List ℕ) (points : List ℤ) (out : List ℕ) : Type 0 where
   pub none : refusal ≡ 0
   pub few : n ≤ 512
   pub room : n * 2 ≤ length l
   pub lent : points ≡ lentList refusal f n (replicate 512 (pos 0))
   pub stored : out ≡ sets l 0 (pointBytes (on points) n)
 
-pub points-stored : {refusal : ℕ} (f : ℕ → ℤ) (n : ℕ) (l : List ℕ) {points : List ℤ} {out : List ℕ} → CutCall refusal f n l points out → out ≡ inFront (pointBytes f n) l
+pub points-stored : {refusal : ℕ} (f : ℕ → ℤ) (n : ℕ) (l : List ℕ) {points : List ℤ} {out : List ℕ} → Handing refusal f n l points out → out ≡ inFront (pointBytes f n) l
 points-stored f n l {points} h =
     points-front f (on points) n l (lent-at f (replicate 512 (pos 0)) (h .none) (omega (arith, h .few, length-replicate 512 (pos 0))) (h .lent)) (h .room) (h .stored)
 

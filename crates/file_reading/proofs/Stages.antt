@@ -35,7 +35,7 @@ contents-as {b} g i = answer (g .days i) (g .lowest i) (g .highest i) ((g .sheet
 -- ---- read
 
 -- a file's bytes and the lists that are lent for its floors, ceilings and rises
-pub record CutCall : Type 0 where
+pub record ReadCall : Type 0 where
   pub bytes : List ℕ
   pub floors : List ℤ
   pub ceilings : List ℤ
@@ -47,7 +47,7 @@ pub record Counted (b : List ℕ) (n : ℕ) : Type 0 where
   pub days : n ≡ dayCount b
 
 -- each list has room, and these are the lists that hold n days
-pub record Stored (h : CutCall) (n : ℕ) (floors ceilings rises : List ℤ) : Type 0 where
+pub record Stored (h : ReadCall) (n : ℕ) (floors ceilings rises : List ℤ) : Type 0 where
   pub floors-long : n ≤ length (h .floors)
   pub ceilings-long : n ≤ length (h .ceilings)
   pub rises-long : n - 1 ≤ length (h .rises)
@@ -56,10 +56,10 @@ pub record Stored (h : CutCall) (n : ℕ) (floors ceilings rises : List ℤ) : T
   pub rises-stored : rises ≡ written (riseAt (h .bytes)) (n - 1) (h .rises)
 
 -- the refusal's number, which reading has to give
-abbrev number : CutCall → ℕ
+abbrev number : ReadCall → ℕ
 number h = readingRefusal (h .bytes) (length (h .floors)) (length (h .ceilings)) (length (h .rises))
 
-module _ (h : CutCall) where
+module _ (h : ReadCall) where
   pub file-refused : {e : ℕ} → e ≡ earlyReading (h .bytes) → (e ≡ 0 → ⊥) → number h ≡ e
   unfolding readingRefusal
   file-refused {e} ee some = rw (← ee, ne-eqb e 0 some)

@@ -4,7 +4,7 @@ use native.Mathlib.Omega.{arith}
 use borrow.Author.Needs.{needs}
 use Rattle.file_format.specs.Reading.{earlyReading}
 use Rattle.file_format.proofs.Taken.{Taken, taken}
-use Rattle.file_reading.proofs.Stages.{CutCall, Counted, file-refused, no-floors, no-ceilings, no-rises, refused-by, taken-whole}
+use Rattle.file_reading.proofs.Stages.{ReadCall, Counted, file-refused, no-floors, no-ceilings, no-rises, refused-by, taken-whole}
 use Rattle.file_reading.proofs.read.Statement.{statement}
 use Rattle.file_reading.proofs.read.Tie as tie
 
@@ -36,11 +36,11 @@ at-stored c = c .before .before .before
 
 -- ---- what is known at them
 
-abbrev handed : tie.After-file-refusal → CutCall
+abbrev handed : tie.After-file-refusal → ReadCall
 handed c = let a = at-start c .args in record { bytes = a .bytes .now; floors = a .floors .now; ceilings = a .ceilings .now; rises = a .rises .now }
 
 -- what the days' count was taken of
-abbrev read-from : tie.After-wide → CutCall
+abbrev read-from : tie.After-wide → ReadCall
 read-from c = handed (test-file (at-passed c .before))
 
 passed : (c : tie.Else1) → earlyReading (handed (test-file (c .before)) .bytes) ≡ 0
