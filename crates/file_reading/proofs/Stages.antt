@@ -11,6 +11,7 @@ use Rattle.theory_lists.specs.Lent.{lentList, list-left, list-filled}
 use Rattle.session_cuts.specs.declared.Sheet.{Sheet}
 use Rattle.file_format.specs.Format.{dayOffset, dayCount, cutCount, totalFloorAt, totalCeilingAt, floorAt, ceilingAt, riseAt}
 use Rattle.file_format.specs.Reading.{earlyReading, readingRefusal}
+use Rattle.session.specs.declared.Numbers.{Numbers}
 use Rattle.file_reading.specs.declared.ReadAnswer.{ReadAnswer}
 use Rattle.file_reading.specs.Reading.{sheetFrom, refusedRead, contents, readFrom}
 use Rattle.file_reading.proofs.Laws.{Room, read-all}
@@ -18,19 +19,20 @@ use Rattle.file_reading.proofs.Laws.{Room, read-all}
 -- ---- read_contents
 
 -- what its calls gave of the file
-pub record Gave (b : List ℕ) (d m : ℕ) (low high : ℤ) (s : Sheet) : Type 0 where
-  pub days : d ≡ dayCount b
-  pub cuts : m ≡ cutCount b
-  pub lowest : low ≡ totalFloorAt b
-  pub highest : high ≡ totalCeilingAt b
-  pub sheet : s ≡ sheetFrom b (dayOffset d) m
+pub record Gave (b : List ℕ) (m : Numbers) (cuts : ℕ) (s : Sheet) : Type 0 where
+  pub days : m .days ≡ dayCount b
+  pub lowest : m .lowest ≡ totalFloorAt b
+  pub highest : m .highest ≡ totalCeilingAt b
+  pub counted : cuts ≡ cutCount b
+  pub sheet : s ≡ sheetFrom b (dayOffset (m .days)) cuts
 
-abbrev answer : ℕ → ℤ → ℤ → Sheet → ReadAnswer
-answer d low high s = record { refusal = 0; days = d; lowest = low; highest = high; sheet = s }
-
-pub contents-as : {b : List ℕ} {d m : ℕ} {low high : ℤ} {s : Sheet} → Gave b d m low high s → answer d low high s ≡ contents b
+pub contents-as : {b : List ℕ} {m : Numbers} {cuts : ℕ} {s : Sheet} → Gave b m cuts s → record { refusal = 0; numbers = m; sheet = s } ≡ contents b
 unfolding contents
-contents-as {b} g i = answer (g .days i) (g .lowest i) (g .highest i) ((g .sheet ∙ (λ j. sheetFrom b (dayOffset (g .days j)) (g .cuts j))) i)
+contents-as {b} g i = record {
+  refusal = 0;
+  numbers = record { days = g .days i; lowest = g .lowest i; highest = g .highest i };
+  sheet = (g .sheet ∙ (λ j. sheetFrom b (dayOffset (g .days j)) (g .counted j))) i;
+}
 
 -- ---- read
 

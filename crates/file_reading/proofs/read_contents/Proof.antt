@@ -26,14 +26,15 @@ gave : (c : tie.After-read-sheet)
     let h = at-highest n in
     let l = at-lowest h in
     let a = at-start l .args in
-    Gave (a .bytes .now) (a .days) (n .wide .result) (toZ w32 (ofZ w32 (l .i32-at .result))) (toZ w32 (ofZ w32 (h .i32-at2 .result))) (c .read-sheet .result)
+    Gave (a .bytes .now) (record { days = a .days; lowest = toZ w32 (ofZ w32 (l .i32-at .result)); highest = toZ w32 (ofZ w32 (h .i32-at2 .result)) }) (n .wide .result)
+    (c .read-sheet .result)
 gave c =
     let n = at-counted c in
     let h = at-highest n in
     let l = at-lowest h in
     record {
       days = at-start l .pre .0;
-      cuts = n .wide .ensures .0 ∙ n .before .u16-at .ensures;
+      counted = n .wide .ensures .0 ∙ n .before .u16-at .ensures;
       lowest = toZ-ofZ (sfits-of (l .i32-at .ok)) ∙ l .i32-at .ensures;
       highest = toZ-ofZ (sfits-of (h .i32-at2 .ok)) ∙ h .i32-at2 .ensures;
       sheet = c .read-sheet .ensures;
