@@ -58,9 +58,9 @@ shownOver b floors ceilings = cond (isSession b) (shown (decoding b) (floors / 2
 -- what showing gives, with a number for whether the session is spent: 1, or 0
 pub record Marked : Type 0 where
   pub refusal : ℕ
-  pub least : ℤ
-  pub most : ℤ
+  pub lowest : ℤ
+  pub highest : ℤ
   pub spent : ℕ
 
 abbrev pub marked : Shown → Marked
-marked s = record { refusal = s .refusal; least = s .least; most = s .most; spent = cond (s .spent) 1 0 }
+marked s = record { refusal = s .refusal; lowest = s .lowest; highest = s .highest; spent = cond (s .spent) 1 0 }

@@ -104,8 +104,8 @@ pub fn show(session: &[u8], floors: &mut [u8], ceilings: &mut [u8]) -> Shown
     if session.len() != SESSION_BYTES {
         return Shown {
             refusal: 2,
-            least: 0,
-            most: 0,
+            lowest: 0,
+            highest: 0,
             spent: false,
         };
     }

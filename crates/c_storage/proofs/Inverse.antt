@@ -104,22 +104,22 @@ module _ {b : List ℕ} where
           written-past (λ j. min (u16At b (place + j * 2)) most) 0 n zeros k (omega arith) ∙ getD-replicate {A = ℕ} 512 k 0 0 u ∙ sym (c .past k (omega arith) u)
 
   ranges-read : {totals place : ℕ} (rs : List ℕ) (n : ℕ) (r : Ranges) → Fits rs n r → Padded n (r .floors) × Padded n (r .ceilings)
-      → Part b totals (totalBytes (r .least) (r .most)) → Part b place (blockBytes (r .floors) n ++ blockBytes (r .ceilings) n) → rangesAt b n totals place ≡ r
+      → Part b totals (totalBytes (r .lowest) (r .highest)) → Part b place (blockBytes (r .floors) n ++ blockBytes (r .ceilings) n) → rangesAt b n totals place ≡ r
   unfolding rangesAt totalBytes
   ranges-read rs n r f past t p =
       let low : List ℕ = blockBytes (r .floors) n in
       let high : List ℕ = blockBytes (r .ceilings) n in
-      let least : List ℕ = i32Bytes (decoded lowestTotal (r .least)) in
-      let most : List ℕ = i32Bytes (decoded lowestTotal (r .most)) in
+      let least : List ℕ = i32Bytes (decoded lowestTotal (r .lowest)) in
+      let most : List ℕ = i32Bytes (decoded lowestTotal (r .highest)) in
       let wide = block-length (r .floors) n (f .most) in
-      let long = i32-length (decoded lowestTotal (r .least)) in
+      let long = i32-length (decoded lowestTotal (r .lowest)) in
       let floors : Cells n 5000 (r .floors) = record { few = f .most; whole = f .floors; small = f .floor; past = past .0 } in
       let ceilings : Cells n 5000 (r .ceilings) = record { few = f .most; whole = f .ceilings; small = f .ceiling; past = past .1 } in
       rw (
         cells-read 5000 (r .floors) floors (part-left low high wide p),
         cells-read 5000 (r .ceilings) ceilings (part-right low high wide p),
-        total-read (r .least) (f .lowest) (part-left least most long t),
-        total-read (r .most) (f .highest) (part-right least most long t),
+        total-read (r .lowest) (f .lowest) (part-left least most long t),
+        total-read (r .highest) (f .highest) (part-right least most long t),
       )
       refl
 
@@ -137,10 +137,10 @@ module _ (s : Session) where
   mark = u16Bytes (cond (s .spent) 1 0)
 
   abbrev opening : List ℕ
-  opening = totalBytes (s .opened .least) (s .opened .most)
+  opening = totalBytes (s .opened .lowest) (s .opened .highest)
 
   abbrev totals : List ℕ
-  totals = totalBytes (s .present .least) (s .present .most)
+  totals = totalBytes (s .present .lowest) (s .present .highest)
 
   abbrev rises : List ℕ
   rises = blockBytes (s .rises) (s .days)

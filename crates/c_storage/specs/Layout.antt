@@ -70,7 +70,7 @@ blockBytes cells n = cellBytes (at cells) n ++ replicate ((mostDays - n) * cellL
 unfoldable pub encoding : Session → List ℕ
 encoding s =
     u16Bytes (s .days) ++ u16Bytes (cond (s .spent) 1 0)
-    ++ totalBytes (s .opened .least) (s .opened .most) ++ totalBytes (s .present .least) (s .present .most)
+    ++ totalBytes (s .opened .lowest) (s .opened .highest) ++ totalBytes (s .present .lowest) (s .present .highest)
     ++ blockBytes (s .rises) (s .days)
     ++ (blockBytes (s .opened .floors) (s .days) ++ blockBytes (s .opened .ceilings) (s .days))
     ++ (blockBytes (s .present .floors) (s .days) ++ blockBytes (s .present .ceilings) (s .days))
@@ -87,7 +87,7 @@ totalAt b place = cond (within lowestTotal highestTotal (i32At b place)) (code l
 
 unfoldable pub rangesAt : List ℕ → ℕ → ℕ → ℕ → Ranges
 rangesAt b n totals place =
-    record { floors = cellsAt b n highestLevel place; ceilings = cellsAt b n highestLevel (place + blockLength); least = totalAt b totals; most = totalAt b (totals + totalLength) }
+    record { floors = cellsAt b n highestLevel place; ceilings = cellsAt b n highestLevel (place + blockLength); lowest = totalAt b totals; highest = totalAt b (totals + totalLength) }
 
 abbrev pub daysAt : List ℕ → ℕ
 daysAt b = max 1 (min mostDays (u16At b daysPlace))

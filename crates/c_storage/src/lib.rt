@@ -103,8 +103,8 @@ fn ranges(bytes: &[u8], n: usize, totals: usize, place: usize) -> Ranges
     Ranges {
         floors,
         ceilings,
-        least: total(bytes, totals),
-        most: total(bytes, totals + TOTAL_BYTES),
+        lowest: total(bytes, totals),
+        highest: total(bytes, totals + TOTAL_BYTES),
     }
 }
 
@@ -186,8 +186,8 @@ pub fn encode(session: Session, out: &mut [u8])
     let present = session.present;
     put_u16(out, DAYS_AT, narrow(n));
     put_u16(out, MARK_AT, mark(session.spent));
-    put_totals(opened.least, opened.most, OPENED_TOTALS_AT, out);
-    put_totals(present.least, present.most, PRESENT_TOTALS_AT, out);
+    put_totals(opened.lowest, opened.highest, OPENED_TOTALS_AT, out);
+    put_totals(present.lowest, present.highest, PRESENT_TOTALS_AT, out);
     put_block(&rises, n, RISES_AT, out);
     put_ranges(opened, n, OPENED_AT, out);
     put_ranges(present, n, PRESENT_AT, out);

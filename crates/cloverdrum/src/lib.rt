@@ -88,13 +88,13 @@ pub extern "C" fn cloverdrum_read(
     total_ceiling: &mut i32,
     spent: &mut u8,
 ) -> u8
-    ensures { λ r. ⌜ record { refusal = r; least = now («total_floor» .exit); most = now («total_ceiling» .exit); spent = now (spent .exit) } ≡ marked (shownOver (now (session .entry)) (length (now (floors .entry))) (length (now (ceilings .entry)))) ⌝ }
+    ensures { λ r. ⌜ record { refusal = r; lowest = now («total_floor» .exit); highest = now («total_ceiling» .exit); spent = now (spent .exit) } ≡ marked (shownOver (now (session .entry)) (length (now (floors .entry))) (length (now (ceilings .entry)))) ⌝ }
     ensures { λ r. ⌜ now (floors .exit) ≡ lentPoints r (floorOn (decoding (now (session .entry)))) (decoding (now (session .entry)) .days) (now (floors .entry)) ⌝ }
     ensures { λ r. ⌜ now (ceilings .exit) ≡ lentPoints r (ceilingOn (decoding (now (session .entry)))) (decoding (now (session .entry)) .days) (now (ceilings .entry)) ⌝ }
 {
     let shown = c_sessions::show(session, floors, ceilings);
-    let low = shown.least;
-    let high = shown.most;
+    let low = shown.lowest;
+    let high = shown.highest;
     *total_floor = low;
     *total_ceiling = high;
     *spent = mark(shown.spent);

@@ -95,8 +95,8 @@ pub record Asked (s : Session) (r : Shown) (ls us fs cs : List ℤ) : Type 0 whe
 
 -- with lists of 512 numbers lent: the present ranges
 pub record Showed (s : Session) (r : Shown) (fs cs : List ℤ) : Type 0 where
-  pub least : r .least ≡ totalFloor s
-  pub most : r .most ≡ totalCeiling s
+  pub least : r .lowest ≡ totalFloor s
+  pub most : r .highest ≡ totalCeiling s
   pub lines : (k : ℕ) → k < s .days → dayLine k (on fs k) (on cs k) ≡ dayLine k (floorOn s k) (ceilingOn s k)
 
 pub showed : {s : Session} {r : Shown} {ls us fs cs : List ℤ} → Asked s r ls us fs cs → Showed s r fs cs
@@ -105,14 +105,14 @@ showed {s} {r} {ls} {us} {fs} {cs} q =
     let l = q .floors-long in
     let u = q .ceilings-long in
     let m = q .bounds .present .most in
-    let a : r ≡ record { refusal = 0; least = totalFloor s; most = totalCeiling s; spent = s .spent } =
+    let a : r ≡ record { refusal = 0; lowest = totalFloor s; highest = totalCeiling s; spent = s .spent } =
     rw (l, u, le-ltb 512 (s .days) m) at (q .answer) in
     let z : r .refusal ≡ 0 = ap (λ x. x .refusal) a in
     let g : fs ≡ written (floorOn s) (s .days) ls = q .floors ∙ list-filled (r .refusal) (floorOn s) (s .days) ls z in
     let d : cs ≡ written (ceilingOn s) (s .days) us = q .ceilings ∙ list-filled (r .refusal) (ceilingOn s) (s .days) us z in
     record {
-      least = ap (λ x. x .least) a;
-      most = ap (λ x. x .most) a;
+      least = ap (λ x. x .lowest) a;
+      most = ap (λ x. x .highest) a;
       lines = λ k h.
           let low : on fs k ≡ floorOn s k = rw g (written-below (floorOn s) (pos 0) (s .days) ls k h (omega arith)) in
           let high : on cs k ≡ ceilingOn s k = rw d (written-below (ceilingOn s) (pos 0) (s .days) us k h (omega arith)) in

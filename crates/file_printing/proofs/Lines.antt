@@ -140,7 +140,7 @@ range-length w low high l h = simp length-append (omega arith)
 module _ {s : Session} (b : SessionInBounds s) where
   pub total-line : length (totalLine (totalFloor s) (totalCeiling s)) ≤ 22
   unfolding totalLine
-  total-line = omega (arith, range-length 7 (totalFloor s) (totalCeiling s) (total-length (s .present .least) (b .present .lowest)) (total-length (s .present .most) (b .present .highest)))
+  total-line = omega (arith, range-length 7 (totalFloor s) (totalCeiling s) (total-length (s .present .lowest) (b .present .lowest)) (total-length (s .present .highest) (b .present .highest)))
 
   pub day-line : (k : ℕ) → k < s .days → length (dayLine k (floorOn s k) (ceilingOn s k)) ≤ 20
   unfolding dayLine

@@ -151,7 +151,7 @@ fn put_ranges(session: Session, out: &mut [u8; MOST_TEXT_BYTES]) -> usize
     let mut floors = [0i16; MOST_DAYS];
     let mut ceilings = [0i16; MOST_DAYS];
     let shown = session.show(&mut floors, &mut ceilings);
-    let at = put_total(out, shown.least, shown.most);
+    let at = put_total(out, shown.lowest, shown.highest);
     put_days(out, at, days, &floors, &ceilings)
 }
 

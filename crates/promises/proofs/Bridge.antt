@@ -171,7 +171,7 @@ module _ (p : Profile) (d : Entered p) (S : List ℤ → Type 0) (T : (ℕ → �
     }
 
   pub exact-points : (s : Session) → ((i : ℕ) → i < p .days → Codes.NatSpans T (λ c. c i) (at (s .present .floors) i) (at (s .present .ceilings) i))
-      → Codes.NatSpans T (held (p .days)) (s .present .least) (s .present .most) → Exact p S s
+      → Codes.NatSpans T (held (p .days)) (s .present .lowest) (s .present .highest) → Exact p S s
   exact-points s day sum = record {
     each = λ i h. spans lowestPoint 1000 point-less (λ x. on x i) (λ c. c i) (λ x c w same. same i h) _ _ (day i h);
     sum = spans lowestTotal 512000 total-less total (held (p .days)) (λ x c w same. held-less x (p .days) c w (d .sized .few) same) _ _ sum;

@@ -169,7 +169,7 @@ module _ (p : Profile) (hs : List ByteCutCall) (b : List ℕ) (c : CameFrom p hs
             each = λ i h.
                 let k : i < decoding b .days = rw days h in
                 same-range (lent-point _ (floorOn (decoding b)) (decoding b .days) fs z low i k) (lent-point _ (ceilingOn (decoding b)) (decoding b .days) cs z high i k) (x .each i h);
-            sum = same-range (ap (λ (r : Shown). r .least) whole) (ap (λ (r : Shown). r .most) whole) (x .sum);
+            sum = same-range (ap (λ (r : Shown). r .lowest) whole) (ap (λ (r : Shown). r .highest) whole) (x .sum);
           }
 
     reading : Reading p hs b fs cs

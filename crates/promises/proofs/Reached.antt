@@ -26,14 +26,14 @@ use Rattle.promises.proofs.Demand3.{LevelsKept, kept-levels, levels-kep
 use Rattle.promises.specs.Schedules.{presentProfile, PresentSchedules}
 
 -- a session's numbers stand for the profile of its present ranges
-pub present-coding : (s : Session) → s .days ≤ 512 → Coding (presentProfile s) (s .present .floors) (s .present .ceilings) (s .rises) (s .present .least) (s .present .most)
+pub present-coding : (s : Session) → s .days ≤ 512 → Coding (presentProfile s) (s .present .floors) (s .present .ceilings) (s .rises) (s .present .lowest) (s .present .highest)
 present-coding s few = record {
   few = few;
   floor = λ k h. rw (get-listOf (floorOn s) (pos 0) (s .days) k h) (decoded-less lowestPoint (at (s .present .floors) k) 1000 point-less);
   ceiling = λ k h. rw (get-listOf (ceilingOn s) (pos 0) (s .days) k h) (decoded-less lowestPoint (at (s .present .ceilings) k) 1000 point-less);
   rise = λ k h. rw (get-listOf (riseOn s) (pos 0) (s .days - 1) k (omega arith)) (decoded-less lowestRise (at (s .rises) k) 2000 rise-less);
-  lowest = decoded-less lowestTotal (s .present .least) 512000 total-less;
-  highest = decoded-less lowestTotal (s .present .most) 512000 total-less;
+  lowest = decoded-less lowestTotal (s .present .lowest) 512000 total-less;
+  highest = decoded-less lowestTotal (s .present .highest) 512000 total-less;
 }
 
 -- an unspent session that came from a profile by cuts: the levels within its present ranges are those of the profile that keep the cuts, and
@@ -59,7 +59,7 @@ pub after-reached : (p : Profile) (z : opened p .refusal ≡ 0) (d : Entered p) 
 after-reached p z d hs s e = let u = unrefused p z in reached p d hs (rw (e, u .session) (after-right p d (u .found) hs))
 
 module _ (p : Profile) (d : Entered p) (hs : List CutCall) (s : Session) (w : Reached p d hs s) where
-  present : Coding (presentProfile s) (s .present .floors) (s .present .ceilings) (s .rises) (s .present .least) (s .present .most)
+  present : Coding (presentProfile s) (s .present .floors) (s .present .ceilings) (s .rises) (s .present .lowest) (s .present .highest)
   present = present-coding s (w .supported .bounds .most)
 
   pub present-kept : (x : List ℤ) → Schedule (presentProfile s) x → Kept p hs x

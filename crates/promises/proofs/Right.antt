@@ -21,7 +21,7 @@ pub record Narrowed (n : ℕ) (rs : List ℕ) (o : Ranges) (S : (ℕ → ℕ) �
   pub within : (x : ℕ → ℕ) → S x → Within rs n r x
   pub only : (x : ℕ → ℕ) → Within rs n r x → S x
   pub day : (k : ℕ) → k < n → NatSpans S (λ x. x k) (at (r .floors) k) (at (r .ceilings) k)
-  pub total : NatSpans S (held n) (r .least) (r .most)
+  pub total : NatSpans S (held n) (r .lowest) (r .highest)
   pub floors-kept : (k : ℕ) → n ≤ k → at (r .floors) k ≡ at (o .floors) k
   pub ceilings-kept : (k : ℕ) → n ≤ k → at (r .ceilings) k ≡ at (o .ceilings) k
 
@@ -56,8 +56,8 @@ module _ {n : ℕ} {rs : List ℕ} {o : Ranges} {S : (ℕ → ℕ) → Type 0} w
   ranges-same {r} {q} a b =
       let floors : r .floors ≡ q .floors = ext-getD 0 (r .floors) (q .floors) (a .bounds .floors ∙ sym (b .bounds .floors)) (λ k h. floor k (decLt k n)) in
       let ceilings : r .ceilings ≡ q .ceilings = ext-getD 0 (r .ceilings) (q .ceilings) (a .bounds .ceilings ∙ sym (b .bounds .ceilings)) (λ k h. ceiling k (decLt k n)) in
-      let least : r .least ≡ q .least = spans-least (a .total) (b .total) in
-      let most : r .most ≡ q .most = spans-most (a .total) (b .total) in
+      let least : r .lowest ≡ q .lowest = spans-least (a .total) (b .total) in
+      let most : r .highest ≡ q .highest = spans-most (a .total) (b .total) in
       λ i. record { floors = floors i; ceilings = ceilings i; least = least i; most = most i }
     where
       floor : (k : ℕ) → Dec (k < n) → at (r .floors) k ≡ at (q .floors) k
@@ -70,7 +70,7 @@ module _ {n : ℕ} {rs : List ℕ} {o : Ranges} {S : (ℕ → ℕ) → Type 0} w
 
   -- some levels are in S where ranges are exact for it
   pub some : {r : Ranges} → Narrowed n rs o S r → (x : ℕ → ℕ) × S x
-  some {r} a = let z = a .total .taken (r .least) (le-refl (r .least)) (a .total .some) in (z .0, z .1)
+  some {r} a = let z = a .total .taken (r .lowest) (le-refl (r .lowest)) (a .total .some) in (z .0, z .1)
 
   pub right-one : {s t : Session} → Right n rs o S s → Right n rs o S t → s ≡ t
   right-one (narrowed r e a) (narrowed q f b) = e ∙ ap (unspent n rs o) (ranges-same a b) ∙ sym f

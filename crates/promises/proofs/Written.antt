@@ -128,7 +128,7 @@ module _ (p : Profile) (d : Entered p) (hs : List CutCall) (s : Session) (l : Li
   total-schedule : (v : ℤ) → totalFloor s ≤ℤ v → v ≤ℤ totalCeiling s → ScheduleFor p hs s total v (written (λ k. decoded lowestPoint (totalLevels s v k)) (s .days) l)
   unfolding totalLevels
   total-schedule v low high =
-      let b = between lowestTotal v 512000 (s .present .least) (s .present .most) total-less low high in
+      let b = between lowestTotal v 512000 (s .present .lowest) (s .present .highest) total-less low high in
       let t = with-total (w .reached .supported) (code lowestTotal v) (b .1) (b .2) in
       let x = written (λ k. decoded lowestPoint (totalLevels s v k)) (s .days) l in
       let sum = held-less x (s .days) (totalLevels s v) (whole (totalLevels s v) (t .0)) (w .reached .supported .bounds .most) (same (totalLevels s v) (t .0)) in

@@ -69,13 +69,13 @@ module _ (s : Session) (x : List ℤ) (few : s .days ≤ 512) (whole : length x 
       let both : s .days * 32768 + 512000 ≡ 512000 + 32768 * s .days = omega arith in
       rw both at (less-shift (total x) (sum all (s .days) (at xs)) (s .days * 32768) 512000 (rw whole at here))
 
-  total-test : brokenTotal s x ≡ totalOutside xs (s .days) (s .present .least) (s .present .most)
+  total-test : brokenTotal s x ≡ totalOutside xs (s .days) (s .present .lowest) (s .present .highest)
   total-test =
-      outside-test (totalFloor s) (totalCeiling s) (total x) (s .present .least + 32768 * s .days) (s .present .most + 32768 * s .days)
-      (sum all (s .days) (at xs) + 512000) (512000 + 32768 * s .days) (held (s .days) (s .present .least)) (held (s .days) (s .present .most)) sum-less
+      outside-test (totalFloor s) (totalCeiling s) (total x) (s .present .lowest + 32768 * s .days) (s .present .highest + 32768 * s .days)
+      (sum all (s .days) (at xs) + 512000) (512000 + 32768 * s .days) (held (s .days) (s .present .lowest)) (held (s .days) (s .present .highest)) sum-less
 
   pub judged-codes : {out : List ℕ} → out ≡ written (λ k. code lowestSetpoint (on x k)) (length x) zeros
-      → judgedCodes out (s .present .floors) (s .present .ceilings) (s .rises) (s .days) (s .present .least) (s .present .most) ≡ judged s x
+      → judgedCodes out (s .present .floors) (s .present .ceilings) (s .rises) (s .days) (s .present .lowest) (s .present .highest) ≡ judged s x
   unfolding judgedCodes judged
   judged-codes made =
       rw (

@@ -147,8 +147,8 @@ fn judge(session: Session, list: &[i16]) -> Inspection
         &ceilings,
         &rises,
         session.days,
-        ranges.least,
-        ranges.most,
+        ranges.lowest,
+        ranges.highest,
     )
 }
 

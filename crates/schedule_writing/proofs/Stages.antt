@@ -106,7 +106,7 @@ abbrev pub DayJudged : Session → ℕ → ℤ → ℕ → ℕ → Type 0
 DayJudged s day value = Judged lowestPoint value 5000 (at (s .present .floors) day) (at (s .present .ceilings) day) (s .spent)
 
 abbrev pub TotalJudged : Session → ℤ → ℕ → ℕ → Type 0
-TotalJudged s value = Judged lowestTotal value 2560000 (s .present .least) (s .present .most) (s .spent)
+TotalJudged s value = Judged lowestTotal value 2560000 (s .present .lowest) (s .present .highest) (s .spent)
 
 -- what the calls gave of a day's value: its floor x, its ceiling y, the value's code, its check and the number
 pub record DayTested (s : Session) (day : ℕ) (value : ℤ) (x y : ℕ) (v : Coded) (q : Checked) (r : ℕ) : Type 0 where
@@ -125,9 +125,9 @@ day-judged {s} {day} {value} {x} {y} d =
     (record { most = omega (arith, d .ceiling, d .bounds .present .ceiling day (d .known)); coded = d .coded; checked = d .checked; refusal = d .refusal }))
 
 pub total-judged : (s : Session) (value : ℤ) → SessionInBounds s → {v : Coded} {q : Checked} {r : ℕ} → v ≡ coded lowestTotal highestTotal value
-    → q ≡ checkedWithin v (s .present .least) (s .present .most) → r ≡ cond (s .spent) 9 (cond (not (q .within)) 10 0) → TotalJudged s value r (q .code)
+    → q ≡ checkedWithin v (s .present .lowest) (s .present .highest) → r ≡ cond (s .spent) 9 (cond (not (q .within)) 10 0) → TotalJudged s value r (q .code)
 total-judged s value bounds ev eq er =
-    judged lowestTotal value 512000 2560000 (s .present .least) (s .present .most) total-less
+    judged lowestTotal value 512000 2560000 (s .present .lowest) (s .present .highest) total-less
     (record { most = bounds .present .highest; coded = ev; checked = eq; refusal = er })
 
 -- ---- write
@@ -175,21 +175,21 @@ pub record LevelCarried (s : Session) (day level : ℕ) (fs cs : List ℕ) (r : 
   pub carried : gs ≡ written (carried fs (s .rises)) r fs
 
 module _ {s : Session} {day level : ℕ} {fs cs : List ℕ} (d : LevelSet s day level fs cs) where
-  set-bounds : InBounds (box fs cs (s .rises) (s .days) (s .present .least) (s .present .most))
+  set-bounds : InBounds (box fs cs (s .rises) (s .days) (s .present .lowest) (s .present .highest))
   set-bounds = rw (d .floors, d .ceilings) (refit-day (d .bounds .present) day level (d .known) (d .small))
 
   pub through-carriable : Carriable cs (s .rises) (s .days)
   through-carriable = record { most = set-bounds .most; ceiling = set-bounds .ceiling; rise = set-bounds .rise }
 
 module _ {s : Session} {day level : ℕ} {fs cs : List ℕ} {r : ℕ} {gs : List ℕ} (d : LevelCarried s day level fs cs r gs) where
-  pub through-bounds : InBounds (box gs cs (s .rises) (s .days) 0 (s .present .least))
-  through-bounds = carried-bounds (set-bounds (d .before)) (d .first) (d .carried) (s .present .least) (set-bounds (d .before) .lowest)
+  pub through-bounds : InBounds (box gs cs (s .rises) (s .days) 0 (s .present .lowest))
+  through-bounds = carried-bounds (set-bounds (d .before)) (d .first) (d .carried) (s .present .lowest) (set-bounds (d .before) .lowest)
 
-  through-levels : raisedTo gs cs (s .rises) (s .days) (s .present .least) ≡ dayLevels s day (decoded lowestPoint level)
+  through-levels : raisedTo gs cs (s .rises) (s .days) (s .present .lowest) ≡ dayLevels s day (decoded lowestPoint level)
   unfolding dayLevels
   through-levels = rw (code-decoded lowestPoint level, d .carried, d .first, d .before .floors, d .before .ceilings)
 
-  pub through-written : (l : List ℤ) → written (λ k. decoded lowestPoint (raisedTo gs cs (s .rises) (s .days) (s .present .least) k)) (s .days) l
+  pub through-written : (l : List ℤ) → written (λ k. decoded lowestPoint (raisedTo gs cs (s .rises) (s .days) (s .present .lowest) k)) (s .days) l
       ≡ written (λ k. decoded lowestPoint (dayLevels s day (decoded lowestPoint level) k)) (s .days) l
   through-written l = ap (λ f. written (λ k. decoded lowestPoint (f k)) (s .days) l) through-levels
 

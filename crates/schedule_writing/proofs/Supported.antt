@@ -24,7 +24,7 @@ use Rattle.schedule_raising.proofs.Levels.{raised-levels}
 pub record Supported (rs : List ℕ) (n : ℕ) (r : Ranges) : Type 0 where
   pub bounds : Fits rs n r
   pub day : (k : ℕ) → k < n → NatSpans (Within rs n r) (λ x. x k) (at (r .floors) k) (at (r .ceilings) k)
-  pub total : NatSpans (Within rs n r) (held n) (r .least) (r .most)
+  pub total : NatSpans (Within rs n r) (held n) (r .lowest) (r .highest)
 
 module _ {rs : List ℕ} {n : ℕ} {r : Ranges} (s : Supported rs n r) where
   -- their floors keep the rises
@@ -48,11 +48,11 @@ module _ {rs : List ℕ} {n : ℕ} {r : Ranges} (s : Supported rs n r) where
 
   -- ---- with a total
 
-  pub with-total : (v : ℕ) → r .least ≤ v → v ≤ r .most
+  pub with-total : (v : ℕ) → r .lowest ≤ v → v ≤ r .highest
       → Within rs n r (raisedTo (r .floors) (r .ceilings) rs n v) × (held n (raisedTo (r .floors) (r .ceilings) rs n v) ≡ v)
   with-total v low high =
       let z = s .total .taken v low high in
-      let l = raised-levels floors-ready v (r .most) (z .0) (rebound (z .1) (z .1 .floor) (z .1 .ceiling) (omega (arith, z .2)) (z .1 .most)) in
+      let l = raised-levels floors-ready v (r .highest) (z .0) (rebound (z .1) (z .1 .floor) (z .1 .ceiling) (omega (arith, z .2)) (z .1 .most)) in
       let under = sum-le all n (at (r .floors)) (z .0) (z .1 .floor) in
       (rebound l (l .floor) (l .ceiling) (omega (arith, l .least)) (omega (arith, l .most, z .2)), omega (arith, l .least, l .most, z .2))
 
@@ -69,7 +69,7 @@ module _ {rs : List ℕ} {n : ℕ} {r : Ranges} (s : Supported rs n r) where
     first = firstCrossed (carried fs rs) (at cs) n
 
     abbrev y : ℕ → ℕ
-    y = raisedTo (forwarded fs rs n) cs rs n (r .least)
+    y = raisedTo (forwarded fs rs n) cs rs n (r .lowest)
 
     in-floors : d < length (r .floors)
     in-floors = omega (arith, s .bounds .floors, s .bounds .most)
@@ -77,14 +77,14 @@ module _ {rs : List ℕ} {n : ℕ} {r : Ranges} (s : Supported rs n r) where
     in-ceilings : d < length (r .ceilings)
     in-ceilings = omega (arith, s .bounds .ceilings, s .bounds .most)
 
-    fits : Fits rs n (record { floors = fs; ceilings = cs; least = r .least; most = r .most })
+    fits : Fits rs n (record { floors = fs; ceilings = cs; lowest = r .lowest; highest = r .highest })
     fits = refit-day (s .bounds) d v h (omega (arith, s .bounds .ceiling d h))
 
     -- some levels within the ranges have the value
     z : (x : ℕ → ℕ) × Within rs n r x × (x d ≡ v)
     z = s .day d h .taken v low high
 
-    pinned : Levels (box fs cs rs n (r .least) (r .most)) (z .0)
+    pinned : Levels (box fs cs rs n (r .lowest) (r .highest)) (z .0)
     pinned =
         let l = z .1 in
         rebound l (λ k u. by-cell (λ j a. a ≤ z .0 j) 0 (r .floors) d v in-floors (omega (arith, z .2)) k (l .floor k u))
@@ -104,11 +104,11 @@ module _ {rs : List ℕ} {n : ℕ} {r : Ranges} (s : Supported rs n r) where
     at-carried : (k : ℕ) → k < n → at (forwarded fs rs n) k ≡ carried fs rs k
     at-carried = forwarded-at fits uncrossed
 
-    over : Levels (box (forwarded fs rs n) cs rs n (r .least) (r .most)) (z .0)
+    over : Levels (box (forwarded fs rs n) cs rs n (r .lowest) (r .highest)) (z .0)
     over = rebound pinned (λ k l. omega (arith, at-carried k l, carried-least (z .0) pinned k l)) (pinned .ceiling) (pinned .least) (pinned .most)
 
-    raised : Levels (box (forwarded fs rs n) cs rs n (max (r .least) (held n (at (forwarded fs rs n)))) (max (r .least) (held n (at (forwarded fs rs n))))) y
-    raised = raised-levels (ready fits uncrossed) (r .least) (r .most) (z .0) over
+    raised : Levels (box (forwarded fs rs n) cs rs n (max (r .lowest) (held n (at (forwarded fs rs n)))) (max (r .lowest) (held n (at (forwarded fs rs n))))) y
+    raised = raised-levels (ready fits uncrossed) (r .lowest) (r .highest) (z .0) over
 
     floor : (k : ℕ) → k < n → at fs k ≤ y k
     floor k l = omega (arith, at-carried k l, carried-above fs rs k, raised .floor k l)
@@ -124,5 +124,5 @@ module _ {rs : List ℕ} {n : ℕ} {r : Ranges} (s : Supported rs n r) where
     valued : y d ≡ v
     valued = omega (arith, getD-set-same (r .floors) d v 0 in-floors, getD-set-same (r .ceilings) d v 0 in-ceilings, floor d h, raised .ceiling d h)
 
-    pub with-day : Within rs n r (raisedTo (forwarded fs rs first) cs rs n (r .least)) × (raisedTo (forwarded fs rs first) cs rs n (r .least) d ≡ v)
+    pub with-day : Within rs n r (raisedTo (forwarded fs rs first) cs rs n (r .lowest)) × (raisedTo (forwarded fs rs first) cs rs n (r .lowest) d ≡ v)
     with-day = rw first-is (kept, valued)

@@ -44,7 +44,7 @@ unfoldable pub dayLevels : Session → ℕ → ℤ → ℕ → ℕ
 dayLevels s day value =
     let fs : List ℕ = set (s .present .floors) day (code lowestPoint value) in
     let cs : List ℕ = set (s .present .ceilings) day (code lowestPoint value) in
-    raisedTo (forwarded fs (s .rises) (firstCrossed (carried fs (s .rises)) (at cs) (s .days))) cs (s .rises) (s .days) (s .present .least)
+    raisedTo (forwarded fs (s .rises) (firstCrossed (carried fs (s .rises)) (at cs) (s .days))) cs (s .rises) (s .days) (s .present .lowest)
 
 -- ---- the lent list afterwards: as it was beside a refusal, else the schedule
 

@@ -89,7 +89,7 @@ fn write_through(session: Session, day: usize, level: usize, list: &mut [i16])
     set_level(&mut floors, day, level);
     set_level(&mut ceilings, day, level);
     tighten_carry::carry(&mut floors, &ceilings, &rises, n);
-    write(floors, &ceilings, &rises, n, ranges.least, list);
+    write(floors, &ceilings, &rises, n, ranges.lowest, list);
 }
 
 // Writes a schedule with this value on this day. Document 01's checks 2, 7, 9, 10.
@@ -130,7 +130,7 @@ pub fn write_total(session: Session, value: i32, list: &mut [i16]) -> u8
     }
     let ranges = session.present;
     let coded = base_codes::code(value, Session::LOWEST_TOTAL, Session::HIGHEST_TOTAL);
-    let total = check(coded, ranges.least, ranges.most);
+    let total = check(coded, ranges.lowest, ranges.highest);
     let refusal = refusal_of(session.spent, total.within);
     if refusal != 0 {
         return refusal;

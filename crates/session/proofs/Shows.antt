@@ -29,7 +29,7 @@ module _ (s : Session) (a b : ℕ) where
   unfolding shown
   second-short h = let e : (ltb a (s .days) || ltb b (s .days)) ≡ true = or-true (ltb a (s .days)) (ltb b (s .days)) (lt-ltb b (s .days) h) in rw e
 
-  pub both-long : s .days ≤ a → s .days ≤ b → record { refusal = 0; least = totalFloor s; most = totalCeiling s; spent = s .spent } ≡ shown s a b
+  pub both-long : s .days ≤ a → s .days ≤ b → record { refusal = 0; lowest = totalFloor s; highest = totalCeiling s; spent = s .spent } ≡ shown s a b
   unfolding shown
   both-long h l =
       let e : ltb a (s .days) ≡ false = le-ltb a (s .days) h in

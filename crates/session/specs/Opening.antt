@@ -94,15 +94,15 @@ abbrev pub fresh : ℕ → List ℕ → Ranges → Session
 fresh n rs r = record { days = n; rises = rs; opened = r; present = r; spent = false }
 
 abbrev pub rangesOf : Tight → Ranges
-rangesOf t = record { floors = t .floors; ceilings = t .ceilings; least = t .least; most = t .most }
+rangesOf t = record { floors = t .floors; ceilings = t .ceilings; lowest = t .lowest; highest = t .highest }
 
 -- one day, with all values 0
 abbrev pub allZero : Ranges
 allZero = record {
   floors = written (λ k. code lowestPoint (pos 0)) 1 zeros;
   ceilings = written (λ k. code lowestPoint (pos 0)) 1 zeros;
-  least = code lowestTotal (pos 0);
-  most = code lowestTotal (pos 0);
+  lowest = code lowestTotal (pos 0);
+  highest = code lowestTotal (pos 0);
 }
 
 -- what stands beside a refusal: a spent session of one day with all values 0

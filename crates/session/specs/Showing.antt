@@ -20,10 +20,10 @@ abbrev pub ceilingOn : Session → ℕ → ℤ
 ceilingOn s i = decoded lowestPoint (at (s .present .ceilings) i)
 
 abbrev pub totalFloor : Session → ℤ
-totalFloor s = decoded lowestTotal (s .present .least)
+totalFloor s = decoded lowestTotal (s .present .lowest)
 
 abbrev pub totalCeiling : Session → ℤ
-totalCeiling s = decoded lowestTotal (s .present .most)
+totalCeiling s = decoded lowestTotal (s .present .highest)
 
 -- the least rise from day i to the next, in points
 abbrev pub riseOn : Session → ℕ → ℤ
@@ -31,17 +31,17 @@ riseOn s i = decoded lowestRise (at (s .rises) i)
 
 -- 2: a list shorter than n
 abbrev pub listTooShort : Shown
-listTooShort = record { refusal = 2; least = pos 0; most = pos 0; spent = false }
+listTooShort = record { refusal = 2; lowest = pos 0; highest = pos 0; spent = false }
 
 -- what showing gives with lists of these lengths
 unfoldable pub shown : Session → ℕ → ℕ → Shown
 shown s floors ceilings =
     cond (ltb floors (s .days) || ltb ceilings (s .days)) listTooShort
-    (record { refusal = 0; least = totalFloor s; most = totalCeiling s; spent = s .spent })
+    (record { refusal = 0; lowest = totalFloor s; highest = totalCeiling s; spent = s .spent })
 
 -- ranges of n days, with the rises between them, as what tightening takes
 abbrev pub boxOf : List ℕ → ℕ → Ranges → Box
-boxOf rs n r = box (r .floors) (r .ceilings) rs n (r .least) (r .most)
+boxOf rs n r = box (r .floors) (r .ceilings) rs n (r .lowest) (r .highest)
 
 -- ranges of n days are in bounds, with the rises between the days
 abbrev pub Fits : List ℕ → ℕ → Ranges → Type 0

@@ -23,8 +23,8 @@ pub struct Numbers {
 pub struct Ranges {
     pub floors: [u16; MOST_DAYS],
     pub ceilings: [u16; MOST_DAYS],
-    pub least: usize,
-    pub most: usize,
+    pub lowest: usize,
+    pub highest: usize,
 }
 
 // Rises are held plus 2,000. Cells past the last day are 0.
@@ -45,8 +45,8 @@ pub struct Opened {
 // What showing gives beside the lists: the refusal's number, 0 for none, the total's range, and whether the session is spent.
 pub struct Shown {
     pub refusal: u8,
-    pub least: i32,
-    pub most: i32,
+    pub lowest: i32,
+    pub highest: i32,
     pub spent: bool,
 }
 
@@ -73,8 +73,8 @@ fn refused(number: u8) -> Opened
     let zero = Ranges {
         floors,
         ceilings: floors,
-        least: TOTAL_OFFSET,
-        most: TOTAL_OFFSET,
+        lowest: TOTAL_OFFSET,
+        highest: TOTAL_OFFSET,
     };
     Opened {
         refusal: number,
@@ -136,8 +136,8 @@ fn open_codes(
         let ranges = Ranges {
             floors: low,
             ceilings: high,
-            least: t.least,
-            most: t.most,
+            lowest: t.lowest,
+            highest: t.highest,
         };
         return Opened {
             refusal: 0,
@@ -158,8 +158,8 @@ fn too_short() -> Shown
 {
     Shown {
         refusal: 2,
-        least: 0,
-        most: 0,
+        lowest: 0,
+        highest: 0,
         spent: false,
     }
 }
@@ -253,8 +253,8 @@ impl Session {
         base_codes::decode_all(&high, n, Self::LOWEST_POINT, ceilings);
         Shown {
             refusal: 0,
-            least: base_codes::decode(ranges.least, Self::LOWEST_TOTAL),
-            most: base_codes::decode(ranges.most, Self::LOWEST_TOTAL),
+            lowest: base_codes::decode(ranges.lowest, Self::LOWEST_TOTAL),
+            highest: base_codes::decode(ranges.highest, Self::LOWEST_TOTAL),
             spent: self.spent,
         }
     }

@@ -49,11 +49,11 @@ earlyCutting s c room =
 -- ranges, clipped by a well-formed cut
 unfoldable pub clipped : Ranges → Cut → Ranges
 clipped r (DayFloor day value) =
-    record { floors = set (r .floors) day (max (at (r .floors) day) (code lowestPoint value)); ceilings = r .ceilings; least = r .least; most = r .most }
+    record { floors = set (r .floors) day (max (at (r .floors) day) (code lowestPoint value)); ceilings = r .ceilings; lowest = r .lowest; highest = r .highest }
 clipped r (DayCeiling day value) =
-    record { floors = r .floors; ceilings = set (r .ceilings) day (min (at (r .ceilings) day) (code lowestPoint value)); least = r .least; most = r .most }
-clipped r (TotalFloor day value) = record { floors = r .floors; ceilings = r .ceilings; least = max (r .least) (code lowestTotal value); most = r .most }
-clipped r (TotalCeiling day value) = record { floors = r .floors; ceilings = r .ceilings; least = r .least; most = min (r .most) (code lowestTotal value) }
+    record { floors = r .floors; ceilings = set (r .ceilings) day (min (at (r .ceilings) day) (code lowestPoint value)); lowest = r .lowest; highest = r .highest }
+clipped r (TotalFloor day value) = record { floors = r .floors; ceilings = r .ceilings; lowest = max (r .lowest) (code lowestTotal value); highest = r .highest }
+clipped r (TotalCeiling day value) = record { floors = r .floors; ceilings = r .ceilings; lowest = r .lowest; highest = min (r .highest) (code lowestTotal value) }
 
 -- everything tightened again
 abbrev pub retightened : Session → Ranges → Tight

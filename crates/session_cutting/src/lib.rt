@@ -38,8 +38,8 @@ struct Checked {
 
 // The total's range.
 struct Total {
-    least: usize,
-    most: usize,
+    lowest: usize,
+    highest: usize,
 }
 
 // `otherwise` for a day that the cut can't have, then `outside` for a value outside its bounds.
@@ -109,30 +109,30 @@ fn clip(
     highest: usize,
 ) -> Total
     requires { ⌜ Clips cut value ⌝ }
-    ensures { λ r. ⌜ record { floors = now (floors .exit); ceilings = now (ceilings .exit); least = r .least; most = r .most } ≡ clipped (record { floors = now (floors .entry); ceilings = now (ceilings .entry); least = lowest; most = highest }) cut ⌝ }
+    ensures { λ r. ⌜ record { floors = now (floors .exit); ceilings = now (ceilings .exit); lowest = r .lowest; highest = r .highest } ≡ clipped (record { floors = now (floors .entry); ceilings = now (ceilings .entry); lowest = lowest; highest = highest }) cut ⌝ }
 {
     match cut {
         Cut::DayFloor(day, _) => {
             floors[day] = max(wide(floors[day]), value) as u16;
             Total {
-                least: lowest,
-                most: highest,
+                lowest,
+                highest,
             }
         }
         Cut::DayCeiling(day, _) => {
             ceilings[day] = min(wide(ceilings[day]), value) as u16;
             Total {
-                least: lowest,
-                most: highest,
+                lowest,
+                highest,
             }
         }
         Cut::TotalFloor(_, _) => Total {
-            least: max(lowest, value),
-            most: highest,
+            lowest: max(lowest, value),
+            highest,
         },
         Cut::TotalCeiling(_, _) => Total {
-            least: lowest,
-            most: min(highest, value),
+            lowest,
+            highest: min(highest, value),
         },
     }
 }
@@ -188,11 +188,11 @@ fn tighten_again(session: Session, cut: Cut, value: usize, changed: &mut [u16]) 
     let ceilings = before.ceilings;
     let mut low = floors;
     let mut high = ceilings;
-    let total = clip(cut, value, &mut low, &mut high, before.least, before.most);
+    let total = clip(cut, value, &mut low, &mut high, before.lowest, before.highest);
     let numbers = CodedNumbers {
         days: n,
-        lowest: total.least,
-        highest: total.most,
+        lowest: total.lowest,
+        highest: total.highest,
     };
     let t = tighten_filtering::tighten(&mut low, &mut high, &rises, numbers);
     if !t.found {
@@ -202,8 +202,8 @@ fn tighten_again(session: Session, cut: Cut, value: usize, changed: &mut [u16]) 
     let ranges = Ranges {
         floors: low,
         ceilings: high,
-        least: t.least,
-        most: t.most,
+        lowest: t.lowest,
+        highest: t.highest,
     };
     accept(session, ranges, count)
 }

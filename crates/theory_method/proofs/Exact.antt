@@ -27,7 +27,7 @@ use Rattle.theory_method.proofs.Passes.{scale, within-scale, ceilings-a
 -- the ranges of t are the values that levels within the bounds take, and no others; past the last day nothing has changed
 pub record Exact (b : Box) (t : Tight) : Type 0 where
   pub day : (k : ℕ) → k < b .days → NatSpans (Levels b) (λ x. x k) (at (t .floors) k) (at (t .ceilings) k)
-  pub total : NatSpans (Levels b) (held (b .days)) (t .least) (t .most)
+  pub total : NatSpans (Levels b) (held (b .days)) (t .lowest) (t .highest)
   pub floors : length (t .floors) ≡ mostDays
   pub ceilings : length (t .ceilings) ≡ mostDays
   pub floors-past : (k : ℕ) → b .days ≤ k → at (t .floors) k ≡ at (b .floors) k
@@ -41,22 +41,22 @@ module _ {fs cs rs : List ℕ} {n L U : ℕ} {t : Tight} (e : Exact (box fs cs r
   pub ceiling-kept : (k : ℕ) → k < n → at (t .ceilings) k ≤ at cs k
   ceiling-kept k h = let z = e .day k h .taken (at (t .ceilings) k) (e .day k h .some) (le-refl (at (t .ceilings) k)) in omega (arith, z .1 .ceiling k h, z .2)
 
-  pub least-kept : L ≤ t .least
-  least-kept = let z = e .total .taken (t .least) (le-refl (t .least)) (e .total .some) in omega (arith, z .1 .least, z .2)
+  pub least-kept : L ≤ t .lowest
+  least-kept = let z = e .total .taken (t .lowest) (le-refl (t .lowest)) (e .total .some) in omega (arith, z .1 .least, z .2)
 
-  pub most-kept : t .most ≤ U
-  most-kept = let z = e .total .taken (t .most) (e .total .some) (le-refl (t .most)) in omega (arith, z .1 .most, z .2)
+  pub most-kept : t .highest ≤ U
+  most-kept = let z = e .total .taken (t .highest) (e .total .some) (le-refl (t .highest)) in omega (arith, z .1 .most, z .2)
 
   -- the levels within them are the same
-  pub tighter : (x : ℕ → ℕ) → Levels (box fs cs rs n L U) x → Levels (box (t .floors) (t .ceilings) rs n (t .least) (t .most)) x
+  pub tighter : (x : ℕ → ℕ) → Levels (box fs cs rs n L U) x → Levels (box (t .floors) (t .ceilings) rs n (t .lowest) (t .highest)) x
   tighter x l = rebound l (λ k h. e .day k h .inside x l .0) (λ k h. e .day k h .inside x l .1) (e .total .inside x l .0) (e .total .inside x l .1)
 
-  pub looser : (x : ℕ → ℕ) → Levels (box (t .floors) (t .ceilings) rs n (t .least) (t .most)) x → Levels (box fs cs rs n L U) x
+  pub looser : (x : ℕ → ℕ) → Levels (box (t .floors) (t .ceilings) rs n (t .lowest) (t .highest)) x → Levels (box fs cs rs n L U) x
   looser x l =
       rebound l (λ k h. omega (arith, floor-kept k h, l .floor k h)) (λ k h. omega (arith, ceiling-kept k h, l .ceiling k h)) (omega (arith, least-kept, l .least))
       (omega (arith, most-kept, l .most))
 
-  pub exact-in-bounds : InBounds (box fs cs rs n L U) → InBounds (box (t .floors) (t .ceilings) rs n (t .least) (t .most))
+  pub exact-in-bounds : InBounds (box fs cs rs n L U) → InBounds (box (t .floors) (t .ceilings) rs n (t .lowest) (t .highest))
   exact-in-bounds b =
       refit b (e .floors) (e .ceilings) (λ k h. omega (arith, e .day k h .some, ceiling-kept k h, b .ceiling k h)) (λ k h. omega (arith, ceiling-kept k h, b .ceiling k h))
       (omega (arith, e .total .some, most-kept, b .highest)) (omega (arith, most-kept, b .highest))
@@ -186,7 +186,7 @@ module _ {fs cs rs : List ℕ} {n : ℕ} (r : Ready fs cs rs n) (L U : ℕ) (wit
     ranges : Ranges all n free a₀ b₀ L′ U′ (low all n free a₀ b₀ L′ U′ top) hi (max L′ (sum all n a)) (min U′ (sum all n b))
     ranges = sufficient all n free a₀ b₀ L′ U′ top cap (λ k. omega arith) fits room (omega arith) reachable
 
-    ready-exact : Exact (box fs cs rs n L U) (record { found = true; floors = fs′; ceilings = cs′; least = lowest; most = highest })
+    ready-exact : Exact (box fs cs rs n L U) (record { found = true; floors = fs′; ceilings = cs′; lowest = lowest; highest = highest })
     ready-exact =
         record {
           day = λ k h. spans-same with-lowest without-lowest (day-spans r lowest U k h (at fs′ k) (at cs′ k) (ranges .day k h) (sym (lo-is k h)) (sym (hi-is k h)));

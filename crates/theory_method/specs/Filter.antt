@@ -100,11 +100,11 @@ pub record Tight : Type 0 where
   pub found : Bool
   pub floors : List ℕ
   pub ceilings : List ℕ
-  pub least : ℕ
-  pub most : ℕ
+  pub lowest : ℕ
+  pub highest : ℕ
 
 abbrev pub none : Box → Tight
-none b = record { found = false; floors = b .floors; ceilings = b .ceilings; least = 0; most = 0 }
+none b = record { found = false; floors = b .floors; ceilings = b .ceilings; lowest = 0; highest = 0 }
 
 abbrev pub withFloors : Box → List ℕ → Box
 withFloors b fs = box fs (b .ceilings) (b .rises) (b .days) (b .lowest) (b .highest)
@@ -127,7 +127,7 @@ tightFloors b =
     let lowest : ℕ = max (b .lowest) bottom in
     let highest : ℕ = min (b .highest) top in
     cond (ltb highest lowest) (none b)
-    (record { found = true; floors = raised (b .floors) (b .ceilings) (b .rises) (b .days) (top - lowest); ceilings = b .ceilings; least = lowest; most = highest })
+    (record { found = true; floors = raised (b .floors) (b .ceilings) (b .rises) (b .days) (top - lowest); ceilings = b .ceilings; lowest = lowest; highest = highest })
 
 -- with the floors carried: the ceilings, and onward
 unfoldable pub tightCeilings : Box → Tight

@@ -117,10 +117,10 @@ module _ {b : Box} {fs : List ℕ} {bottom : ℕ} {cs : List ℕ} {top low high 
       sym z ∙ after-lowering (d .before)
 
   pub tight-found : low ≤ high
-      → record { found = true; floors = raised fs cs (b .rises) (b .days) (top - low); ceilings = cs; least = low; most = high } ≡ tightened b
+      → record { found = true; floors = raised fs cs (b .rises) (b .days) (top - low); ceilings = cs; lowest = low; highest = high } ≡ tightened b
   unfolding tightFloors
   tight-found l =
       let t : apart ≡ false = le-ltb _ _ (rw (d .high, d .low, d .top, d .before .bottom) at l) in
-      let z : tightFloors (within b fs cs) ≡ record { found = true; floors = raised fs cs (b .rises) (b .days) (top - low); ceilings = cs; least = low; most = high }
+      let z : tightFloors (within b fs cs) ≡ record { found = true; floors = raised fs cs (b .rises) (b .days) (top - low); ceilings = cs; lowest = low; highest = high }
       = rw (t, d .high, d .low, d .top, d .before .bottom) in
       sym z ∙ after-lowering (d .before)

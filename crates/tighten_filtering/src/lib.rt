@@ -17,8 +17,8 @@ use tighten_ceilings::lower_ceilings;
 // Whether there is a schedule, and the total's range.
 pub struct Totals {
     pub found: bool,
-    pub least: usize,
-    pub most: usize,
+    pub lowest: usize,
+    pub highest: usize,
 }
 
 // Raises the floors as the mirror of lowering the ceilings.
@@ -44,12 +44,12 @@ fn raise_floors(
 
 // There is no schedule.
 fn none() -> Totals
-    ensures { λ r. ⌜ r ≡ record { found = false; least = 0; most = 0 } ⌝ }
+    ensures { λ r. ⌜ r ≡ record { found = false; lowest = 0; highest = 0 } ⌝ }
 {
     Totals {
         found: false,
-        least: 0,
-        most: 0,
+        lowest: 0,
+        highest: 0,
     }
 }
 
@@ -61,7 +61,7 @@ pub fn tighten(
     numbers: CodedNumbers,
 ) -> Totals
     requires { ⌜ InBounds (boxed (now floors) (now ceilings) (now rises) numbers) ⌝ }
-    ensures { λ r. ⌜ record { found = r .found; floors = now (floors .exit); ceilings = now (ceilings .exit); least = r .least; most = r .most } ≡ tightened (boxed (now (floors .entry)) (now (ceilings .entry)) (now (rises .entry)) numbers) ⌝ }
+    ensures { λ r. ⌜ record { found = r .found; floors = now (floors .exit); ceilings = now (ceilings .exit); lowest = r .lowest; highest = r .highest } ≡ tightened (boxed (now (floors .entry)) (now (ceilings .entry)) (now (rises .entry)) numbers) ⌝ }
 {
     let n = numbers.days;
     let highest = numbers.highest;
@@ -82,7 +82,7 @@ pub fn tighten(
     raise_floors(floors, ceilings, rises, n, top - low);
     Totals {
         found: true,
-        least: low,
-        most: high,
+        lowest: low,
+        highest: high,
     }
 }

@@ -25,20 +25,11 @@ at-known c = c .before .before
 abbrev at-right : tie.After-low → tie.Else1
 at-right c = c .before
 
-abbrev at-low : tie.After-points → tie.After-low
-at-low c = c .before
-
 abbrev at-floors : tie.After-high → tie.After-points
 at-floors c = c .before
 
-abbrev at-high : tie.After-points2 → tie.After-high
-at-high c = c .before
-
 abbrev at-ceilings : tie.After-steps → tie.After-points2
 at-ceilings c = c .before
-
-abbrev at-steps : tie.After-points3 → tie.After-steps
-at-steps c = c .before
 
 -- ---- a part of each is lent, and the profile judged; the cuts are judged
 
@@ -89,13 +80,13 @@ abbrev from-right : tie.Else1 → tie.Start
 from-right c = at-start (at-known (c .before))
 
 abbrev from-floors : tie.After-points → tie.Else1
-from-floors c = at-right (at-low c)
+from-floors c = at-right (c .before)
 
 abbrev from-ceilings : tie.After-points2 → tie.After-points
-from-ceilings c = at-floors (at-high c)
+from-ceilings c = at-floors (c .before)
 
 abbrev from-rises : tie.After-points3 → tie.After-points2
-from-rises c = at-ceilings (at-steps c)
+from-rises c = at-ceilings (c .before)
 
 abbrev from-profile : tie.After-profile-refusal → tie.After-points3
 from-profile c = at-rises (at-low-lent (at-high-lent (at-steps-lent c)))

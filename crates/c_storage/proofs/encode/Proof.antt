@@ -77,8 +77,8 @@ returns c =
     let block : (List ℕ → List ℕ) = λ xs. blockBytes xs (s .days) in
     let days = laid l 0 (u16Bytes (s .days)) (count d) (u16-length _) in
     let spent = laid-more days (u16Bytes (cond (s .spent) 1 0)) (mark m) (u16-length _) in
-    let opened = laid-more spent (totalBytes (s .opened .least) (s .opened .most)) (u .put-totals .ensures) (totals-length _ _) in
-    let present = laid-more opened (totalBytes (s .present .least) (s .present .most)) (t .put-totals2 .ensures) (totals-length _ _) in
+    let opened = laid-more spent (totalBytes (s .opened .lowest) (s .opened .highest)) (u .put-totals .ensures) (totals-length _ _) in
+    let present = laid-more opened (totalBytes (s .present .lowest) (s .present .highest)) (t .put-totals2 .ensures) (totals-length _ _) in
     let rises = laid-more present (block (s .rises)) (r .put-block .ensures) (block-length _ _ few) in
     let ranges = laid-more rises (block (s .opened .floors) ++ block (s .opened .ceilings)) (o .put-ranges .ensures) {v = 2048} (simp (length-append, block-length)) in
     laid-last ranges (block (s .present .floors) ++ block (s .present .ceilings)) (p .put-ranges2 .ensures)

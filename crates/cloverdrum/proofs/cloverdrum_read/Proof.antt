@@ -22,9 +22,9 @@ abbrev at-lists : tie.After-struct-told2 → tie.After-slice-known4
 at-lists c = c .before .before
 
 -- what is lent back
-lent : {q z : Shown} {l h : ℤ} {m : ℕ} → l ≡ q .least → h ≡ q .most → m ≡ cond (q .spent) 1 0 → q ≡ z
-    → record { refusal = q .refusal; least = l; most = h; spent = m } ≡ marked z
-lent {q} el eh em p = (λ i. record { refusal = q .refusal; least = el i; most = eh i; spent = em i }) ∙ ap marked p
+lent : {q z : Shown} {l h : ℤ} {m : ℕ} → l ≡ q .lowest → h ≡ q .highest → m ≡ cond (q .spent) 1 0 → q ≡ z
+    → record { refusal = q .refusal; lowest = l; highest = h; spent = m } ≡ marked z
+lent {q} el eh em p = (λ i. record { refusal = q .refusal; lowest = el i; highest = eh i; spent = em i }) ∙ ap marked p
 
 returns : tie.Need-returns
 returns c =

@@ -48,10 +48,10 @@ shows c =
     showed (record { bounds = at-start c .pre; floors-long = long; ceilings-long = long; answer = e .0; floors = e .1 .0; ceilings = e .1 .1 })
 
 -- the total's range as it is passed on
-least : (c : tie.After-struct-told2) → toZ w32 (ofZ w32 (at-shown c .show .result .least)) ≡ totalFloor (from-total c .args .session)
+least : (c : tie.After-struct-told2) → toZ w32 (ofZ w32 (at-shown c .show .result .lowest)) ≡ totalFloor (from-total c .args .session)
 least c = toZ-ofZ (sfits-of {w = w32} (c .struct-told2 .given .1 .0 .1)) ∙ shows (at-shown c) .least
 
-most : (c : tie.After-struct-told2) → toZ w32 (ofZ w32 (at-shown c .show .result .most)) ≡ totalCeiling (from-total c .args .session)
+most : (c : tie.After-struct-told2) → toZ w32 (ofZ w32 (at-shown c .show .result .highest)) ≡ totalCeiling (from-total c .args .session)
 most c = toZ-ofZ (sfits-of {w = w32} (c .struct-told2 .given .1 .1 .0 .1)) ∙ shows (at-shown c) .most
 
 -- ---- what is left to store after the total's line

@@ -37,7 +37,7 @@ stored c = c .code-all .ensures .1 .0 ∙ ap (λ m. written (λ k. code lowestSe
 numbered : (c : tie.After-code-all)
     → let a = at-start (at-copied c) .args in
     let s = a .session in
-    judgedCodes (c .code-all .last .1 .1 .1 .0) (s .present .floors) (s .present .ceilings) (s .rises) (s .days) (s .present .least) (s .present .most)
+    judgedCodes (c .code-all .last .1 .1 .1 .0) (s .present .floors) (s .present .ceilings) (s .rises) (s .days) (s .present .lowest) (s .present .highest)
     ≡ judged s (a .list .now)
 numbered c = let p = at-start (at-copied c) .pre in judged-codes _ _ (p .0 .present .most) (p .1) (sym (c .code-all .ensures .0) ∙ whole c) (stored c)
 

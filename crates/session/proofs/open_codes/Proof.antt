@@ -22,7 +22,7 @@ at-start c = c .before .before .before .before
 abbrev gave : tie.After-tighten → Tight
 gave c =
     let t = c .tighten in
-    record { found = t .result .found; floors = t .last .0; ceilings = t .last .1 .0; least = t .result .least; most = t .result .most }
+    record { found = t .result .found; floors = t .last .0; ceilings = t .last .1 .0; lowest = t .result .lowest; highest = t .result .highest }
 
 ranged : (c : tie.After-tighten)
     → let a = at-start (at-days (at-order c)) .args in

@@ -41,10 +41,10 @@ the-cut c = at-start (at-copied c) .args .cut
 
 -- the ranges once they are clipped, and once they are tightened
 abbrev clips : tie.After-clip → Ranges
-clips c = let k = c .clip in record { floors = k .last .1 .1 .0; ceilings = k .last .1 .1 .1 .0; least = k .result .least; most = k .result .most }
+clips c = let k = c .clip in record { floors = k .last .1 .1 .0; ceilings = k .last .1 .1 .1 .0; lowest = k .result .lowest; highest = k .result .highest }
 
 abbrev tight : tie.After-tighten → Tight
-tight c = let t = c .tighten in record { found = t .result .found; floors = t .last .0; ceilings = t .last .1 .0; least = t .result .least; most = t .result .most }
+tight c = let t = c .tighten in record { found = t .result .found; floors = t .last .0; ceilings = t .last .1 .0; lowest = t .result .lowest; highest = t .result .highest }
 
 is-clipped : (c : tie.After-clip) → clips c ≡ clipped (the-session c .present) (the-cut c)
 is-clipped c = c .clip .ensures
