@@ -26,7 +26,6 @@ use file_writing::profile_refusal;
 use limits::MOST_CUTS;
 use limits::MOST_DAYS;
 use session::Numbers;
-use session::no_numbers;
 use session_cuts::Numbered;
 use session_cutting::malformed;
 
@@ -55,7 +54,7 @@ fn put_rest(from: &[u8], start: usize, out: &mut [u8], place: usize)
 fn refused(number: u8) -> Contents
     ensures { λ r. ⌜ r ≡ refusedContents number ⌝ }
 {
-    let numbers = no_numbers();
+    let numbers = Numbers::NONE;
     Contents {
         refusal: number,
         numbers,

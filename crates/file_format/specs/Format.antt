@@ -9,7 +9,7 @@ use Rattle.theory_lists.specs.Rows.{rows}
 use Rattle.base_codes.specs.Code.{on}
 use Rattle.base_little_endian.specs.Fields.{u16At, i16At, i32At, u16Bytes, i16Bytes, i32Bytes}
 use Rattle.session.specs.Profile.{Profile}
-use Rattle.session.specs.Opening.{profile, numbersOf}
+use Rattle.session.specs.Opening.{numbersWith, profile, numbersOf}
 use Rattle.session.specs.declared.Numbers.{Numbers}
 use Rattle.session_cuts.specs.declared.Cut.{Cut}
 use Rattle.session_cuts.specs.declared.Cut.the-variants.{DayFloor}
@@ -88,7 +88,7 @@ known Unknown = DayFloor 0 (pos 0)
 
 -- a profile's numbers, beside its lists
 abbrev pub numbersIn : List ℕ → Numbers
-numbersIn b = record { days = dayCount b; lowest = totalFloorAt b; highest = totalCeilingAt b }
+numbersIn b = numbersWith (dayCount b) (totalFloorAt b) (totalCeilingAt b)
 
 -- the profile and the cuts of a file that the reader takes; the last rise is not handed on
 unfoldable pub profileIn : List ℕ → Profile

@@ -8,10 +8,10 @@ use lib.ListN.{length}
 use borrow.Author.Tests.{ne-eqb, lt-ltb}
 use Rattle.theory_lists.specs.Written.{written}
 use Rattle.theory_lists.specs.Lent.{lentList, list-left, list-filled}
-use Rattle.session_cuts.specs.declared.Sheet.{Sheet}
-use Rattle.file_format.specs.Format.{dayOffset, dayCount, cutCount, totalFloorAt, totalCeilingAt, floorAt, ceilingAt, riseAt}
-use Rattle.file_format.specs.Reading.{earlyReading, readingRefusal}
 use Rattle.session.specs.declared.Numbers.{Numbers}
+use Rattle.session_cuts.specs.declared.Sheet.{Sheet}
+use Rattle.file_format.specs.Format.{dayOffset, dayCount, cutCount, numbersIn, floorAt, ceilingAt, riseAt}
+use Rattle.file_format.specs.Reading.{earlyReading, readingRefusal}
 use Rattle.file_reading.specs.declared.ReadAnswer.{ReadAnswer}
 use Rattle.file_reading.specs.Reading.{sheetFrom, refusedRead, contents, readFrom}
 use Rattle.file_reading.proofs.Laws.{Room, read-all}
@@ -19,20 +19,15 @@ use Rattle.file_reading.proofs.Laws.{Room, read-all}
 -- ---- read_contents
 
 -- what its calls gave of the file
-pub record Gave (b : List ℕ) (m : Numbers) (cuts : ℕ) (s : Sheet) : Type 0 where
-  pub days : m .days ≡ dayCount b
-  pub lowest : m .lowest ≡ totalFloorAt b
-  pub highest : m .highest ≡ totalCeilingAt b
-  pub counted : cuts ≡ cutCount b
-  pub sheet : s ≡ sheetFrom b (dayOffset (m .days)) cuts
+pub record Gave (b : List ℕ) (numbers : Numbers) (m : ℕ) (s : Sheet) : Type 0 where
+  pub found : numbers ≡ numbersIn b
+  pub cuts : m ≡ cutCount b
+  pub sheet : s ≡ sheetFrom b (dayOffset (numbers .days)) m
 
-pub contents-as : {b : List ℕ} {m : Numbers} {cuts : ℕ} {s : Sheet} → Gave b m cuts s → record { refusal = 0; numbers = m; sheet = s } ≡ contents b
+pub contents-as : {b : List ℕ} {numbers : Numbers} {m : ℕ} {s : Sheet} → Gave b numbers m s → record { refusal = 0; numbers = numbers; sheet = s } ≡ contents b
 unfolding contents
-contents-as {b} g i = record {
-  refusal = 0;
-  numbers = record { days = g .days i; lowest = g .lowest i; highest = g .highest i };
-  sheet = (g .sheet ∙ (λ j. sheetFrom b (dayOffset (g .days j)) (g .counted j))) i;
-}
+contents-as {b} g i =
+    record { refusal = 0; numbers = g .found i; sheet = (g .sheet ∙ (λ j. sheetFrom b (dayOffset (g .found j .days)) (g .cuts j))) i }
 
 -- ---- read
 

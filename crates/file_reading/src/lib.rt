@@ -17,7 +17,6 @@ use file_format::DAY_BYTES;
 use file_format::HEADER_BYTES;
 use limits::MOST_CUTS;
 use session::Numbers;
-use session::no_numbers;
 use session_cuts::Cut;
 use session_cuts::Entry;
 use session_cuts::Numbered;
@@ -65,7 +64,7 @@ fn refused(number: u8) -> ReadAnswer
         cut: Cut::DayFloor(0, 0),
     };
     let entries = [blank; MOST_CUTS];
-    let numbers = no_numbers();
+    let numbers = Numbers::NONE;
     ReadAnswer {
         refusal: number,
         numbers,

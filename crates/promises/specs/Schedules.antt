@@ -11,7 +11,7 @@ use Rattle.theory_lists.specs.ListOf.{listOf}
 use Rattle.base_codes.specs.Code.{on}
 use Rattle.session.specs.Profile.{Profile, Schedule, total}
 use Rattle.session.specs.Showing.{floorOn, ceilingOn, riseOn, totalFloor, totalCeiling}
-use Rattle.session.specs.Opening.{opened, profile}
+use Rattle.session.specs.Opening.{numbersWith, opened, profile}
 use Rattle.session.specs.declared.Numbers.{Numbers}
 use Rattle.session.specs.declared.Session.{Session}
 use Rattle.schedule_writing.specs.Writing.{dayWriteRefusal, totalWriteRefusal, dayWritten, totalWritten}
@@ -21,7 +21,7 @@ use Rattle.promises.specs.Cuts.{CutCall, Kept, after}
 -- the profile that a session's present ranges and rises make: a schedule of the present ranges is one of this profile
 abbrev pub presentProfile : Session → Profile
 presentProfile s =
-    let numbers : Numbers = record { days = s .days; lowest = totalFloor s; highest = totalCeiling s } in
+    let numbers : Numbers = numbersWith (s .days) (totalFloor s) (totalCeiling s) in
     profile numbers (listOf (floorOn s) (s .days)) (listOf (ceilingOn s) (s .days)) (listOf (riseOn s) (s .days - 1))
 
 -- for an unspent session after any list of cuts these are the schedules of its profile that keep every valid cut

@@ -17,7 +17,7 @@ use Rattle.theory_method.specs.Filter.{tightened, tightCeilings, tightFloors, r
 use Rattle.tighten_ceilings.specs.Round.{over, rounded, below}
 use Rattle.session.specs.Profile.{Profile}
 use Rattle.session.specs.Showing.{floorOn, ceilingOn, totalFloor, totalCeiling}
-use Rattle.session.specs.Opening.{profile, opened, earlyOpening, codes}
+use Rattle.session.specs.Opening.{numbersWith, profile, opened, earlyOpening, codes}
 use Rattle.session.specs.declared.Numbers.{Numbers}
 use Rattle.session.specs.declared.Session.{Session}
 use Rattle.session.specs.declared.Opened.{Opened}
@@ -68,7 +68,7 @@ answers s (c ∷ cs) = let r : AfterCut = afterCut s c (s .days) in cutting r �
 -- a profile by its days' ranges, its rises and its total's range
 abbrev pub starredProfile : List Range → List ℤ → Range → Profile
 starredProfile ds rs t =
-    let numbers : Numbers = record { days = length ds; lowest = t .from; highest = t .to } in
+    let numbers : Numbers = numbersWith (length ds) (t .from) (t .to) in
     profile numbers (map (λ (r : Range). r .from) ds) (map (λ (r : Range). r .to) ds) rs
 
 -- the rounds that a day's ceiling v takes after r (document 01): one more while the overload is over the margin, at most as many as there is fuel

@@ -20,12 +20,15 @@ use Rattle.session.specs.declared.Opened.{Opened}
 abbrev pub profile : Numbers → List ℤ → List ℤ → List ℤ → Profile
 profile m fs cs rs = record { days = m .days; floors = fs; ceilings = cs; rises = rs; lowest = m .lowest; highest = m .highest }
 
+abbrev pub numbersWith : ℕ → ℤ → ℤ → Numbers
+numbersWith n lo hi = record { days = n; lowest = lo; highest = hi }
+
 abbrev pub numbersOf : Profile → Numbers
-numbersOf p = record { days = p .days; lowest = p .lowest; highest = p .highest }
+numbersOf p = numbersWith (p .days) (p .lowest) (p .highest)
 
 -- what readers give beside a refusal: the day count and the total's bounds are 0
 abbrev pub noNumbers : Numbers
-noNumbers = record { days = 0; lowest = pos 0; highest = pos 0 }
+noNumbers = numbersWith 0 (pos 0) (pos 0)
 
 -- ---- the refusals
 

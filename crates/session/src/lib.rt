@@ -4,7 +4,7 @@ ghost use lib.ListN.{length};
 ghost use Rattle.theory_lists.specs.Lent.{lentList};
 ghost use Rattle.theory_method.specs.Filter.{InBounds};
 ghost use Rattle.tighten_filtering.specs.Boxed.{boxed};
-ghost use Rattle.session.specs.Opening.{opened, refusedWith, profile, noNumbers};
+ghost use Rattle.session.specs.Opening.{opened, refusedWith, profile};
 ghost use Rattle.session.specs.Stages.{openedCodes, lengthRefusal};
 ghost use Rattle.session.specs.Showing.{SessionInBounds, shown, listTooShort, floorOn, ceilingOn};
 use base_codes::Coded;
@@ -17,6 +17,15 @@ pub struct Numbers {
     pub days: usize,
     pub lowest: i32,
     pub highest: i32,
+}
+
+impl Numbers {
+    // What readers give beside a refusal.
+    pub const NONE: Numbers = Numbers {
+        days: 0,
+        lowest: 0,
+        highest: 0,
+    };
 }
 
 // The range of each day as levels, a point plus 1,000, and of the total, held plus 512,000.
@@ -48,17 +57,6 @@ pub struct Shown {
     pub lowest: i32,
     pub highest: i32,
     pub spent: bool,
-}
-
-// What stands in place of a profile's numbers beside a refusal.
-pub fn no_numbers() -> Numbers
-    ensures { λ r. ⌜ r ≡ noNumbers ⌝ }
-{
-    Numbers {
-        days: 0,
-        lowest: 0,
-        highest: 0,
-    }
 }
 
 // The level of 0 points.

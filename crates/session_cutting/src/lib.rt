@@ -114,17 +114,11 @@ fn clip(
     match cut {
         Cut::DayFloor(day, _) => {
             floors[day] = max(wide(floors[day]), value) as u16;
-            Total {
-                lowest,
-                highest,
-            }
+            Total { lowest, highest }
         }
         Cut::DayCeiling(day, _) => {
             ceilings[day] = min(wide(ceilings[day]), value) as u16;
-            Total {
-                lowest,
-                highest,
-            }
+            Total { lowest, highest }
         }
         Cut::TotalFloor(_, _) => Total {
             lowest: max(lowest, value),
@@ -188,7 +182,14 @@ fn tighten_again(session: Session, cut: Cut, value: usize, changed: &mut [u16]) 
     let ceilings = before.ceilings;
     let mut low = floors;
     let mut high = ceilings;
-    let total = clip(cut, value, &mut low, &mut high, before.lowest, before.highest);
+    let total = clip(
+        cut,
+        value,
+        &mut low,
+        &mut high,
+        before.lowest,
+        before.highest,
+    );
     let numbers = CodedNumbers {
         days: n,
         lowest: total.lowest,

@@ -1,10 +1,9 @@
 -- `read_contents` meets its contract: each call gave a field of the contents (`contents-as`); the total's bounds are read back from machine words.
-use mathlib.Core.Path.{_∙_}
+use mathlib.Core.Path.{refl, _∙_}
 use mir.Syntax.{w32}
-use mir.Val.{toZ, ofZ}
 use mir.Facts.{toZ-ofZ}
 use borrow.Author.Needs.{sfits-of, needs}
-use Rattle.file_reading.proofs.Stages.{Gave, contents-as}
+use Rattle.file_reading.proofs.Stages.{contents-as}
 use Rattle.file_reading.proofs.read_contents.Statement.{statement}
 use Rattle.file_reading.proofs.read_contents.Tie as tie
 
@@ -21,27 +20,15 @@ at-highest c = c .before .before
 abbrev at-counted : tie.After-read-sheet → tie.After-wide
 at-counted c = c .before
 
-gave : (c : tie.After-read-sheet)
-    → let n = at-counted c in
-    let h = at-highest n in
-    let l = at-lowest h in
-    let a = at-start l .args in
-    Gave (a .bytes .now) (record { days = a .days; lowest = toZ w32 (ofZ w32 (l .i32-at .result)); highest = toZ w32 (ofZ w32 (h .i32-at2 .result)) }) (n .wide .result)
-    (c .read-sheet .result)
-gave c =
+returns : tie.Need-returns
+returns c =
     let n = at-counted c in
     let h = at-highest n in
     let l = at-lowest h in
-    record {
-      days = at-start l .pre .0;
-      counted = n .wide .ensures .0 ∙ n .before .u16-at .ensures;
-      lowest = toZ-ofZ (sfits-of (l .i32-at .ok)) ∙ l .i32-at .ensures;
-      highest = toZ-ofZ (sfits-of (h .i32-at2 .ok)) ∙ h .i32-at2 .ensures;
-      sheet = c .read-sheet .ensures;
-    }
-
-returns : tie.Need-returns
-returns c = contents-as (gave c)
+    let lowest = toZ-ofZ {w = w32} (sfits-of (l .i32-at .ok)) ∙ l .i32-at .ensures in
+    let highest = toZ-ofZ {w = w32} (sfits-of (h .i32-at2 .ok)) ∙ h .i32-at2 .ensures in
+    contents-as
+    (record { found = rw (at-start l .pre .0, lowest, highest) refl; cuts = n .wide .ensures .0 ∙ n .before .u16-at .ensures; sheet = c .read-sheet .ensures })
 
 pub read-contents-spec : {M : Type 1} → statement M
 read-contents-spec =
