@@ -104,7 +104,7 @@ unfolding shown
 shown-whole s a c = go (ltb a (s .days)) (ltb c (s .days)) refl refl
   where
     go : (x y : Bool) → ltb a (s .days) ≡ x → ltb c (s .days) ≡ y
-        → cond (x || y) listTooShort (record { refusal = 0; lowest = totalFloor s; most = totalCeiling s; spent = s .spent }) .refusal ≡ 0 → (s .days ≤ a) × (s .days ≤ c)
+        → cond (x || y) listTooShort (record { refusal = 0; lowest = totalFloor s; highest = totalCeiling s; spent = s .spent }) .refusal ≡ 0 → (s .days ≤ a) × (s .days ≤ c)
     go true y e f z = absurd (omega arith)
     go false true e f z = absurd (omega arith)
     go false false e f z = (ltb-false a (s .days) e, ltb-false c (s .days) f)
@@ -157,7 +157,7 @@ module _ (p : Profile) (hs : List ByteCutCall) (b : List ℕ) (c : CameFrom p hs
       long : (decoding b .days ≤ length fs / 2) × (decoding b .days ≤ length cs / 2)
       long = shown-whole (decoding b) (length fs / 2) (length cs / 2) (rw shows at z)
 
-      whole : readRanges b fs cs ≡ record { refusal = 0; lowest = totalFloor (decoding b); most = totalCeiling (decoding b); spent = decoding b .spent }
+      whole : readRanges b fs cs ≡ record { refusal = 0; lowest = totalFloor (decoding b); highest = totalCeiling (decoding b); spent = decoding b .spent }
       whole = shows ∙ sym (both-long (decoding b) (length fs / 2) (length cs / 2) (long .0) (long .1))
 
       read : (S : List ℤ → Type 0) → Exact p S (decoding b) → Read p S b fs cs

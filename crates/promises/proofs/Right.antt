@@ -58,7 +58,7 @@ module _ {n : ℕ} {rs : List ℕ} {o : Ranges} {S : (ℕ → ℕ) → Type 0} w
       let ceilings : r .ceilings ≡ q .ceilings = ext-getD 0 (r .ceilings) (q .ceilings) (a .bounds .ceilings ∙ sym (b .bounds .ceilings)) (λ k h. ceiling k (decLt k n)) in
       let least : r .lowest ≡ q .lowest = spans-least (a .total) (b .total) in
       let most : r .highest ≡ q .highest = spans-most (a .total) (b .total) in
-      λ i. record { floors = floors i; ceilings = ceilings i; lowest = least i; most = most i }
+      λ i. record { floors = floors i; ceilings = ceilings i; lowest = least i; highest = most i }
     where
       floor : (k : ℕ) → Dec (k < n) → at (r .floors) k ≡ at (q .floors) k
       floor k (yes h) = spans-least (a .day k h) (b .day k h)

@@ -36,15 +36,6 @@ at-ceilings c = c .before
 abbrev at-rises : tie.After-low2 → tie.After-points3
 at-rises c = c .before
 
-abbrev at-low-lent : tie.After-high2 → tie.After-low2
-at-low-lent c = c .before
-
-abbrev at-high-lent : tie.After-steps2 → tie.After-high2
-at-high-lent c = c .before
-
-abbrev at-steps-lent : tie.After-profile-refusal → tie.After-steps2
-at-steps-lent c = c .before
-
 abbrev at-opens : tie.After-cuts-refusal → tie.Else2
 at-opens c = c .before
 
@@ -89,7 +80,7 @@ abbrev from-rises : tie.After-points3 → tie.After-points2
 from-rises c = at-ceilings (c .before)
 
 abbrev from-profile : tie.After-profile-refusal → tie.After-points3
-from-profile c = at-rises (at-low-lent (at-high-lent (at-steps-lent c)))
+from-profile c = at-rises (c .before .before .before)
 
 abbrev from-cuts : tie.After-cuts-refusal → tie.After-profile-refusal
 from-cuts c = at-opens c .before
@@ -214,16 +205,16 @@ array-share-prefix-high : tie.Need-array-share-prefix-high
 array-share-prefix-high c = high (from-rises (at-rises c)) .room
 
 slice-aggregate-profile-refusal-2 : tie.Need-slice-aggregate-profile-refusal-2
-slice-aggregate-profile-refusal-2 c = high (from-rises (at-rises (at-low-lent c))) .long
+slice-aggregate-profile-refusal-2 c = high (from-rises (at-rises (c .before))) .long
 
 sub-steps : tie.Need-sub-steps
-sub-steps c = omega (arith, sizes (from-floors (from-ceilings (from-rises (at-rises (at-low-lent c))))) .lists .some)
+sub-steps c = omega (arith, sizes (from-floors (from-ceilings (from-rises (at-rises (c .before))))) .lists .some)
 
 array-share-prefix-steps : tie.Need-array-share-prefix-steps
-array-share-prefix-steps c = steps (at-rises (at-low-lent c)) .room
+array-share-prefix-steps c = steps (at-rises (c .before)) .room
 
 slice-aggregate-profile-refusal-3 : tie.Need-slice-aggregate-profile-refusal-3
-slice-aggregate-profile-refusal-3 c = steps (at-rises (at-low-lent (at-high-lent c))) .long
+slice-aggregate-profile-refusal-3 c = steps (at-rises (c .before .before)) .long
 
 -- ---- the profile, a cut or the output's length refused
 
