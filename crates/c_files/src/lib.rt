@@ -17,8 +17,7 @@ use c_lists::points;
 use c_lists::put_points;
 use file_checks::numbered_at;
 use file_format::CUT_BYTES;
-use file_format::DAY_BYTES;
-use file_format::HEADER_BYTES;
+use file_format::day_offset;
 use file_parts::put_days;
 use file_parts::put_header;
 use file_writing::WriteAnswer;
@@ -114,7 +113,7 @@ pub fn read(
     put_points(&low, days, floors);
     put_points(&high, days, ceilings);
     put_points(&steps, days - 1, rises);
-    put_rest(file, HEADER_BYTES + days * DAY_BYTES, cuts, 0);
+    put_rest(file, day_offset(days), cuts, 0);
     Contents {
         refusal: 0,
         numbers,
@@ -208,7 +207,7 @@ pub fn write(
     if of_cuts != 0 {
         return refuse(of_cuts);
     }
-    let from = HEADER_BYTES + days * DAY_BYTES;
+    let from = day_offset(days);
     let length = from + count * CUT_BYTES;
     if out.len() < length {
         return refuse(2);

@@ -12,8 +12,8 @@ use base_little_endian::i32_at;
 use base_little_endian::u16_at;
 use base_numbers::wide;
 use file_format::CUT_BYTES;
-use file_format::DAY_BYTES;
 use file_format::HEADER_BYTES;
+use file_format::day_offset;
 use limits::MOST_CUTS;
 use limits::MOST_DAYS;
 use session_cuts::Cut;
@@ -79,7 +79,7 @@ fn layout_refusal(bytes: &[u8], days: usize, cuts: usize) -> u8
     requires { ⌜ (headerLength ≤ length (now bytes)) × (days ≡ dayCount (now bytes)) × (cuts ≡ cutCount (now bytes)) × (days ≤ mostDays) × (cuts ≤ mostCuts) ⌝ }
     ensures { λ r. ⌜ r ≡ cond (badLayout (now (bytes .entry))) 11 0 ⌝ }
 {
-    let from = HEADER_BYTES + days * DAY_BYTES;
+    let from = day_offset(days);
     if wide(u16_at(bytes, 4)) != HEADER_BYTES {
         return 11;
     }
@@ -96,7 +96,7 @@ fn fields_refusal(bytes: &[u8], days: usize, cuts: usize) -> u8
     requires { ⌜ (fileLength days cuts ≡ length (now bytes)) × (days ≡ dayCount (now bytes)) × (cuts ≡ cutCount (now bytes)) × (0 < days) × (days ≤ mostDays) × (cuts ≤ mostCuts) ⌝ }
     ensures { λ r. ⌜ r ≡ cond (badFields (now (bytes .entry))) 12 0 ⌝ }
 {
-    let from = HEADER_BYTES + days * DAY_BYTES;
+    let from = day_offset(days);
     // The last rise.
     if u16_at(bytes, from - 2) != 0 {
         return 12;

@@ -14,8 +14,8 @@ use base_little_endian::put_i16;
 use base_little_endian::put_i32;
 use base_little_endian::put_u16;
 use file_format::CUT_BYTES;
-use file_format::DAY_BYTES;
 use file_format::HEADER_BYTES;
+use file_format::day_offset;
 use limits::MOST_CUTS;
 use session::Numbers;
 use session_cuts::Cut;
@@ -34,7 +34,7 @@ pub fn put_header(numbers: Numbers, cuts: usize, out: &mut [u8])
     put_u16(out, 0, days as u16);
     put_u16(out, 2, cuts as u16);
     put_u16(out, 4, DAYS_OFFSET);
-    put_u16(out, 6, (HEADER_BYTES + days * DAY_BYTES) as u16);
+    put_u16(out, 6, day_offset(days) as u16);
     put_i32(out, 8, lowest);
     put_i32(out, 12, highest);
 }
@@ -66,7 +66,7 @@ pub fn put_days(floors: &[i16], ceilings: &[i16], rises: &[i16], days: usize, ou
     while k < days {
         put_day(
             out,
-            HEADER_BYTES + k * DAY_BYTES,
+            day_offset(k),
             floors[k],
             ceilings[k],
             rise_on(rises, k),

@@ -13,8 +13,7 @@ use file_checks::file_refusal;
 use file_checks::numbered_at;
 use file_days::store_days;
 use file_format::CUT_BYTES;
-use file_format::DAY_BYTES;
-use file_format::HEADER_BYTES;
+use file_format::day_offset;
 use limits::MOST_CUTS;
 use session::Numbers;
 use session_cuts::Cut;
@@ -85,7 +84,7 @@ fn read_contents(bytes: &[u8], days: usize) -> ReadAnswer
         highest,
     };
     let count = wide(u16_at(bytes, 2));
-    let sheet = read_sheet(bytes, HEADER_BYTES + days * DAY_BYTES, count);
+    let sheet = read_sheet(bytes, day_offset(days), count);
     ReadAnswer {
         refusal: 0,
         numbers,

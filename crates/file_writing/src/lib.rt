@@ -9,8 +9,7 @@ ghost use Rattle.session_cuts.specs.Sheet.{blank, cutsOf};
 ghost use Rattle.session_cutting.specs.Cutting.{malformed};
 ghost use Rattle.file_writing.specs.Writing.{writeAnswer, output};
 use file_format::CUT_BYTES;
-use file_format::DAY_BYTES;
-use file_format::HEADER_BYTES;
+use file_format::day_offset;
 use file_parts::put_days;
 use file_parts::put_entries;
 use file_parts::put_header;
@@ -95,7 +94,7 @@ pub fn write(
     if of_cuts != 0 {
         return refuse(of_cuts);
     }
-    let from = HEADER_BYTES + days * DAY_BYTES;
+    let from = day_offset(days);
     let length = from + count * CUT_BYTES;
     if out.len() < length {
         return refuse(2);
