@@ -5,6 +5,7 @@ ghost use mathlib.Core.Bool.{cond};
 ghost use Prim.Native.Nat.{_-_};
 ghost use lib.ListN.{length};
 ghost use Rattle.session_cuts.specs.Numbered.{numbered};
+ghost use Rattle.session.specs.Opening.{numbersWith};
 ghost use Rattle.session.specs.Showing.{floorOn, ceilingOn};
 ghost use Rattle.file_format.specs.Format.{dayCount, floorAt, ceilingAt, riseAt};
 ghost use Rattle.c_lists.specs.Lists.{lentPoints};
@@ -39,8 +40,8 @@ pub extern "C" fn cloverdrum_open(
     total_floor: i32,
     total_ceiling: i32,
 ) -> u8
-    ensures { λ r. ⌜ r ≡ openRefusal (now (session .entry)) (byteProfile (record { days = days; lowest = «total_floor»; highest = «total_ceiling» }) (now (floors .entry)) (now (ceilings .entry)) (now (rises .entry))) ⌝ }
-    ensures { λ r. ⌜ now (session .exit) ≡ bytesOpened (now (session .entry)) (byteProfile (record { days = days; lowest = «total_floor»; highest = «total_ceiling» }) (now (floors .entry)) (now (ceilings .entry)) (now (rises .entry))) ⌝ }
+    ensures { λ r. ⌜ r ≡ openRefusal (now (session .entry)) (byteProfile (numbersWith days «total_floor» «total_ceiling») (now (floors .entry)) (now (ceilings .entry)) (now (rises .entry))) ⌝ }
+    ensures { λ r. ⌜ now (session .exit) ≡ bytesOpened (now (session .entry)) (byteProfile (numbersWith days «total_floor» «total_ceiling») (now (floors .entry)) (now (ceilings .entry)) (now (rises .entry))) ⌝ }
 {
     let numbers = Numbers {
         days,
@@ -182,8 +183,8 @@ pub extern "C" fn cloverdrum_write_file(
     file: &mut [u8],
     file_bytes: &mut usize,
 ) -> u8
-    ensures { λ r. ⌜ record { refusal = r; length = now («file_bytes» .exit) } ≡ writeOver (byteProfile (record { days = days; lowest = «total_floor»; highest = «total_ceiling» }) (now (floors .entry)) (now (ceilings .entry)) (now (rises .entry))) (now (cuts .entry)) (length (now (file .entry))) ⌝ }
-    ensures { λ r. ⌜ now (file .exit) ≡ outputOver (byteProfile (record { days = days; lowest = «total_floor»; highest = «total_ceiling» }) (now (floors .entry)) (now (ceilings .entry)) (now (rises .entry))) (now (cuts .entry)) (now (file .entry)) ⌝ }
+    ensures { λ r. ⌜ record { refusal = r; length = now («file_bytes» .exit) } ≡ writeOver (byteProfile (numbersWith days «total_floor» «total_ceiling») (now (floors .entry)) (now (ceilings .entry)) (now (rises .entry))) (now (cuts .entry)) (length (now (file .entry))) ⌝ }
+    ensures { λ r. ⌜ now (file .exit) ≡ outputOver (byteProfile (numbersWith days «total_floor» «total_ceiling») (now (floors .entry)) (now (ceilings .entry)) (now (rises .entry))) (now (cuts .entry)) (now (file .entry)) ⌝ }
 {
     let numbers = Numbers {
         days,
