@@ -6,9 +6,12 @@ use Rattle.file_checks.proofs.Laws.{Said, days-elsewhere, cuts-elsewher
 use Rattle.file_checks.proofs.layout_refusal.Statement.{statement}
 use Rattle.file_checks.proofs.layout_refusal.Tie as tie
 
--- the places on the way: the days' offset is read, and is right; the cuts' offset is read, and is right
-abbrev at-start : tie.After-wide → tie.Start
-at-start c = c .before .before .before
+-- the places on the way: where the cuts begin is known; the days' offset is read, and is right; the cuts' offset is read, and is right
+abbrev at-start : tie.After-day-offset → tie.Start
+at-start c = c .before .before
+
+abbrev at-from : tie.After-wide → tie.After-day-offset
+at-from c = c .before .before
 
 abbrev at-days : tie.After-wide2 → tie.After-wide
 at-days c = c .before .before .before
@@ -17,7 +20,7 @@ abbrev at-cuts : tie.Else2 → tie.After-wide2
 at-cuts c = c .before
 
 abbrev from-cuts : tie.After-wide2 → tie.Start
-from-cuts c = at-start (at-days c)
+from-cuts c = at-start (at-from (at-days c))
 
 said : (s : tie.Start) → Said (s .args .bytes .now) (s .args .days) (s .args .cuts)
 said s = record { days = s .pre .1; cuts = s .pre .2 }
@@ -38,7 +41,6 @@ pub layout-refusal-spec : {M : Type 1} → statement M
 layout-refusal-spec =
     tie.close
     (tie.spec
-    (λ c. search needs)
     (λ c. search needs)
     (λ c. search needs)
     (λ c. search needs)

@@ -7,7 +7,7 @@ use Rattle.file_reading.proofs.Stages.{contents-as}
 use Rattle.file_reading.proofs.read_contents.Statement.{statement}
 use Rattle.file_reading.proofs.read_contents.Tie as tie
 
--- the places on the way: the total's bounds are read, the cuts are counted, and read
+-- the places on the way: the total's bounds are read, the cuts are counted, where they begin is known, and they are read
 abbrev at-start : tie.After-i32-at → tie.Start
 at-start c = c .before .before
 
@@ -17,24 +17,31 @@ at-lowest c = c .before
 abbrev at-highest : tie.After-wide → tie.After-i32-at2
 at-highest c = c .before .before
 
-abbrev at-counted : tie.After-read-sheet → tie.After-wide
+abbrev at-counted : tie.After-day-offset → tie.After-wide
 at-counted c = c .before
+
+abbrev at-from : tie.After-read-sheet → tie.After-day-offset
+at-from c = c .before
 
 returns : tie.Need-returns
 returns c =
-    let n = at-counted c in
+    let from = at-from c in
+    let n = at-counted from in
     let h = at-highest n in
     let l = at-lowest h in
     let lowest = toZ-ofZ {w = w32} (sfits-of (l .i32-at .ok)) ∙ l .i32-at .ensures in
     let highest = toZ-ofZ {w = w32} (sfits-of (h .i32-at2 .ok)) ∙ h .i32-at2 .ensures in
     contents-as
-    (record { found = rw (at-start l .pre .0, lowest, highest) refl; cuts = n .wide .ensures .0 ∙ n .before .u16-at .ensures; sheet = c .read-sheet .ensures })
+    (record {
+      found = rw (at-start l .pre .0, lowest, highest) refl;
+      cuts = n .wide .ensures .0 ∙ n .before .u16-at .ensures;
+      sheet = rw (from .day-offset .ensures) at (c .read-sheet .ensures);
+    })
 
 pub read-contents-spec : {M : Type 1} → statement M
 read-contents-spec =
     tie.close
     (tie.spec
-    (λ c. search needs)
     (λ c. search needs)
     (λ c. search needs)
     (λ c. search needs)
