@@ -1,5 +1,5 @@
 -- What `write` gives and leaves in its output, by the checks that refuse and by the bytes that it stores.
-use Prim.Native.Nat.{ℕ, _≤_, _<_}
+use Prim.Native.Nat.{ℕ, _+_, _*_, _≤_, _<_}
 use mathlib.Core.Path.{_≡_, refl, ap, sym, _∙_}
 use mathlib.Core.List.{List}
 use native.Mathlib.Omega.{arith}
@@ -16,7 +16,7 @@ use Rattle.session_cuts.specs.Sheet.{blank, cutOn, cutsOf, dayOf}
 use Rattle.session_cuts.proofs.Laws.{length-cutsOf, cutOn-cutsOf}
 use Rattle.session_cutting.specs.Cutting.{malformed}
 use Rattle.session_cutting.proofs.Laws.{formed-day}
-use Rattle.file_format.specs.Format.{dayOffset, fileLength, header, cutBytes, dayRow, file}
+use Rattle.file_format.specs.Format.{cutLength, dayOffset, fileLength, header, cutBytes, dayRow, file}
 use Rattle.file_format.proofs.Parts.{length-file, parts-stored}
 use Rattle.file_format.specs.Writing.{earlyWriting, writingRefusal}
 use Rattle.file_writing.specs.declared.WriteAnswer.{WriteAnswer}
@@ -40,12 +40,13 @@ pub record Checked (p : Profile) (s : Sheet) : Type 0 where
   pub opens : Opens p s
   pub formed : entriesRefusal p s ≡ 0
 
--- the output has room, and the three parts of the file were stored in it one after another
-pub record Stored (p : Profile) (s : Sheet) (l a b out : List ℕ) : Type 0 where
-  pub room : fileLength (p .days) (s .count) ≤ length l
+-- the cuts begin at from, the output has room, and the three parts of the file were stored in it one after another
+pub record Stored (p : Profile) (s : Sheet) (from : ℕ) (l a b out : List ℕ) : Type 0 where
+  pub place : from ≡ dayOffset (p .days)
+  pub room : from + s .count * cutLength ≤ length l
   pub header-stored : a ≡ sets l 0 (header (Opening.numbersOf p) (s .count))
   pub days-stored : b ≡ sets a 16 (rows (dayRow p) (p .days))
-  pub cuts-stored : out ≡ sets b (dayOffset (p .days)) (rows (λ j. cutBytes (getD (s .entries) j blank .cut)) (s .count))
+  pub cuts-stored : out ≡ sets b from (rows (λ j. cutBytes (getD (s .entries) j blank .cut)) (s .count))
 
 -- ---- refused
 
@@ -91,18 +92,18 @@ module _ (p : Profile) (s : Sheet) (c : Checked p s) where
       let z = entered p (c .opens .profile) .sized in
       omega (arith, formed-day (p .days) (getD (s .entries) j blank .cut) (nonzero-none (λ i. malformed (p .days) (getD (s .entries) i blank .cut)) (s .count) (c .formed) j h) (z .some), z .few)
 
-  module _ {l a b out : List ℕ} (w : Stored p s l a b out) where
+  module _ {from : ℕ} {l a b out : List ℕ} (w : Stored p s from l a b out) where
     accepted : writingRefusal p (cutsOf s) (length l) ≡ 0
     unfolding writingRefusal
-    accepted = rw (by-cuts p s (c .opens), c .formed, length-cutsOf s, le-ltb (length l) (fileLength (p .days) (s .count)) (w .room)) refl
+    accepted = rw (by-cuts p s (c .opens), c .formed, length-cutsOf s, le-ltb (length l) (fileLength (p .days) (s .count)) (omega (arith, w .place, w .room))) refl
 
     -- the three parts are the file
     whole : out ≡ sets l 0 (file p (cutsOf s))
     whole =
         let cuts = rows-same (λ j. cutBytes (cutOn (cutsOf s) j)) (λ j. cutBytes (getD (s .entries) j blank .cut)) (s .count) (λ j u. ap cutBytes (cutOn-cutsOf s j u)) in
-        parts-stored p (cutsOf s) l (rw (length-cutsOf s) (w .header-stored)) (w .days-stored) (rw (length-cutsOf s, cuts) (w .cuts-stored))
+        parts-stored p (cutsOf s) l (rw (length-cutsOf s) (w .header-stored)) (w .days-stored) (rw (length-cutsOf s, cuts, ← w .place) (w .cuts-stored))
 
-    pub written : Answers p s l (record { refusal = 0; length = fileLength (p .days) (s .count) }) out
+    pub written : Answers p s l (record { refusal = 0; length = from + s .count * cutLength }) out
     unfolding writeAnswer output
     written =
-        (rw (accepted, length-cutsOf s) refl, rw accepted (whole ∙ front-sets (file p (cutsOf s)) l (omega (arith, w .room, length-file p (cutsOf s), length-cutsOf s))))
+        (rw (accepted, length-cutsOf s, w .place) refl, rw accepted (whole ∙ front-sets (file p (cutsOf s)) l (omega (arith, w .place, w .room, length-file p (cutsOf s), length-cutsOf s))))

@@ -19,25 +19,29 @@ abbrev μ-loop : tie.MeasureT-loop
 loop-holds : tie.Need-loop-holds Inv-loop μ-loop
 loop-holds c = even-none 6
 
--- the places on the way: a turn begins, a day's numbers are ready
+-- the places on the way: a turn begins, the day's place is known, its numbers are ready
 abbrev at-start : tie.In-loop Inv-loop μ-loop → tie.Start Inv-loop μ-loop
 at-start c = c .before .before .before
 
-abbrev at-turn : tie.After-put-day-arg3 Inv-loop μ-loop → tie.In-loop Inv-loop μ-loop
-at-turn c = c .before .before .before
+abbrev at-place : tie.After-put-day-arg3 Inv-loop μ-loop → tie.After-day-offset Inv-loop μ-loop
+at-place c = c .before .before
+
+abbrev at-turn : tie.After-day-offset Inv-loop μ-loop → tie.In-loop Inv-loop μ-loop
+at-turn c = c .before .before
 
 loop-again : tie.Need-loop-again Inv-loop μ-loop
 loop-again c =
     let d = c .before .before in
     let r = d .before in
     let a = r .before in
-    let t = at-turn a in
+    let p = at-place a in
+    let t = at-turn p in
     let s = at-start t .args in
     let k = t .before .loop .k in
     let floor = toZ-ofZ (sfits-of {w = w16} {z = on (s .floors .now) k} (a .before .put-day-arg2 .given)) in
     let ceiling = toZ-ofZ (sfits-of {w = w16} {z = on (s .ceilings .now) k} (a .put-day-arg3 .given)) in
     let rise = toZ-ofZ (sfits-of {w = w16} {z = r .rise-on .result} (r .rise-on .ok)) in
-    even-more 6 (λ j. day-length _ _ _) (t .before .loop .inv) (t .loop-test .taken) (rw (floor, ceiling, rise, r .rise-on .ensures) at (d .put-day .ensures))
+    even-more 6 (λ j. day-length _ _ _) (t .before .loop .inv) (t .loop-test .taken) (rw (p .day-offset .ensures, floor, ceiling, rise, r .rise-on .ensures) at (d .put-day .ensures))
 
 returns : tie.Need-returns Inv-loop μ-loop
 returns c = stored-all (c .before .loop .inv) (c .loop-test .left) .0
@@ -49,7 +53,6 @@ put-days-spec =
     Inv-loop
     μ-loop
     loop-holds
-    (λ c. search needs)
     (λ c. search needs)
     (λ c. search needs)
     (λ c. search needs)

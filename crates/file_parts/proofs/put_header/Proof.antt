@@ -12,7 +12,7 @@ use borrow.Author.Needs.{needs, sfits-of}
 use Rattle.file_parts.proofs.put_header.Statement.{statement}
 use Rattle.file_parts.proofs.put_header.Tie as tie
 
--- the places on the way: the numbers are told, then each field stored, seen from the next
+-- the places on the way: the numbers are told, then each field stored, seen from the next; the place of the cuts is known before it is stored
 abbrev at-start : tie.After-struct-told2 → tie.Start
 at-start c = c .before .before .before
 
@@ -25,7 +25,10 @@ at-days c = c .before .before .before .before
 abbrev at-cuts : tie.After-put-u163 → tie.After-put-u162
 at-cuts c = c .before .before .before .before
 
-abbrev at-days-offset : tie.After-put-u164 → tie.After-put-u163
+abbrev at-cuts-place : tie.After-put-u164 → tie.After-day-offset
+at-cuts-place c = c .before
+
+abbrev at-days-offset : tie.After-day-offset → tie.After-put-u163
 at-days-offset c = c .before .before .before .before
 
 abbrev at-cuts-offset : tie.After-put-i32 → tie.After-put-u164
@@ -50,7 +53,8 @@ returns c =
     let sixth = at-highest c in
     let fifth = at-lowest sixth in
     let fourth = at-cuts-offset fifth in
-    let third = at-days-offset fourth in
+    let place = at-cuts-place fourth in
+    let third = at-days-offset place in
     let second = at-cuts third in
     let one = at-days second in
     let t = at-told one in
@@ -65,7 +69,8 @@ returns c =
     stored-after l 0 12 (n ++ m ++ a ++ b ++ low) high refl
     (stored-after l 0 8 (n ++ m ++ a ++ b) low refl
     (stored-after l 0 6 (n ++ m ++ a) b refl
-    (stored-after l 0 4 (n ++ m) a refl (stored-after l 0 2 n m refl (one .put-u16 .ensures) (second .put-u162 .ensures)) (third .put-u163 .ensures)) (fourth .put-u164 .ensures))
+    (stored-after l 0 4 (n ++ m) a refl (stored-after l 0 2 n m refl (one .put-u16 .ensures) (second .put-u162 .ensures)) (third .put-u163 .ensures))
+    (fourth .put-u164 .ensures ∙ ap (λ z. sets (third .put-u163 .last .0) 6 (u16Bytes z)) (place .day-offset .ensures)))
     (rw (toZ-ofZ (lowest-fits t)) at (fifth .put-i32 .ensures)))
     (sixth .put-i322 .ensures ∙ ap (λ z. sets (fifth .put-i32 .last .0) 12 (i32Bytes z)) (toZ-ofZ (highest-fits t)))
 
@@ -73,7 +78,6 @@ pub put-header-spec : {M : Type 1} → statement M
 put-header-spec =
     tie.close
     (tie.spec
-    (λ c. search needs)
     (λ c. search needs)
     (λ c. search needs)
     (λ c. search needs)

@@ -27,8 +27,8 @@ test-profile c = c
 abbrev test-cuts : tie.Else2 → tie.Else2
 test-cuts c = c
 
-abbrev test-room : tie.Else3 → tie.Else3
-test-room c = c
+abbrev test-room : tie.After-day-offset → tie.Else3
+test-room c = c .before
 
 abbrev at-room : tie.After-put-header-arg → tie.Else4
 at-room c = c .before
@@ -86,17 +86,14 @@ returns-3 c =
     let o = test-cuts (c .before .before) in
     bad-cut _ _ _ (c .before .if3 .taken) (c .refuse3 .ensures) (opens o) (test-profile (o .before) .entries-refusal .ensures)
 
-mul-from : tie.Need-mul-from
-mul-from c = omega (arith, sizes c .few)
-
-add-from : tie.Need-add-from
-add-from c = omega (arith, sizes c .few)
+day-offset-requires : tie.Need-day-offset-requires
+day-offset-requires c κs = sizes c .few
 
 add-length : tie.Need-add-length
-add-length c = omega (arith, sizes c .few)
+add-length c = omega (arith, sizes (test-room c) .few, c .day-offset .ensures)
 
 returns-4 : tie.Need-returns-4
-returns-4 c = too-short _ _ _ (checked (test-room (c .before .before))) (omega (arith, c .before .if4 .taken)) (c .refuse4 .ensures)
+returns-4 c = too-short _ _ _ (checked (test-room (c .before .before))) (omega (arith, c .before .if4 .taken, c .before .before .day-offset .ensures)) (c .refuse4 .ensures)
 
 -- ---- written
 
@@ -104,14 +101,14 @@ put-header-requires : tie.Need-put-header-requires
 put-header-requires c κs =
     let r = at-room c in
     let k = test-room (r .before) in
-    (sizes k .few, checked k .opens .few, omega (arith, r .if4 .left))
+    (sizes k .few, checked k .opens .few, omega (arith, r .if4 .left, r .before .day-offset .ensures))
 
 put-days-requires : tie.Need-put-days-requires
 put-days-requires c κs =
     let h = at-header c in
     let r = at-room (h .before) in
     let z = sizes (test-room (r .before)) in
-    (sym (z .floors), sym (z .ceilings), z .few, omega (arith, h .put-header .kept, r .if4 .left))
+    (sym (z .floors), sym (z .ceilings), z .few, omega (arith, h .put-header .kept, r .if4 .left, r .before .day-offset .ensures))
 
 put-entries-requires : tie.Need-put-entries-requires
 put-entries-requires c κs =
@@ -129,7 +126,7 @@ returns-5 c =
     let r = at-room (h .before) in
     let k = test-room (r .before) in
     written _ _ (checked k)
-    (record { room = r .if4 .left; header-stored = h .put-header .ensures; days-stored = d .put-days .ensures; cuts-stored = e .put-entries .ensures })
+    (record { place = r .before .day-offset .ensures; room = r .if4 .left; header-stored = h .put-header .ensures; days-stored = d .put-days .ensures; cuts-stored = e .put-entries .ensures })
 
 pub write-spec : {M : Type 1} → statement M
 write-spec =
@@ -143,8 +140,7 @@ write-spec =
     returns-2
     (λ c. search needs)
     returns-3
-    mul-from
-    add-from
+    day-offset-requires
     (λ c. search needs)
     add-length
     (λ c. search needs)
