@@ -52,7 +52,10 @@ at-steps c = c .before
 abbrev at-rises : tie.After-slice-known7 → tie.After-put-points3
 at-rises c = c .before .before
 
-abbrev at-offset : tie.After-put-rest-arg → tie.After-slice-known7
+abbrev at-stored : tie.After-day-offset → tie.After-slice-known7
+at-stored c = c .before
+
+abbrev at-offset : tie.After-put-rest-arg → tie.After-day-offset
 at-offset c = c .before
 
 abbrev at-cuts : tie.After-slice-known8 → tie.After-put-rest
@@ -126,7 +129,7 @@ room c = roomy _ _ _ _ _ _ (passed c .room)
 -- ---- what is stored
 
 stored : (c : tie.After-put-rest)
-    → let s = at-rises (at-offset (c .before)) in
+    → let s = at-rises (at-stored (at-offset (c .before))) in
     let h = from-rises s in
     let l = from-ceilings h in
     let e = from-counted (from-roomy (from-floors l)) in
@@ -134,7 +137,7 @@ stored : (c : tie.After-put-rest)
     Stored (a .file .now) (a .floors .now) (a .ceilings .now) (a .rises .now) (a .cuts .now) (answer e) (l .put-points .last .1 .1 .0) (h .put-points2 .last .1 .1 .0)
     (s .put-points3 .last .1 .1 .0) (c .put-rest .last .1 .1 .0)
 stored c =
-    let s = at-rises (at-offset (c .before)) in
+    let s = at-rises (at-stored (at-offset (c .before))) in
     let h = from-rises s in
     let l = from-ceilings h in
     let r = from-right (from-counted (from-roomy (from-floors l))) .read .ensures .1 in
@@ -148,7 +151,7 @@ stored c =
       floors-put = l .put-points .ensures;
       ceilings-put = h .put-points2 .ensures;
       rises-put = s .put-points3 .ensures;
-      cuts-put = c .put-rest .ensures;
+      cuts-put = rw (at-offset (c .before) .day-offset .ensures) at (c .put-rest .ensures);
     }
 
 -- ---- the answers
@@ -182,24 +185,22 @@ put-points-requires-3 c κs =
     let e = from-floors (from-ceilings (at-ceilings (at-steps c))) in
     (omega (arith, few (from-counted (from-roomy e))), room e .rises-long)
 
-mul-put-rest : tie.Need-mul-put-rest
-mul-put-rest c = omega (arith, few (from-counted (from-roomy (from-floors (from-ceilings (from-rises (at-rises c)))))))
-
-add-put-rest : tie.Need-add-put-rest
-add-put-rest c = omega (arith, few (from-counted (from-roomy (from-floors (from-ceilings (from-rises (at-rises c)))))))
+day-offset-requires : tie.Need-day-offset-requires
+day-offset-requires c κs = few (from-counted (from-roomy (from-floors (from-ceilings (from-rises (at-rises c))))))
 
 put-rest-requires : tie.Need-put-rest-requires
 put-rest-requires c κs =
-    let e = from-floors (from-ceilings (from-rises (at-rises (at-offset c)))) in
+    let e = from-floors (from-ceilings (from-rises (at-rises (at-stored (at-offset c))))) in
     let p = passed e in
     let w = p .found .taken .whole in
     let d = p .found .days in
+    let from = at-offset c .day-offset .ensures in
     (omega arith, omega (arith, p .count, room e .cuts-long))
 
 returns-3 : tie.Need-returns-3
 returns-3 c =
     let k = at-cuts c in
-    let e = from-floors (from-ceilings (from-rises (at-rises (at-offset (k .before))))) in
+    let e = from-floors (from-ceilings (from-rises (at-rises (at-stored (at-offset (k .before)))))) in
     read-all _ _ _ _ _ (passed e) (stored k)
 
 pub read-spec : {M : Type 1} → statement M
@@ -221,8 +222,7 @@ read-spec =
     put-points-requires-2
     sub-put-points
     put-points-requires-3
-    mul-put-rest
-    add-put-rest
+    day-offset-requires
     put-rest-requires
     (λ c. search needs)
     (λ c. search needs)

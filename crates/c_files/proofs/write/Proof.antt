@@ -41,6 +41,12 @@ at-opens c = c .before
 
 -- ---- past the output's length: the header, the days from parts that are lent again, and the cuts are stored
 
+abbrev at-offset : tie.Else4 → tie.After-day-offset
+at-offset c = c .before
+
+abbrev at-checked : tie.Else4 → tie.Else3
+at-checked c = at-offset c .before
+
 abbrev at-roomy : tie.After-put-header-arg → tie.Else4
 at-roomy c = c .before
 
@@ -156,12 +162,12 @@ checked c = record { opens = opens (at-opens (c .before)); formed = sym (c .befo
 -- ---- what is stored
 
 stored : (c : tie.After-put-rest)
-    → let s = from-right (the-lists (from-header (from-days (from-rest c)) .before)) in
+    → let s = from-right (the-lists (at-checked (from-header (from-days (from-rest c))))) in
     Stored (handed s) (s .args .cuts .now) (s .args .out .now) (c .put-rest .last .1 .1 .0)
 stored c =
     let d = from-rest c in
     let h = from-days d in
-    let e = from-header h .before in
+    let e = at-checked (from-header h) in
     record {
       floors = _;
       ceilings = _;
@@ -173,7 +179,7 @@ stored c =
       rises-held = steps (the-rises e) .same;
       header-put = h .put-header .ensures;
       days-put = d .put-days .ensures;
-      cuts-put = c .put-rest .ensures;
+      cuts-put = rw (at-offset (from-header h) .day-offset .ensures) at (c .put-rest .ensures);
     }
 
 -- ---- the lengths refused
@@ -232,70 +238,70 @@ returns-3 c =
     let t = c .before in
     bad-cut _ _ _ (t .if3 .taken) (c .refuse3 .ensures) (opens (at-opens (t .before))) (t .before .cuts-refusal .ensures)
 
-mul-from : tie.Need-mul-from
-mul-from c = omega (arith, sizes (the-lists c) .lists .few)
-
-add-from : tie.Need-add-from
-add-from c = omega (arith, sizes (the-lists c) .lists .few)
+day-offset-requires : tie.Need-day-offset-requires
+day-offset-requires c κs = sizes (the-lists c) .lists .few
 
 mul-length : tie.Need-mul-length
-mul-length c = omega (arith, sizes (the-lists c) .few)
+mul-length c = omega (arith, sizes (the-lists (c .before)) .few)
 
 add-length : tie.Need-add-length
-add-length c = let s = sizes (the-lists c) in omega (arith, s .lists .few, s .few)
+add-length c = let s = sizes (the-lists (c .before)) in omega (arith, c .day-offset .ensures, s .lists .few, s .few)
 
 returns-4 : tie.Need-returns-4
-returns-4 c = let t = c .before in too-short _ _ _ (checked (t .before)) (omega (arith, t .if4 .taken)) (c .refuse4 .ensures)
+returns-4 c =
+    let t = c .before in
+    too-short _ _ _ (checked (t .before .before)) (omega (arith, t .before .day-offset .ensures, t .if4 .taken)) (c .refuse4 .ensures)
 
 -- ---- the file
 
 put-header-requires : tie.Need-put-header-requires
 put-header-requires c κs =
     let e = at-roomy c in
-    let s = sizes (the-lists (e .before)) in
-    (s .lists .few, s .few, omega (arith, e .if4 .left))
+    let s = sizes (the-lists (at-checked e)) in
+    (s .lists .few, s .few, omega (arith, at-offset e .day-offset .ensures, e .if4 .left))
 
 array-share-prefix-low-2 : tie.Need-array-share-prefix-low-2
-array-share-prefix-low-2 c = low (the-floors (from-header (at-header c) .before)) .room
+array-share-prefix-low-2 c = low (the-floors (at-checked (from-header (at-header c)))) .room
 
 slice-aggregate-put-days : tie.Need-slice-aggregate-put-days
-slice-aggregate-put-days c = low (the-floors (from-header (at-header (at-days-next c)) .before)) .long
+slice-aggregate-put-days c = low (the-floors (at-checked (from-header (at-header (at-days-next c))))) .long
 
 array-share-prefix-high-2 : tie.Need-array-share-prefix-high-2
-array-share-prefix-high-2 c = high (the-ceilings (from-header (at-header (at-days-next c)) .before)) .room
+array-share-prefix-high-2 c = high (the-ceilings (at-checked (from-header (at-header (at-days-next c))))) .room
 
 slice-aggregate-put-days-2 : tie.Need-slice-aggregate-put-days-2
-slice-aggregate-put-days-2 c = high (the-ceilings (from-header (at-header (at-days-next (at-low-again c))) .before)) .long
+slice-aggregate-put-days-2 c = high (the-ceilings (at-checked (from-header (at-header (at-days-next (at-low-again c)))))) .long
 
 sub-steps-2 : tie.Need-sub-steps-2
-sub-steps-2 c = omega (arith, sizes (the-lists (from-header (at-header (at-days-next (at-low-again c))) .before)) .lists .some)
+sub-steps-2 c = omega (arith, sizes (the-lists (at-checked (from-header (at-header (at-days-next (at-low-again c)))))) .lists .some)
 
 array-share-prefix-steps-2 : tie.Need-array-share-prefix-steps-2
-array-share-prefix-steps-2 c = steps (the-rises (from-header (at-header (at-days-next (at-low-again c))) .before)) .room
+array-share-prefix-steps-2 c = steps (the-rises (at-checked (from-header (at-header (at-days-next (at-low-again c)))))) .room
 
 slice-aggregate-put-days-3 : tie.Need-slice-aggregate-put-days-3
-slice-aggregate-put-days-3 c = steps (the-rises (from-header (at-header (at-days-next (at-low-again (at-high-again c)))) .before)) .long
+slice-aggregate-put-days-3 c = steps (the-rises (at-checked (from-header (at-header (at-days-next (at-low-again (at-high-again c))))))) .long
 
 put-days-requires : tie.Need-put-days-requires
 put-days-requires c κs =
     let h = at-header (at-days-next (at-low-again (at-high-again (at-steps-again c)))) in
     let r = from-header h in
-    let e = r .before in
-    (low (the-floors e) .long, high (the-ceilings e) .long, sizes (the-lists e) .lists .few, omega (arith, h .put-header .kept, r .if4 .left))
+    let e = at-checked r in
+    (low (the-floors e) .long, high (the-ceilings e) .long, sizes (the-lists e) .lists .few, omega (arith, at-offset r .day-offset .ensures, h .put-header .kept, r .if4 .left))
 
 put-rest-requires : tie.Need-put-rest-requires
 put-rest-requires c κs =
     let d = at-days c in
     let h = from-days d in
     let r = from-header h in
-    (omega arith, omega (arith, sizes (the-lists (r .before)) .whole, d .put-days .kept, h .put-header .kept, r .if4 .left))
+    (omega arith, omega (arith, sizes (the-lists (at-checked r)) .whole, d .put-days .kept, h .put-header .kept, r .if4 .left))
 
 returns-5 : tie.Need-returns-5
 returns-5 c =
     let k = at-cuts c in
     let r = from-header (from-days (from-rest k)) in
-    let e = r .before in
-    written _ _ _ (checked e) (cut-bytes (at-known (the-lists e .before))) (r .if4 .left) (stored k)
+    let e = at-checked r in
+    let from = at-offset r .day-offset .ensures in
+    rw from (written _ _ _ (checked e) (cut-bytes (at-known (the-lists e .before))) (omega (arith, from, r .if4 .left)) (stored k))
 
 pub write-spec : {M : Type 1} → statement M
 write-spec =
@@ -321,8 +327,7 @@ write-spec =
     cuts-refusal-requires
     (λ c. search needs)
     returns-3
-    mul-from
-    add-from
+    day-offset-requires
     mul-length
     add-length
     (λ c. search needs)
