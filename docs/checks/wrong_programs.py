@@ -9,6 +9,8 @@ PAGE = DOCS / "WRONG-PROGRAMS.md"
 TRAPS = re.compile(r"^## Traps in the method\n\n((?:- .*\n)+)", re.M)
 CLAUSE = re.compile(r"^ *(?:ensures|requires) \{.*$", re.M)
 STATED = re.compile(r"(\w+)/specs/(\w+)\.([^\s.]+)")
+# A constant of code.
+CONSTANT = re.compile(r"\b[A-Z]{2}[A-Z0-9_]*\b")
 
 HEAD = """# Wrong programs
 
@@ -139,6 +141,20 @@ def faults_of_edits():
                 yield f"{edit} is for {subject}, which is not there"
         if edit.trap and not any(trap.startswith(edit.trap) for trap in words):
             yield f"{edit} names a trap that document 01 does not have"
+
+
+def faults_of_texts():
+    """An edit's old text stands once in its file, and its new one names no constant that the file has not."""
+    for edit in edits():
+        source = ""
+        for line in edit.path.read_text().splitlines():
+            word, _, text = line.partition(": ")
+            if word == "file":
+                source = (edit.path.parent.parent / text).read_text()
+            elif word == "old" and source.count(text) != 1:
+                yield f"{edit} quotes a text that stands {source.count(text)} times in its file: {text.strip()}"
+            elif word == "new" and (missing := set(CONSTANT.findall(text)) - set(CONSTANT.findall(source))):
+                yield f"{edit} names what its file does not: {', '.join(sorted(missing))}"
 
 
 def faults_of_coverage():
