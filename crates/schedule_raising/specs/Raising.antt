@@ -1,4 +1,4 @@
--- Floors raised to a total, in levels, from the last day on. Which schedule this makes need not be believed: that it is one is `Writing` of demands.
+-- Floors raised to a total, in levels, from the last day on. Which schedule this makes need not be believed: that it is one is `Writing` of promises.
 use mathlib.Core.List.{List}
 use Prim.Native.Nat.{ℕ, zero, suc, _+_, _-_, min, max}
 use Rattle.limits.specs.Limits.{riseOffset, freeLevel}

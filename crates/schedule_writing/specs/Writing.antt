@@ -1,5 +1,5 @@
 -- Document 01: writing a schedule for a day, or for the total, and a value. Which schedule it is need not be believed: that it is one, with the value,
--- is `Writing` of demands.
+-- is `Writing` of promises.
 use mathlib.Core.Bool.{cond, not}
 use mathlib.Core.List.{List}
 use Prim.Native.Nat.{ℕ}
@@ -33,7 +33,7 @@ totalWriteRefusal s value room =
     (cond (s .spent) 9
     (cond (not (within (totalFloor s) (totalCeiling s) value)) 10 0))
 
--- ---- the schedule, in levels: floors, raised from the last day on (`raisedTo` of raising)
+-- ---- the schedule, in levels: floors, raised from the last day on (`raisedTo` of schedule_raising)
 
 -- with the total's value: the present floors, raised to it
 unfoldable pub totalLevels : Session → ℤ → ℕ → ℕ
