@@ -1,8 +1,11 @@
 -- `cloverdrum_read_file` meets its contract, which is that of `read`: the total's bounds are lent back in 32 bits.
+use mathlib.Core.Path.{_≡_, _∙_}
+use lib.IntN.{ℤ}
 use mir.Facts.{toZ-ofZ}
 use mir.Syntax.{w32}
 use mir.Val.{SFits}
 use borrow.Author.Needs.{needs, sfits-of}
+use Rattle.c_files.specs.declared.Contents.{Contents}
 use Rattle.cloverdrum.proofs.cloverdrum_read_file.Statement.{statement}
 use Rattle.cloverdrum.proofs.cloverdrum_read_file.Tie as tie
 
@@ -26,8 +29,13 @@ lowest-fits c = sfits-of {w = w32} (c .struct-told2 .given .1 .0 .1)
 highest-fits : (c : tie.After-struct-told2) → SFits w32 (from-told c .read .result .numbers .highest)
 highest-fits c = sfits-of {w = w32} (c .struct-told2 .given .1 .1 .0 .1)
 
+-- what is lent back
+lent : {q z : Contents} {l h : ℤ} → l ≡ q .numbers .lowest → h ≡ q .numbers .highest → q ≡ z
+    → record { refusal = q .refusal; numbers = record { days = q .numbers .days; lowest = l; highest = h }; cuts = q .cuts } ≡ z
+lent {q} el eh p = (λ i. record { refusal = q .refusal; numbers = record { days = q .numbers .days; lowest = el i; highest = eh i }; cuts = q .cuts }) ∙ p
+
 returns : tie.Need-returns
-returns c = let e = from-told c .read .ensures in (rw (toZ-ofZ (lowest-fits c), toZ-ofZ (highest-fits c)) (e .0), e .1)
+returns c = let e = from-told c .read .ensures in (lent (toZ-ofZ (lowest-fits c)) (toZ-ofZ (highest-fits c)) (e .0), e .1)
 
 pub cloverdrum-read-file-spec : {M : Type 1} → statement M
 cloverdrum-read-file-spec =
