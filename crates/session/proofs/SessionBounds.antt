@@ -7,14 +7,14 @@ use lib.IntN.{pos}
 use lib.Dec.{eqb}
 use lib.ListN.{length-replicate, getD-replicate}
 use borrow.Author.Tests.{eqb-true}
-use Rattle.limits.specs.Limits.{lowestPoint, lowestRise}
+use Rattle.limits.specs.Limits.{lowestPoint}
 use Rattle.theory_lists.specs.Sum.{at}
 use Rattle.theory_lists.specs.Written.{written, length-written, written-below}
 use Rattle.base_codes.specs.Code.{code}
 use Rattle.theory_method.specs.Filter.{zeros}
 use Rattle.theory_method.proofs.Exact.{exact, exact-in-bounds}
 use Rattle.session.specs.Profile.{Profile}
-use Rattle.session.specs.Opening.{boxIn, earlyOpening, badCount, badLength, badPoint, badRise, badTotal, badRange, opened, openedWith, refusedWith, narrowed, allZero, codes}
+use Rattle.session.specs.Opening.{boxIn, earlyOpening, badCount, badLength, badPoint, badRise, badTotal, badRange, opened, openedWith, refusedWith, narrowed, allZero}
 use Rattle.session.specs.Showing.{Fits, SessionInBounds}
 use Rattle.session.proofs.Entered.{entered, codes-bounds}
 

@@ -20,6 +20,7 @@ use Rattle.session.specs.declared.Opened.{Opened}
 abbrev pub profile : Numbers → List ℤ → List ℤ → List ℤ → Profile
 profile m fs cs rs = record { days = m .days; floors = fs; ceilings = cs; rises = rs; lowest = m .lowest; highest = m .highest }
 
+-- a profile's numbers: the day count and the total's bounds
 abbrev pub numbersWith : ℕ → ℤ → ℤ → Numbers
 numbersWith n lo hi = record { days = n; lowest = lo; highest = hi }
 
