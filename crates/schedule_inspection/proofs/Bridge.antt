@@ -13,9 +13,10 @@ use Rattle.theory_lists.specs.Written.{written}
 use Rattle.theory_lists.specs.First.{first-same}
 use Rattle.theory_chains.specs.Sum.{sum, all}
 use Rattle.theory_method.specs.Filter.{zeros}
-use Rattle.base_codes.specs.Code.{within, code, decoded, on, firstOutside}
+use Rattle.base_codes.specs.Code.{within, decoded, on, every, codeOrZero}
 use Rattle.base_codes.proofs.Offset.{Less, less-shift, less-add}
-use Rattle.base_codes.proofs.Laws.{point-less, rise-less, total-less, setpoint-less, decoded-less, within-less, first-before}
+use Rattle.base_codes.proofs.Laws.{point-less, rise-less, total-less, setpoint-less, decoded-less, within-less}
+use Rattle.base_codes.proofs.Every.{every-on, codes-inside}
 use Rattle.base_codes.proofs.Order.{less-test, within-test}
 use Rattle.session.specs.Profile.{total}
 use Rattle.session.specs.Opening.{codes}
@@ -43,14 +44,14 @@ held : (n v : ℕ) → Less (decoded lowestTotal v) (v + 32768 * n) (512000 + 32
 held n v = less-shift (decoded lowestTotal v) v 512000 (32768 * n) (decoded-less lowestTotal v 512000 total-less)
 
 -- a list of n setpoints, and its codes
-module _ (s : Session) (x : List ℤ) (few : s .days ≤ 512) (whole : length x ≡ s .days) (inside : firstOutside lowestSetpoint highestSetpoint x ≡ length x) where
+module _ (s : Session) (x : List ℤ) (few : s .days ≤ 512) (whole : length x ≡ s .days) (inside : every (within lowestSetpoint highestSetpoint) x ≡ true) where
   abbrev xs : List ℕ
   xs = codes lowestSetpoint x (s .days)
 
   setpoint : (k : ℕ) → k < s .days → Less (on x k) (at xs k) 32768
   setpoint k h =
       rw (codes-at lowestSetpoint x (s .days) k h few)
-      (within-less lowestSetpoint highestSetpoint (on x k) 32768 setpoint-less (first-before lowestSetpoint highestSetpoint x k (omega arith)))
+      (within-less lowestSetpoint highestSetpoint (on x k) 32768 setpoint-less (every-on (within lowestSetpoint highestSetpoint) x inside k (omega arith)))
 
   day-test : (k : ℕ) → k < s .days → brokenDay s x k ≡ dayOutside xs (s .present .floors) (s .present .ceilings) k
   day-test k h =
@@ -74,12 +75,12 @@ module _ (s : Session) (x : List ℤ) (few : s .days ≤ 512) (whole : length x 
       outside-test (totalFloor s) (totalCeiling s) (total x) (s .present .lowest + 32768 * s .days) (s .present .highest + 32768 * s .days)
       (sum all (s .days) (at xs) + 512000) (512000 + 32768 * s .days) (held (s .days) (s .present .lowest)) (held (s .days) (s .present .highest)) sum-less
 
-  pub judged-codes : {out : List ℕ} → out ≡ written (λ k. code lowestSetpoint (on x k)) (length x) zeros
+  pub judged-codes : {out : List ℕ} → out ≡ written (λ k. codeOrZero lowestSetpoint highestSetpoint (on x k)) (length x) zeros
       → judgedCodes out (s .present .floors) (s .present .ceilings) (s .rises) (s .days) (s .present .lowest) (s .present .highest) ≡ judged s x
   unfolding judgedCodes judged
   judged-codes made =
       rw (
-        made,
+        made ∙ codes-inside lowestSetpoint highestSetpoint x zeros inside,
         whole,
         first-same (brokenDay s x) (dayOutside xs (s .present .floors) (s .present .ceilings)) (s .days) day-test,
         first-same (brokenRise s x) (fallen xs (s .rises)) (s .days - 1) rise-test,

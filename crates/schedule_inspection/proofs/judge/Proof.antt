@@ -1,11 +1,5 @@
 -- `judge` meets its contract: every number of the list has a code, so the codes stored are those of the whole list.
-use mathlib.Core.Path.{_≡_, ap, sym, _∙_}
-use lib.ListN.{length}
-use Rattle.limits.specs.Limits.{lowestSetpoint, highestSetpoint}
-use Rattle.theory_lists.specs.Written.{written}
-use Rattle.theory_method.specs.Filter.{zeros}
-use Rattle.base_codes.specs.Code.{code, on}
-use Rattle.base_codes.proofs.Laws.{none-outside}
+use mathlib.Core.Path.{_≡_, _∙_}
 use Rattle.schedule_inspection.specs.Inspecting.{judged}
 use Rattle.schedule_inspection.specs.Stages.{judgedCodes}
 use Rattle.schedule_inspection.proofs.Bridge.{judged-codes}
@@ -24,22 +18,13 @@ at-copied c = c .before .before .before .before
 abbrev at-coded : tie.After-judge-codes → tie.After-code-all
 at-coded c = c .before .before .before .before .before
 
--- the whole list is coded, and stored
-whole : (c : tie.After-code-all) → c .code-all .result ≡ length (at-start (at-copied c) .args .list .now)
-whole c = let e = c .code-all .ensures in none-outside lowestSetpoint highestSetpoint (at-start (at-copied c) .args .list .now) (e .0) (e .1 .1)
-
-stored : (c : tie.After-code-all)
-    → let x = at-start (at-copied c) .args .list .now in
-    c .code-all .last .1 .1 .1 .0 ≡ written (λ k. code lowestSetpoint (on x k)) (length x) zeros
-stored c = c .code-all .ensures .1 .0 ∙ ap (λ m. written (λ k. code lowestSetpoint (on (at-start (at-copied c) .args .list .now) k)) m zeros) (whole c)
-
--- so what the codes tell is what the list tells
+-- what the codes tell is what the list tells
 numbered : (c : tie.After-code-all)
     → let a = at-start (at-copied c) .args in
     let s = a .session in
     judgedCodes (c .code-all .last .1 .1 .1 .0) (s .present .floors) (s .present .ceilings) (s .rises) (s .days) (s .present .lowest) (s .present .highest)
     ≡ judged s (a .list .now)
-numbered c = let p = at-start (at-copied c) .pre in judged-codes _ _ (p .0 .present .most) (p .1) (sym (c .code-all .ensures .0) ∙ whole c) (stored c)
+numbered c = let p = at-start (at-copied c) .pre in judged-codes _ _ (p .0 .present .most) (p .1) (c .code-all .ensures .1 .1) (c .code-all .ensures .1 .0)
 
 returns : tie.Need-returns
 returns c = c .judge-codes .ensures ∙ numbered (at-coded c)
