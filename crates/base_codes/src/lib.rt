@@ -65,7 +65,7 @@ pub fn decode(n: usize, low: i32) -> i32
 }
 
 // The same in 16 bits.
-fn decode_short(n: u16, low: i32) -> i16
+pub fn decode_short(n: u16, low: i32) -> i16
     requires { ⌜ (within lowestSetpoint (pos 0) low ≡ true) × (n ≤ 32767) ⌝ }
     ensures { λ r. ⌜ r ≡ decoded low n ⌝ }
 {
