@@ -1,43 +1,100 @@
 // A session's bytes, opened, cut and shown, as a caller in C hands them over.
 ghost use mathlib.Core.Path.{_≡_};
+ghost use Prim.Native.Nat.{_-_};
 ghost use lib.ListN.{length};
+ghost use Rattle.limits.specs.Limits.{lowestPoint, highestPoint, lowestRise, highestRise};
+ghost use Rattle.theory_lists.specs.Written.{written};
+ghost use Rattle.base_codes.specs.Code.{codeOrZero};
 ghost use Rattle.session_cuts.specs.Numbered.{numbered};
 ghost use Rattle.session.specs.Showing.{floorOn, ceilingOn};
-ghost use Rattle.session.specs.Opening.{opened};
-ghost use Rattle.c_lists.specs.Lists.{lentPoints};
+ghost use Rattle.session.specs.Stages.{codedProfile};
+ghost use Rattle.c_lists.specs.Lists.{pointAt, lentPoints};
 ghost use Rattle.c_lists.specs.Profiles.{byteProfile, byteLengthRefusal, profileOf};
-ghost use Rattle.c_storage.specs.Layout.{decoding};
+ghost use Rattle.c_storage.specs.Layout.{sessionBytes, decoding};
 ghost use Rattle.c_sessions.specs.Sessions.{openRefusal, bytesOpened, cutAnswer, bytesCut, changedBytes, shownOver};
+use base_codes::CodedNumbers;
 use base_numbers::min;
+use c_lists::code_points;
 use c_lists::length_refusal;
-use c_lists::points;
 use c_lists::put_cells;
 use c_lists::put_points;
 use c_storage::SESSION_BYTES;
 use c_storage::decode;
 use c_storage::encode;
+use c_storage::store_fresh;
+use limits::HIGHEST_POINT;
+use limits::HIGHEST_RISE;
+use limits::LOWEST_POINT;
+use limits::LOWEST_RISE;
 use limits::MOST_DAYS;
+use session::CodedProfile;
 use session::Numbers;
-use session::Opened;
-use session::Session;
 use session::Shown;
 use session_cutting::CutAnswer;
 
 // ---- opening
 
-// Opens a profile whose lists are as long as its days ask.
-fn open_lists(numbers: Numbers, floors: &[u8], ceilings: &[u8], rises: &[u8]) -> Opened
+// Codes a profile whose lists are as long as its days ask: document 01's checks 3, 4, 5.
+fn code_lists(
+    numbers: Numbers,
+    floors: &[u8],
+    ceilings: &[u8],
+    rises: &[u8],
+    low: &mut [u16; MOST_DAYS],
+    high: &mut [u16; MOST_DAYS],
+    steps: &mut [u16; MOST_DAYS],
+) -> CodedProfile
     requires { ⌜ byteLengthRefusal (byteProfile numbers (now floors) (now ceilings) (now rises)) ≡ 0 ⌝ }
-    ensures { λ r. ⌜ r ≡ opened (profileOf (byteProfile numbers (now (floors .entry)) (now (ceilings .entry)) (now (rises .entry)))) ⌝ }
+    ensures { λ r. ⌜ r ≡ codedProfile (profileOf (byteProfile numbers (now (floors .entry)) (now (ceilings .entry)) (now (rises .entry)))) ⌝ }
+    ensures { λ r. ⌜ now (low .exit) ≡ written (λ k. codeOrZero lowestPoint highestPoint (pointAt (now (floors .entry)) k)) (numbers .days) (now (low .entry)) ⌝ }
+    ensures { λ r. ⌜ now (high .exit) ≡ written (λ k. codeOrZero lowestPoint highestPoint (pointAt (now (ceilings .entry)) k)) (numbers .days) (now (high .entry)) ⌝ }
+    ensures { λ r. ⌜ now (steps .exit) ≡ written (λ k. codeOrZero lowestRise highestRise (pointAt (now (rises .entry)) k)) (numbers .days - 1) (now (steps .entry)) ⌝ }
 {
     let days = numbers.days;
-    let mut low = [0i16; MOST_DAYS];
-    let mut high = [0i16; MOST_DAYS];
-    let mut steps = [0i16; MOST_DAYS];
-    points(floors, days, &mut low);
-    points(ceilings, days, &mut high);
-    points(rises, days - 1, &mut steps);
-    Session::open(numbers, &low[..days], &high[..days], &steps[..days - 1])
+    let bad_floor = code_points(floors, days, LOWEST_POINT, HIGHEST_POINT, low);
+    let bad_ceiling = code_points(ceilings, days, LOWEST_POINT, HIGHEST_POINT, high);
+    let bad_rise = code_points(rises, days - 1, LOWEST_RISE, HIGHEST_RISE, steps);
+    session::code_numbers(numbers, bad_floor | bad_ceiling, bad_rise)
+}
+
+// Opens such a profile into a session's bytes.
+fn open_lists(
+    session: &mut [u8],
+    numbers: Numbers,
+    floors: &[u8],
+    ceilings: &[u8],
+    rises: &[u8],
+) -> u8
+    requires { ⌜ (length (now session) ≡ sessionBytes) × (byteLengthRefusal (byteProfile numbers (now floors) (now ceilings) (now rises)) ≡ 0) ⌝ }
+    ensures { λ r. ⌜ r ≡ openRefusal (now (session .entry)) (byteProfile numbers (now (floors .entry)) (now (ceilings .entry)) (now (rises .entry))) ⌝ }
+    ensures { λ r. ⌜ now (session .exit) ≡ bytesOpened (now (session .entry)) (byteProfile numbers (now (floors .entry)) (now (ceilings .entry)) (now (rises .entry))) ⌝ }
+{
+    let mut low = [0u16; MOST_DAYS];
+    let mut high = [0u16; MOST_DAYS];
+    let mut steps = [0u16; MOST_DAYS];
+    let coded = code_lists(
+        numbers,
+        floors,
+        ceilings,
+        rises,
+        &mut low,
+        &mut high,
+        &mut steps,
+    );
+    if coded.refusal != 0 {
+        return coded.refusal;
+    }
+    let opened = session::open_ranges(&mut low, &mut high, &steps, coded.numbers);
+    if opened.refusal != 0 {
+        return opened.refusal;
+    }
+    let held = CodedNumbers {
+        days: coded.numbers.days,
+        lowest: opened.lowest,
+        highest: opened.highest,
+    };
+    store_fresh(&steps, &low, &high, held, session);
+    0
 }
 
 // Opens a profile: document 01's checks 1 to 6, then 8; a refusal writes no byte.
@@ -58,12 +115,7 @@ pub fn open(
     if refusal != 0 {
         return refusal;
     }
-    let opened = open_lists(numbers, floors, ceilings, rises);
-    if opened.refusal != 0 {
-        return opened.refusal;
-    }
-    encode(opened.session, session);
-    0
+    open_lists(session, numbers, floors, ceilings, rises)
 }
 
 // ---- cutting
