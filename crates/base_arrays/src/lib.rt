@@ -1,7 +1,7 @@
 // Loops over arrays of levels and rise codes, of which the first n elements are the days.
 ghost use mathlib.Core.Path.{_≡_};
-ghost use Prim.Native.Nat.{ℕ, _-_, _*_, _≤_, _<_};
-ghost use Rattle.limits.specs.Limits.{mostDays, highestLevel};
+ghost use Prim.Native.Nat.{ℕ, _+_, _-_, _*_, _≤_, _<_};
+ghost use Rattle.limits.specs.Limits.{mostDays, levelOffset, highestLevel};
 ghost use Rattle.theory_lists.specs.Sum.{at};
 ghost use Rattle.theory_lists.specs.Written.{written};
 ghost use Rattle.theory_chains.specs.Sum.{sum, all};
@@ -26,12 +26,20 @@ pub fn sum(levels: &[u16; MOST_DAYS], n: usize) -> usize
     total
 }
 
+// The sum of n days' levels, given, as a total is held.
+pub fn held_sum(total: usize, n: usize) -> usize
+    requires { ⌜ (n ≤ mostDays) × (total ≤ n * 65535) ⌝ }
+    ensures { λ r. ⌜ r ≡ total + levelOffset * (mostDays - n) ⌝ }
+{
+    total + LEVEL_OFFSET * (MOST_DAYS - n)
+}
+
 // The sum of n days' levels as a total is held.
 pub fn held_total(levels: &[u16; MOST_DAYS], n: usize) -> usize
     requires { ⌜ n ≤ mostDays ⌝ }
     ensures { λ r. ⌜ (r ≡ held n (at (now (levels .entry)))) × (r ≤ 34066432) ⌝ }
 {
-    sum(levels, n) + LEVEL_OFFSET * (MOST_DAYS - n)
+    held_sum(sum(levels, n), n)
 }
 
 // The levels of n days, from the other end of the days and of the scale.

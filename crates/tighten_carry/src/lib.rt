@@ -1,9 +1,10 @@
 // Floors carried forward, and the first day at which a floor is above its ceiling.
 ghost use mathlib.Core.Path.{_≡_};
-ghost use Prim.Native.Nat.{_+_, _-_, _≤_};
+ghost use Prim.Native.Nat.{_+_, _-_, _*_, _≤_};
 ghost use Rattle.limits.specs.Limits.{mostDays, highestLevel, riseOffset, highestRiseCode};
 ghost use Rattle.theory_lists.specs.Sum.{at};
 ghost use Rattle.theory_lists.specs.Written.{written};
+ghost use Rattle.theory_chains.specs.Sum.{sum, all};
 ghost use Rattle.theory_method.specs.Filter.{carried, firstCrossed};
 ghost use Rattle.tighten_carry.specs.Carriable.{Carriable};
 use base_numbers::max;
@@ -25,29 +26,38 @@ fn risen(level: usize, rise: usize) -> usize
     }
 }
 
-// Carries the floors forward, up to the first day whose carried floor is above its ceiling: the result, or n.
+// The days that were carried, and the sum of their floors.
+pub struct Carried {
+    pub days: usize,
+    pub sum: usize,
+}
+
+// Carries the floors forward, up to the first day whose carried floor is above its ceiling, or all n.
 pub fn carry(
     floors: &mut [u16; MOST_DAYS],
     ceilings: &[u16; MOST_DAYS],
     rises: &[u16; MOST_DAYS],
     n: usize,
-) -> usize
+) -> Carried
     requires { ⌜ Carriable (now ceilings) (now rises) n ⌝ }
-    ensures { λ r. ⌜ r ≡ firstCrossed (carried (now (floors .entry)) (now (rises .entry))) (at (now (ceilings .entry))) n ⌝ }
-    ensures { λ r. ⌜ now (floors .exit) ≡ written (carried (now (floors .entry)) (now (rises .entry))) r (now (floors .entry)) ⌝ }
+    ensures { λ r. ⌜ r .days ≡ firstCrossed (carried (now (floors .entry)) (now (rises .entry))) (at (now (ceilings .entry))) n ⌝ }
+    ensures { λ r. ⌜ now (floors .exit) ≡ written (carried (now (floors .entry)) (now (rises .entry))) (r .days) (now (floors .entry)) ⌝ }
+    ensures { λ r. ⌜ (r .sum ≡ sum all (r .days) (carried (now (floors .entry)) (now (rises .entry)))) × (r .sum ≤ r .days * 65535) ⌝ }
 {
     let mut low = 0;
+    let mut sum = 0;
     let mut i = 0;
     while i < n {
         let floor = max(wide(floors[i]), low);
         if wide(ceilings[i]) < floor {
-            return i;
+            return Carried { days: i, sum };
         }
         floors[i] = narrow(floor);
+        sum += floor;
         low = risen(floor, wide(rises[i]));
         i += 1;
     }
-    n
+    Carried { days: n, sum }
 }
 
 // The first day whose floor is above its ceiling, or n.

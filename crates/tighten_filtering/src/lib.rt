@@ -4,6 +4,7 @@ ghost use mathlib.Core.Bool.{false};
 ghost use Rattle.theory_method.specs.Filter.{InBounds, raised, tightened};
 ghost use Rattle.tighten_filtering.specs.Boxed.{boxed};
 ghost use Rattle.tighten_filtering.specs.FloorsReady.{FloorsReady};
+use base_arrays::held_sum;
 use base_arrays::held_total;
 use base_arrays::mirror;
 use base_arrays::reverse;
@@ -65,10 +66,11 @@ pub fn tighten(
 {
     let n = numbers.days;
     let highest = numbers.highest;
-    if carry(floors, ceilings, rises, n) < n {
+    let carried = carry(floors, ceilings, rises, n);
+    if carried.days < n {
         return none();
     }
-    let bottom = held_total(floors, n);
+    let bottom = held_sum(carried.sum, n);
     if highest < bottom {
         return none();
     }

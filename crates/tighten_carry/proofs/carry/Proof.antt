@@ -8,10 +8,10 @@ use Rattle.tighten_carry.proofs.carry.Statement.{statement}
 use Rattle.tighten_carry.proofs.carry.Tie as tie
 
 abbrev Inv-loop : tie.InvT-loop
-Inv-loop floors₀ ceilings rises n low₀ i₀ floors low i = Upto floors₀ ceilings rises n i low floors
+Inv-loop floors₀ ceilings rises n low₀ sum₀ i₀ floors low sum i = Upto floors₀ ceilings rises n i low sum floors
 
 abbrev μ-loop : tie.MeasureT-loop
-μ-loop floors₀ ceilings rises n low₀ i₀ floors low i = n - i
+μ-loop floors₀ ceilings rises n low₀ sum₀ i₀ floors low sum i = n - i
 
 loop-holds : tie.Need-loop-holds Inv-loop μ-loop
 loop-holds c = upto-none
@@ -31,7 +31,7 @@ turn : (c : tie.After-wide2 Inv-loop μ-loop)
     → let f = at-floor c in
     let h = at-turn (f .before) .before in
     let a = h .before .args in
-    Turn (a .floors .now) (a .ceilings .now) (a .rises .now) (a .n) (h .loop .i) (h .loop .low) (h .loop .floors) (f .before .wide .result) (c .wide2 .result) (f .max .result)
+    Turn (a .floors .now) (a .ceilings .now) (a .rises .now) (a .n) (h .loop .i) (h .loop .low) (h .loop .sum) (h .loop .floors) (f .before .wide .result) (c .wide2 .result) (f .max .result)
 turn c =
     let f = at-floor c in
     let t = at-turn (f .before) in
@@ -40,7 +40,7 @@ turn c =
       more = t .loop-test .taken;
       read = f .before .wide .ensures .0;
       floor = f .max .ensures;
-      ceiling = c .wide2 .ensures .0;
+      ceiling = c .wide2 .ensures;
     }
 
 kept : (c : tie.After-risen Inv-loop μ-loop)
@@ -49,7 +49,7 @@ kept : (c : tie.After-risen Inv-loop μ-loop)
     let f = at-floor d in
     let h = at-turn (f .before) .before in
     let a = h .before .args in
-    Kept (a .floors .now) (a .ceilings .now) (a .rises .now) (a .n) (h .loop .i) (h .loop .low) (h .loop .floors) (f .before .wide .result) (d .wide2 .result) (f .max .result)
+    Kept (a .floors .now) (a .ceilings .now) (a .rises .now) (a .n) (h .loop .i) (h .loop .low) (h .loop .sum) (h .loop .floors) (f .before .wide .result) (d .wide2 .result) (f .max .result)
     (k .narrow .result) (c .before .wide3 .result) (c .risen .result)
 kept c =
     let k = at-kept (c .before) in
@@ -99,6 +99,7 @@ carry-spec =
     (λ c. search needs)
     returns
     narrow-requires
+    (λ c. search needs)
     (λ c. search needs)
     (λ c. search needs)
     (λ c. search needs)
