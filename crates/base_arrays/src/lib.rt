@@ -42,6 +42,14 @@ pub fn held_total(levels: &[u16; MOST_DAYS], n: usize) -> usize
     held_sum(sum(levels, n), n)
 }
 
+// A level, from the other end of the scale.
+fn mirror_level(level: u16) -> u16
+    requires { ⌜ level ≤ highestLevel ⌝ }
+    ensures { λ r. ⌜ r ≡ highestLevel - level ⌝ }
+{
+    narrow(HIGHEST_LEVEL - wide(level))
+}
+
 // The levels of n days, from the other end of the days and of the scale.
 pub fn mirror(from: &[u16; MOST_DAYS], n: usize, into: &mut [u16; MOST_DAYS])
     requires { ⌜ (n ≤ mostDays) × ((k : ℕ) → k < n → at (now from) k ≤ highestLevel) ⌝ }
@@ -49,7 +57,28 @@ pub fn mirror(from: &[u16; MOST_DAYS], n: usize, into: &mut [u16; MOST_DAYS])
 {
     let mut k = 0;
     while k < n {
-        into[k] = narrow(HIGHEST_LEVEL - wide(from[n - (k + 1)]));
+        into[k] = mirror_level(from[n - (k + 1)]);
+        k += 1;
+    }
+}
+
+// The ranges of n days, from the other end of the days and of the scale: low is from the ceilings, high from the floors.
+pub fn mirror_both(
+    floors: &[u16; MOST_DAYS],
+    ceilings: &[u16; MOST_DAYS],
+    n: usize,
+    low: &mut [u16; MOST_DAYS],
+    high: &mut [u16; MOST_DAYS],
+)
+    requires { ⌜ (n ≤ mostDays) × ((k : ℕ) → k < n → at (now floors) k ≤ highestLevel) × ((k : ℕ) → k < n → at (now ceilings) k ≤ highestLevel) ⌝ }
+    ensures { λ r. ⌜ now (low .exit) ≡ written (mirrored (now (ceilings .entry)) n) n (now (low .entry)) ⌝ }
+    ensures { λ r. ⌜ now (high .exit) ≡ written (mirrored (now (floors .entry)) n) n (now (high .entry)) ⌝ }
+{
+    let mut k = 0;
+    while k < n {
+        let day = n - (k + 1);
+        low[k] = mirror_level(ceilings[day]);
+        high[k] = mirror_level(floors[day]);
         k += 1;
     }
 }
