@@ -62,7 +62,7 @@ pub fn mirror(from: &[u16; MOST_DAYS], n: usize, into: &mut [u16; MOST_DAYS])
     }
 }
 
-// The ranges of n days, from the other end of the days and of the scale: low is from the ceilings, high from the floors.
+// The ranges of n days, from the other end of the days and of the scale: low from the ceilings, high from the floors.
 pub fn mirror_both(
     floors: &[u16; MOST_DAYS],
     ceilings: &[u16; MOST_DAYS],

@@ -20,8 +20,8 @@ pub struct Carried {
     pub sum: usize,
 }
 
-// Carries the floors forward, up to the first day whose carried floor is above its ceiling, or all n. `up` is the least level
-// of day i plus 2,000, as a rise code is the rise plus 2,000.
+// Carries the floors forward, up to the first day whose carried floor is above its ceiling, or all n. `up` is the least
+// level of day i plus 2,000, as a rise code is the rise plus 2,000.
 pub fn carry(
     floors: &mut [u16; MOST_DAYS],
     ceilings: &[u16; MOST_DAYS],

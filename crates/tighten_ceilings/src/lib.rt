@@ -14,8 +14,8 @@ use limits::LAST_SHIFT;
 use limits::MOST_DAYS;
 use limits::RISE_OFFSET;
 
-// A shifted level v of a day, and its window: the days from that day on to the last whose shifted floor is below v. past is the
-// day after the last, sum is that of their shifted floors, and end is the shift of the last.
+// A shifted level v of a day, and its window: the days from that day on to the last whose shifted floor is below v.
+// past is the day after the last, sum is that of their shifted floors, and end is the shift of the last.
 struct Level {
     v: usize,
     past: usize,
