@@ -104,7 +104,7 @@ fn first_fallen(setpoints: &[u16; MOST_DAYS], rises: &[u16; MOST_DAYS], n: usize
 }
 
 // The first broken rule: days in order, then rises in order, then the total.
-fn judge_codes(
+pub fn judge_codes(
     setpoints: &[u16; MOST_DAYS],
     floors: &[u16; MOST_DAYS],
     ceilings: &[u16; MOST_DAYS],

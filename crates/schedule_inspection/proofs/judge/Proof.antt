@@ -1,14 +1,15 @@
 -- `judge` meets its contract: every number of the list has a code, so the codes stored are those of the whole list.
 use mathlib.Core.Path.{_≡_, ap, sym, _∙_}
+use native.Mathlib.Omega.{arith}
 use lib.ListN.{length}
 use Rattle.limits.specs.Limits.{lowestSetpoint, highestSetpoint}
 use Rattle.theory_lists.specs.Written.{written}
 use Rattle.theory_method.specs.Filter.{zeros}
 use Rattle.base_codes.specs.Code.{code, on}
-use Rattle.base_codes.proofs.Laws.{none-outside}
+use Rattle.base_codes.proofs.Laws.{first-before, none-outside}
 use Rattle.schedule_inspection.specs.Inspecting.{judged}
 use Rattle.schedule_inspection.specs.Stages.{judgedCodes}
-use Rattle.schedule_inspection.proofs.Bridge.{judged-codes}
+use Rattle.schedule_inspection.proofs.Bridge.{setpoint-codes, judged-codes}
 use borrow.Author.Needs.{needs}
 use Rattle.schedule_inspection.proofs.judge.Statement.{statement}
 use Rattle.schedule_inspection.proofs.judge.Tie as tie
@@ -39,7 +40,10 @@ numbered : (c : tie.After-code-all)
     let s = a .session in
     judgedCodes (c .code-all .last .1 .1 .1 .0) (s .present .floors) (s .present .ceilings) (s .rises) (s .days) (s .present .lowest) (s .present .highest)
     ≡ judged s (a .list .now)
-numbered c = let p = at-start (at-copied c) .pre in judged-codes _ _ (p .0 .present .most) (p .1) (sym (c .code-all .ensures .0) ∙ whole c) (stored c)
+numbered c =
+    let p = at-start (at-copied c) .pre in
+    let x = at-start (at-copied c) .args .list .now in
+    judged-codes _ x _ (p .1) (setpoint-codes (on x) _ (p .0 .present .most) (λ k h. first-before lowestSetpoint highestSetpoint x k (omega (arith, whole c, c .code-all .ensures .0, p .1))) (rw (p .1) at (stored c)))
 
 returns : tie.Need-returns
 returns c = c .judge-codes .ensures ∙ numbered (at-coded c)
