@@ -18,7 +18,7 @@ use Rattle.theory_lists.specs.Lent.{list-left, list-filled}
 use Rattle.session.specs.declared.Session.{Session}
 use Rattle.schedule_raising.specs.Raising.{raisedTo}
 use Rattle.schedule_writing.specs.Writing.{dayWriteRefusal, totalWriteRefusal, levelsThrough, dayLevels, totalLevels, dayWritten, totalWritten}
-use Rattle.schedule_writing.specs.Stages.{checked}
+use Rattle.schedule_writing.specs.Stages.{dayChecked, totalChecked}
 use Rattle.schedule_writing.specs.declared.Checked.{Checked}
 use Rattle.schedule_writing.proofs.Checks.{checked-refusal, taken-code, taken-most}
 use Rattle.schedule_writing.proofs.Levels.{Standing, raised-standing, through-standing}
@@ -29,22 +29,16 @@ use Rattle.schedule_writing.proofs.Levels.{Standing, raised-standing, t
 present-bounds : {s : Session} {t : ℕ} → SessionInBounds s → t ≤ 2560000 → InBounds (box (s .present .floors) (s .present .ceilings) (s .rises) (s .days) 0 t)
 present-bounds bounds = let b = bounds .present in refit b (b .floors) (b .ceilings) (b .floor) (b .ceiling) (omega arith)
 
-abbrev pub DayChecked : Session → ℕ → ℤ → Checked → Type 0
-DayChecked s day value q = q ≡ checked lowestPoint (at (s .present .floors) day) (at (s .present .ceilings) day) (s .spent) value
-
-abbrev pub TotalChecked : Session → ℤ → Checked → Type 0
-TotalChecked s value q = q ≡ checked lowestTotal (s .present .lowest) (s .present .highest) (s .spent) value
-
--- it is not refused
+-- a value by the present range, which does not refuse it
 pub record DayTaken (s : Session) (day : ℕ) (value : ℤ) (q : Checked) : Type 0 where
   pub bounds : SessionInBounds s
   pub known : day < s .days
-  pub right : DayChecked s day value q
+  pub right : q ≡ dayChecked s day value
   pub none : q .refusal ≡ 0
 
 pub record TotalTaken (s : Session) (value : ℤ) (q : Checked) : Type 0 where
   pub bounds : SessionInBounds s
-  pub right : TotalChecked s value q
+  pub right : q ≡ totalChecked s value
   pub none : q .refusal ≡ 0
 
 -- so it is what writing asks for, and the levels written are the schedule's
@@ -73,13 +67,13 @@ module _ {s : Session} {value : ℤ} {q : Checked} (d : TotalTaken s value q) wh
 
 -- the number that is given for it, where the list is n long and the day in the profile
 module _ (s : Session) (value : ℤ) {q : Checked} {room : ℕ} (long : room ≡ s .days) where
-  pub day-refusal : (day : ℕ) → day < s .days → DayChecked s day value q → q .refusal ≡ dayWriteRefusal s day value room
+  pub day-refusal : (day : ℕ) → day < s .days → q ≡ dayChecked s day value → q .refusal ≡ dayWriteRefusal s day value room
   unfolding dayWriteRefusal
   day-refusal day known e =
       rw (eq-eqb room (s .days) long, lt-ltb day (s .days) known)
       (ap (λ c. c .refusal) e ∙ checked-refusal lowestPoint value (at (s .present .floors) day) (at (s .present .ceilings) day) (s .spent))
 
-  pub total-refusal : TotalChecked s value q → q .refusal ≡ totalWriteRefusal s value room
+  pub total-refusal : q ≡ totalChecked s value → q .refusal ≡ totalWriteRefusal s value room
   unfolding totalWriteRefusal
   total-refusal e =
       rw (eq-eqb room (s .days) long) (ap (λ c. c .refusal) e ∙ checked-refusal lowestTotal value (s .present .lowest) (s .present .highest) (s .spent))
@@ -107,7 +101,7 @@ module _ (s : Session) (day : ℕ) (value : ℤ) (l : List ℤ) where
   day-unknown h u = day-left (rw (eq-eqb (length l) (s .days) h, le-ltb day (s .days) u)) (λ z. absurd (omega arith))
 
   module _ (long : length l ≡ s .days) {q : Checked} where
-    pub day-refused : day < s .days → DayChecked s day value q → (q .refusal ≡ 0 → ⊥) → DayAnswer s day value l (q .refusal) l
+    pub day-refused : day < s .days → q ≡ dayChecked s day value → (q .refusal ≡ 0 → ⊥) → DayAnswer s day value l (q .refusal) l
     day-refused known e = day-left (day-refusal s value long day known e)
 
     pub day-written : DayTaken s day value q → {out : List ℕ} {l′ : List ℤ} → Standing (dayLevels s day value) (s .days) out
@@ -132,7 +126,7 @@ module _ (s : Session) (value : ℤ) (l : List ℤ) where
   total-length h = total-left (rw (ne-eqb (length l) (s .days) h)) (λ z. absurd (omega arith))
 
   module _ (long : length l ≡ s .days) {q : Checked} where
-    pub total-refused : TotalChecked s value q → (q .refusal ≡ 0 → ⊥) → TotalAnswer s value l (q .refusal) l
+    pub total-refused : q ≡ totalChecked s value → (q .refusal ≡ 0 → ⊥) → TotalAnswer s value l (q .refusal) l
     total-refused e = total-left (total-refusal s value long e)
 
     pub total-written : TotalTaken s value q → {out : List ℕ} {l′ : List ℤ} → Standing (totalLevels s value) (s .days) out

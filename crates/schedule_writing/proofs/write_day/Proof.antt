@@ -1,10 +1,11 @@
 -- `write_day` meets its contract: a law of Stages for each return. That the value is taken, and the levels written through it, is said once.
-use mathlib.Core.Path.{refl}
+use mathlib.Core.Path.{_≡_, refl}
 use mir.Facts.{toZ-ofZ}
 use native.Mathlib.Omega.{arith}
 use Rattle.schedule_writing.specs.Writing.{dayLevels}
+use Rattle.schedule_writing.specs.Stages.{dayChecked}
 use Rattle.schedule_writing.proofs.Levels.{Standing}
-use Rattle.schedule_writing.proofs.Stages.{DayChecked, DayTaken, day-asks, day-standing, day-length, day-unknown, day-refused, day-written}
+use Rattle.schedule_writing.proofs.Stages.{DayTaken, day-asks, day-standing, day-length, day-unknown, day-refused, day-written}
 use borrow.Author.Needs.{needs}
 use Rattle.schedule_writing.proofs.write_day.Statement.{statement}
 use Rattle.schedule_writing.proofs.write_day.Tie as tie
@@ -35,7 +36,7 @@ at-written c = c .before
 abbrev from-checked : tie.After-check-day → tie.Start
 from-checked c = at-start (at-room (at-known (c .before)))
 
-checked : (c : tie.After-check-day) → let a = from-checked c .args in DayChecked (a .session) (a .day) (a .value) (c .check-day .result)
+checked : (c : tie.After-check-day) → let a = from-checked c .args in c .check-day .result ≡ dayChecked (a .session) (a .day) (a .value)
 checked c = rw (toZ-ofZ (from-checked c .fits .value)) at (c .check-day .ensures)
 
 taken : (c : tie.Else3) → let k = at-checked c in let a = from-checked k .args in DayTaken (a .session) (a .day) (a .value) (k .check-day .result)

@@ -1,10 +1,11 @@
 -- `write_total` meets its contract: a law of Stages for each return. That the value is taken, and the levels raised to it, is said once.
-use mathlib.Core.Path.{refl}
+use mathlib.Core.Path.{_≡_, refl}
 use mir.Facts.{toZ-ofZ}
 use native.Mathlib.Omega.{arith}
 use Rattle.schedule_writing.specs.Writing.{totalLevels}
+use Rattle.schedule_writing.specs.Stages.{totalChecked}
 use Rattle.schedule_writing.proofs.Levels.{Standing}
-use Rattle.schedule_writing.proofs.Stages.{TotalChecked, TotalTaken, total-asks, total-standing, total-length, total-refused, total-written}
+use Rattle.schedule_writing.proofs.Stages.{TotalTaken, total-asks, total-standing, total-length, total-refused, total-written}
 use borrow.Author.Needs.{needs}
 use Rattle.schedule_writing.proofs.write_total.Statement.{statement}
 use Rattle.schedule_writing.proofs.write_total.Tie as tie
@@ -29,7 +30,7 @@ at-raised c = c .before .before
 abbrev at-written : tie.After-list → tie.After-decode-all
 at-written c = c .before
 
-checked : (c : tie.After-check-total) → let a = at-start (at-room c) .args in TotalChecked (a .session) (a .value) (c .check-total .result)
+checked : (c : tie.After-check-total) → let a = at-start (at-room c) .args in c .check-total .result ≡ totalChecked (a .session) (a .value)
 checked c = rw (toZ-ofZ (at-start (at-room c) .fits .value)) at (c .check-total .ensures)
 
 taken : (c : tie.Else2) → let k = at-checked c in let a = at-start (at-room k) .args in TotalTaken (a .session) (a .value) (k .check-total .result)
