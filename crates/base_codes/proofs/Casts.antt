@@ -1,4 +1,4 @@
--- The tests, sums and casts of signed numbers, as the needs of `code`, `decode` and `decode_short` have them.
+-- The tests, sums and casts of signed numbers, as the needs of `code`, `code_cell`, `decode` and `decode_short` have them.
 use Prim.Native.Nat.{ℕ, _≤_, _<_, _^_}
 use mathlib.Core.Path.{_≡_, refl, ap, _∙_, subst}
 use mathlib.Core.Bool.{Bool, true, false, cond}
@@ -16,8 +16,8 @@ use Rattle.limits.specs.Limits.{lowestSetpoint, highestSetpoint}
 use Rattle.base_codes.specs.declared.Coded.{Coded}
 use Rattle.base_codes.specs.declared.Coded.the-variants.{Code, Outside}
 use Rattle.base_codes.proofs.Offset.{Less}
-use Rattle.base_codes.specs.Code.{within, code, decoded, coded}
-use Rattle.base_codes.proofs.Laws.{code-difference, code-most, decoded-less, within-yes}
+use Rattle.base_codes.specs.Code.{within, code, decoded, coded, codedCell}
+use Rattle.base_codes.proofs.Laws.{code-difference, code-most, decoded-less, within-yes, coded-code, coded-outside}
 
 -- a number of 32 bits, read back from its bits
 abbrev pub seen : ℤ → ℤ
@@ -49,6 +49,10 @@ setpoint-within {z = negsuc a} f = rw (le-leb a 32767 (omega (arith, f .sfits)))
 -- an answer on a number read back from its bits
 pub coded-seen : (low high : ℤ) {z : ℤ} {r : Coded} → SFits w32 z → r ≡ coded low high (seen z) → r ≡ coded low high z
 coded-seen low high f e = e ∙ ap (coded low high) (toZ-ofZ f)
+
+-- bounds read back from their bits
+pub bounds-seen : {low high : ℤ} → SFits w32 low → SFits w32 high → {most : ℕ} → code low high ≤ most → code (seen low) (seen high) ≤ most
+bounds-seen fl fh h = rw (toZ-ofZ fl, toZ-ofZ fh) h
 
 -- `code`
 outside : (low high z : ℤ) → (low ≤ℤ z → z ≤ℤ high → ⊥) → Outside ≡ coded low high z
@@ -103,6 +107,29 @@ module _ {low high z : ℤ} where
 
     pub taken : Code (natAbs (seen (seen z -ℤ seen low))) ≡ coded low high z
     taken = rw (same, inside)
+
+-- `code_cell`: what `code` gave on a number of 16 bits, cast to 32
+pub record Answered (low high z : ℤ) (r : Coded) : Type 0 where
+  pub low-fits : SFits w32 low
+  pub high-fits : SFits w32 high
+  pub z-fits : SFits w16 z
+  pub cast : r ≡ coded (seen low) (seen high) (seen (toZ w16 (ofZ w16 z)))
+
+module _ {low high z : ℤ} {r : Coded} (a : Answered low high z r) where
+  answer : r ≡ coded low high z
+  answer = rw (toZ-ofZ (a .low-fits), toZ-ofZ (a .high-fits), recast w16 w32 (a .z-fits) (sfits-widen tt (a .z-fits))) at (a .cast)
+
+  pub cell-outside : r ≡ Outside → record { code = 0; outside = true } ≡ codedCell low high z
+  cell-outside o = rw (coded-outside low high z answer o)
+
+  module _ {c : ℕ} (o : r ≡ Code c) where
+    pub cell-fits : code low high ≤ 65535 → Fits w16 c
+    cell-fits h =
+        let t = coded-code low high z c answer o in
+        record { fits = omega (arith, code-most low high z (t .0)) }
+
+    pub cell-coded : record { code = c; outside = false } ≡ codedCell low high z
+    cell-coded = let t = coded-code low high z c answer o in rw (t .0, t .1)
 
 -- `decode` and `decode_short`
 low-less : (low : ℤ) → low ≤ℤ pos 0 → Less low 0 (natAbs low)

@@ -1,22 +1,17 @@
--- What holds of codes, of answers, and of the first number outside its bounds.
+-- What holds of codes and of answers.
 use mathlib.Core.Path.{_≡_, refl, sym, ap, _∙_}
 use mathlib.Core.Logic.{_↔_}
-use mathlib.Core.Bool.{Bool, true, false, cond, not, and-eq-true-iff, true≢false}
-use mathlib.Core.List.{List}
-use Prim.Native.Nat.{ℕ, zero, suc, _+_, _-_, _≤_, _<_}
+use mathlib.Core.Bool.{Bool, true, false, cond, and-eq-true-iff, true≢false}
+use Prim.Native.Nat.{ℕ, zero, suc, _+_, _-_, _≤_}
 use native.Mathlib.Omega.{arith}
-use native.Mathlib.Decide.{decLt}
 use lib.IntN.{ℤ, pos, negsuc, negℤ, natAbs, _-ℤ_, +ℤ-comm, +ℤ-negℤ-cancel, -ℤ-+ℤ-cancel}
-use lib.ListN.{length}
 use lib.Signed.{_≤ℤ_, leZ, leZ-yes}
 use denote.Floats.{passes, is-true}
-use borrow.Author.Tests.{not-true, not-false}
 use Rattle.limits.specs.Limits.{lowestPoint, highestPoint, lowestRise, highestRise, lowestTotal, highestTotal, lowestSetpoint}
-use Rattle.theory_lists.specs.First.{first}
 use Rattle.base_codes.specs.declared.Coded.{Coded}
 use Rattle.base_codes.specs.declared.Coded.the-variants.{Code, Outside}
 use Rattle.base_codes.proofs.Offset.{Less, le-less, less-same, less-add}
-use Rattle.base_codes.specs.Code.{within, code, decoded, on, firstOutside, coded}
+use Rattle.base_codes.specs.Code.{within, code, decoded, coded}
 
 -- the lowest bounds, as offsets
 pub point-less : Less lowestPoint 0 1000
@@ -130,23 +125,3 @@ coded-outside {r} low high z e f = go (within low high z) e
     go : (b : Bool) → r ≡ cond b (Code (code low z)) Outside → b ≡ false
     go true p = cc
     go false p = refl
-
--- ---- the first number outside its bounds
-
-module _ (low high : ℤ) (xs : List ℤ) where
-  pub first-most : firstOutside low high xs ≤ length xs
-  first-most = first (λ k. not (within low high (on xs k))) (length xs) .most
-
-  pub first-before : (k : ℕ) → k < firstOutside low high xs → within low high (on xs k) ≡ true
-  first-before k h = not-false _ (first (λ j. not (within low high (on xs j))) (length xs) .before k h)
-
-  pub first-here : firstOutside low high xs < length xs → within low high (on xs (firstOutside low high xs)) ≡ false
-  first-here h = not-true _ (first (λ j. not (within low high (on xs j))) (length xs) .here h)
-
-  -- where the number at that index is within, the index is the length
-  pub none-outside : {r : ℕ} → r ≡ firstOutside low high xs → (r < length xs → within low high (on xs r) ≡ true) → r ≡ length xs
-  none-outside {r} e h = go (decLt r (length xs))
-    where
-      go : Dec (r < length xs) → r ≡ length xs
-      go (yes l) = absurd (true≢false (sym (h l) ∙ rw (← e) at (first-here (rw e at l))))
-      go (no l) = omega (arith, first-most)

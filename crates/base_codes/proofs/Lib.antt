@@ -1,4 +1,5 @@
 pub mod Casts
+pub mod Every
 pub mod Loops
 pub mod Laws
 pub mod Offset

@@ -1,20 +1,26 @@
 // The border between signed numbers within bounds and the unsigned numbers that the other crates work with: a number's code is how far it is above its
 // lowest bound. The bounds are the caller's.
 ghost use mathlib.Core.Path.{_≡_};
-ghost use mathlib.Core.Bool.{true};
+ghost use mathlib.Core.Bool.{true, not};
 ghost use Prim.Native.Nat.{ℕ, _≤_, _<_};
 ghost use lib.IntN.{pos};
 ghost use lib.ListN.{length, getD};
 ghost use lib.Signed.{_≤ℤ_};
 ghost use Rattle.limits.specs.Limits.{mostDays, lowestSetpoint, highestSetpoint};
 ghost use Rattle.theory_lists.specs.Written.{written};
-ghost use Rattle.base_codes.specs.Code.{within, code, decoded, on, firstOutside, coded};
+ghost use Rattle.base_codes.specs.Code.{within, code, decoded, on, every, coded, codeOrZero, codedCell};
 use limits::MOST_DAYS;
 
 // A number's code, or that it is outside its bounds.
 pub enum Coded {
     Code(usize),
     Outside,
+}
+
+// A number's code in 16 bits, 0 where the number is outside its bounds, and whether it is.
+pub struct CodedCell {
+    pub code: u16,
+    pub outside: bool,
 }
 
 // A profile's numbers as codes: the day count, and the total's bounds as they are held.
@@ -37,23 +43,39 @@ pub fn code(z: i32, low: i32, high: i32) -> Coded
     Coded::Code((z - low) as usize)
 }
 
-// Stores the code of each number in turn, up to the first one outside its bounds, whose index it gives, or the length. That one too has 16 bits.
-pub fn code_all(xs: &[i16], low: i32, high: i32, out: &mut [u16; MOST_DAYS]) -> usize
-    requires { ⌜ (code low high ≤ 65535) × (length (now xs) ≤ mostDays) ⌝ }
-    ensures { λ r. ⌜ r ≡ firstOutside low high (now (xs .entry)) ⌝ }
-    ensures { λ r. ⌜ now (out .exit) ≡ written (λ k. code low (on (now (xs .entry)) k)) r (now (out .entry)) ⌝ }
-    ensures { λ r. ⌜ (r < length (now (xs .entry)) → within lowestSetpoint highestSetpoint (on (now (xs .entry)) r) ≡ true) ⌝ }
+// The same in 16 bits: the code, 0 where the number is outside, and whether it is.
+pub fn code_cell(z: i16, low: i32, high: i32) -> CodedCell
+    requires { ⌜ code low high ≤ 65535 ⌝ }
+    ensures { λ r. ⌜ r ≡ codedCell low high z ⌝ }
 {
+    let Coded::Code(c) = code(z as i32, low, high) else {
+        return CodedCell {
+            code: 0,
+            outside: true,
+        };
+    };
+    CodedCell {
+        code: c as u16,
+        outside: false,
+    }
+}
+
+// Stores the code of each number, 0 for one outside its bounds, and says whether there is one. All have 16 bits.
+pub fn code_all(xs: &[i16], low: i32, high: i32, out: &mut [u16; MOST_DAYS]) -> bool
+    requires { ⌜ (code low high ≤ 65535) × (length (now xs) ≤ mostDays) ⌝ }
+    ensures { λ r. ⌜ r ≡ not (every (within low high) (now (xs .entry))) ⌝ }
+    ensures { λ r. ⌜ now (out .exit) ≡ written (λ k. codeOrZero low high (on (now (xs .entry)) k)) (length (now (xs .entry))) (now (out .entry)) ⌝ }
+    ensures { λ r. ⌜ every (within lowestSetpoint highestSetpoint) (now (xs .entry)) ≡ true ⌝ }
+{
+    let mut outside = false;
     let mut i = 0;
     while i < xs.len() {
-        let r = code(xs[i] as i32, low, high);
-        let Coded::Code(c) = r else {
-            return i;
-        };
-        out[i] = c as u16;
+        let cell = code_cell(xs[i], low, high);
+        out[i] = cell.code;
+        outside = outside | cell.outside;
         i += 1;
     }
-    i
+    outside
 }
 
 // The number n above low.
@@ -65,7 +87,7 @@ pub fn decode(n: usize, low: i32) -> i32
 }
 
 // The same in 16 bits.
-fn decode_short(n: u16, low: i32) -> i16
+pub fn decode_short(n: u16, low: i32) -> i16
     requires { ⌜ (within lowestSetpoint (pos 0) low ≡ true) × (n ≤ 32767) ⌝ }
     ensures { λ r. ⌜ r ≡ decoded low n ⌝ }
 {

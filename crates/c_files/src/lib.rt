@@ -21,10 +21,10 @@ use file_format::day_offset;
 use file_parts::put_days;
 use file_parts::put_header;
 use file_writing::WriteAnswer;
-use file_writing::profile_refusal;
 use limits::MOST_CUTS;
 use limits::MOST_DAYS;
 use session::Numbers;
+use session::early_refusal;
 use session_cuts::Numbered;
 use session_cutting::malformed;
 
@@ -198,7 +198,7 @@ pub fn write(
     points(floors, days, &mut low);
     points(ceilings, days, &mut high);
     points(rises, days - 1, &mut steps);
-    let of_profile = profile_refusal(numbers, &low[..days], &high[..days], &steps[..days - 1]);
+    let of_profile = early_refusal(numbers, &low[..days], &high[..days], &steps[..days - 1]);
     if of_profile != 0 {
         return refuse(of_profile);
     }

@@ -4,7 +4,7 @@ ghost use Prim.Native.Nat.{_≤_};
 ghost use lib.ListN.{length, getD};
 ghost use Rattle.limits.specs.Limits.{mostCuts};
 ghost use Rattle.theory_lists.specs.First.{firstNonzero};
-ghost use Rattle.session.specs.Opening.{earlyOpening, profile};
+ghost use Rattle.session.specs.Opening.{profile};
 ghost use Rattle.session_cuts.specs.Sheet.{blank, cutsOf};
 ghost use Rattle.session_cutting.specs.Cutting.{malformed};
 ghost use Rattle.file_writing.specs.Writing.{writeAnswer, output};
@@ -15,7 +15,7 @@ use file_parts::put_entries;
 use file_parts::put_header;
 use limits::MOST_CUTS;
 use session::Numbers;
-use session::Session;
+use session::early_refusal;
 use session_cuts::Entry;
 use session_cuts::Sheet;
 
@@ -23,17 +23,6 @@ use session_cuts::Sheet;
 pub struct WriteAnswer {
     pub refusal: u8,
     pub length: usize,
-}
-
-// 1, 2, 3, 4, 5, 6 as opening does; whether there is a schedule is not checked.
-pub fn profile_refusal(numbers: Numbers, floors: &[i16], ceilings: &[i16], rises: &[i16]) -> u8
-    ensures { λ r. ⌜ r ≡ earlyOpening (profile numbers (now (floors .entry)) (now (ceilings .entry)) (now (rises .entry))) ⌝ }
-{
-    let opened = Session::open(numbers, floors, ceilings, rises);
-    if opened.refusal == 8 {
-        return 0;
-    }
-    opened.refusal
 }
 
 fn entry_refusal(entry: Entry, days: usize) -> u8
@@ -86,7 +75,7 @@ pub fn write(
     if MOST_CUTS < count {
         return refuse(1);
     }
-    let of_profile = profile_refusal(numbers, floors, ceilings, rises);
+    let of_profile = early_refusal(numbers, floors, ceilings, rises);
     let of_cuts = entries_refusal(entries, count, days);
     if of_profile != 0 {
         return refuse(of_profile);

@@ -115,7 +115,7 @@ shut-eight p e n = go (ℕ-discrete (opened p .refusal) 8)
   where
     go : Dec (opened p .refusal ≡ 8) → opened p .refusal ≡ 8
     go (yes h) = h
-    go (no h) = absurd (n (opened-refusal p .1 h ∙ e))
+    go (no h) = absurd (n (opened-refusal p h ∙ e))
 
 -- by the reader's answer: refused, or opened and cut
 by-reading : (b : List ℕ) (P : Opened → Type 0) → ((Reading.earlyReading b ≡ 0 → ⊥) → P (refusedWith (Reading.earlyReading b)))

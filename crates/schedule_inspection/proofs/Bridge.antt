@@ -13,7 +13,7 @@ use Rattle.theory_lists.specs.Written.{written, written-below}
 use Rattle.theory_lists.specs.First.{first-same}
 use Rattle.theory_chains.specs.Sum.{sum, all}
 use Rattle.theory_method.specs.Filter.{zeros}
-use Rattle.base_codes.specs.Code.{within, code, decoded, on}
+use Rattle.base_codes.specs.Code.{within, decoded, on, codeOrZero}
 use Rattle.base_codes.proofs.Offset.{Less, less-shift, less-add}
 use Rattle.base_codes.proofs.Laws.{point-less, rise-less, total-less, setpoint-less, decoded-less, within-less}
 use Rattle.base_codes.proofs.Order.{less-test, within-test}
@@ -40,11 +40,11 @@ level v = less-shift (decoded lowestPoint v) v 1000 31768 (decoded-less lowestPo
 held : (n v : ℕ) → Less (decoded lowestTotal v) (v + 32768 * n) (512000 + 32768 * n)
 held n v = less-shift (decoded lowestTotal v) v 512000 (32768 * n) (decoded-less lowestTotal v 512000 total-less)
 
--- the codes of n setpoints f, where they are stored
+-- n setpoints f, and their codes where they are stored
 pub setpoint-codes : (f : ℕ → ℤ) (n : ℕ) {xs : List ℕ} → n ≤ 512 → ((k : ℕ) → k < n → within lowestSetpoint highestSetpoint (f k) ≡ true)
-    → xs ≡ written (λ k. code lowestSetpoint (f k)) n zeros → (k : ℕ) → k < n → Less (f k) (at xs k) 32768
+    → xs ≡ written (λ k. codeOrZero lowestSetpoint highestSetpoint (f k)) n zeros → (k : ℕ) → k < n → Less (f k) (at xs k) 32768
 setpoint-codes f n few inside e k h =
-    rw (e, written-below (λ j. code lowestSetpoint (f j)) 0 n zeros k h (omega (arith, length-replicate {A = ℕ} 512 0)))
+    rw (e, written-below (λ j. codeOrZero lowestSetpoint highestSetpoint (f j)) 0 n zeros k h (omega (arith, length-replicate {A = ℕ} 512 0)), inside k h)
     (within-less lowestSetpoint highestSetpoint (f k) 32768 setpoint-less (inside k h))
 
 -- a list of n setpoints, and its codes

@@ -4,10 +4,10 @@ use mathlib.Core.List.{List}
 use Prim.Native.Nat.{ℕ, _≤_, _<_}
 use native.Mathlib.Omega.{arith}
 use native.Mathlib.Decide.{decLt}
-use lib.ListN.{length, getD, set}
-use lib.Seq.{getD-set-other, ext-getD}
+use lib.ListN.{length, set}
+use lib.Seq.{getD-set-other}
 use Rattle.theory_lists.specs.Sum.{at}
-use Rattle.theory_lists.specs.Written.{written, length-written, written-below, written-past}
+use Rattle.theory_lists.specs.Written.{written, length-written, written-below, written-past, written-over}
 use Rattle.theory_method.specs.Filter.{box, InBounds, carried, firstCrossed, forwarded}
 use Rattle.theory_method.specs.Levels.{refit, refit-day}
 use Rattle.theory_method.specs.Stages.{crossing}
@@ -15,15 +15,6 @@ use Rattle.tighten_carry.specs.Carriable.{Carriable}
 use Rattle.schedule_raising.specs.Raising.{raisedTo}
 use Rattle.schedule_raising.proofs.Laws.{raised-stands, raised-small}
 use Rattle.schedule_writing.specs.Writing.{levelsThrough}
-
--- what stood on the places that are written does not matter
-pub written-over : {A : Type 0} (f : ℕ → A) (d : A) (n : ℕ) (l m : List A) → n ≤ length l → length m ≡ length l → ((k : ℕ) → n ≤ k → getD m k d ≡ getD l k d) → written f n m ≡ written f n l
-written-over f d n l m room e past =
-    ext-getD d (written f n m) (written f n l) (length-written f n m ∙ e ∙ sym (length-written f n l)) (λ k h. go k (decLt k n))
-  where
-    go : (k : ℕ) → Dec (k < n) → getD (written f n m) k d ≡ getD (written f n l) k d
-    go k (yes h) = written-below f d n m k h (omega arith) ∙ sym (written-below f d n l k h room)
-    go k (no h) = written-past f d n m k (omega arith) ∙ past k (omega arith) ∙ sym (written-past f d n l k (omega arith))
 
 -- a schedule's levels x stand on the first n places of an array
 pub record Standing (x : ℕ → ℕ) (n : ℕ) (out : List ℕ) : Type 0 where

@@ -1,8 +1,8 @@
 -- What holds of a profile that no check before 8 refuses.
 use mathlib.Core.Path.{_≡_, refl, _∙_}
 use mathlib.Core.Bool.{Bool, true, false, _&&_, _||_, and-eq-true-iff}
-use mathlib.Core.List.{List, [], _∷_}
-use Prim.Native.Nat.{ℕ, zero, suc, _+_, _-_, _≤_, _<_}
+use mathlib.Core.List.{List}
+use Prim.Native.Nat.{ℕ, _+_, _-_, _≤_, _<_}
 use native.Mathlib.Omega.{arith}
 use native.Mathlib.Decide.{decLt}
 use lib.IntN.{ℤ}
@@ -13,21 +13,17 @@ use Rattle.limits.specs.Limits.{lowestPoint, highestPoint, lowestRise, highestR
 use Rattle.theory_lists.specs.Checks.{cond-zero, or-false}
 use Rattle.theory_lists.specs.Sum.{at}
 use Rattle.theory_lists.specs.Written.{written-below, written-past, length-written}
-use Rattle.base_codes.specs.Code.{within, code, on}
+use Rattle.base_codes.specs.Code.{within, code, on, every}
+use Rattle.base_codes.proofs.Every.{every-on}
 use Rattle.base_codes.proofs.Offset.{Less}
 use Rattle.base_codes.proofs.Laws.{point-less, rise-less, total-less, within-less, point-most, rise-most, total-most}
 use Rattle.theory_method.specs.Filter.{InBounds, zeros}
 use Rattle.session.specs.Profile.{Profile}
-use Rattle.session.specs.Opening.{boxIn, earlyOpening, every, badCount, badLength, badPoint, badRise, badTotal, codes}
+use Rattle.session.specs.Opening.{boxIn, earlyOpening, badCount, badLength, badPoint, badRise, badTotal, codes}
 
 pub or-true : (a b : Bool) → b ≡ true → (a || b) ≡ true
 or-true true b e = refl
 or-true false b e = e
-
-pub every-on : (test : ℤ → Bool) (zs : List ℤ) → every test zs ≡ true → (k : ℕ) → k < length zs → test (on zs k) ≡ true
-every-on test [] e k h = absurd (omega arith)
-every-on test (z ∷ zs) e zero h = and-eq-true-iff (test z) (every test zs) .0 e .0
-every-on test (z ∷ zs) e (suc k) h = every-on test zs (and-eq-true-iff (test z) (every test zs) .0 e .1) k (omega arith)
 
 -- what 1 and 2 let pass
 pub record Sized (p : Profile) : Type 0 where

@@ -1,7 +1,7 @@
 -- What opening hands back: its refusal, and a session whose numbers are in bounds.
 use mathlib.Core.Path.{_≡_, refl, _∙_}
 use mathlib.Core.Bool.{Bool, true, false, cond}
-use Prim.Native.Nat.{ℕ, _-_, _≤_, _<_}
+use Prim.Native.Nat.{ℕ, _≤_, _<_}
 use native.Mathlib.Omega.{arith}
 use lib.IntN.{pos}
 use lib.Dec.{eqb}
@@ -33,16 +33,15 @@ earlier-few p = go (badCount p) (badLength p) (badPoint p) (badRise p) (badTotal
     go false false false false false true = omega arith
     go false false false false false false = omega arith
 
--- 8 only where no check before 8 refuses, and else what those checks say
-pub opened-refusal : (p : Profile) → (opened p .refusal ≡ 8 → earlyOpening p ≡ 0) × ((opened p .refusal ≡ 8 → ⊥) → opened p .refusal ≡ earlyOpening p)
+-- other than 8 it is what the checks before 8 say
+pub opened-refusal : (p : Profile) → (opened p .refusal ≡ 8 → ⊥) → opened p .refusal ≡ earlyOpening p
 unfolding opened
-opened-refusal p = go (eqb (earlyOpening p) 0) (narrowed p .found) refl refl
+opened-refusal p h = go (eqb (earlyOpening p) 0) (narrowed p .found) refl refl
   where
-    go : (early found : Bool) → eqb (earlyOpening p) 0 ≡ early → narrowed p .found ≡ found
-        → (opened p .refusal ≡ 8 → earlyOpening p ≡ 0) × ((opened p .refusal ≡ 8 → ⊥) → opened p .refusal ≡ earlyOpening p)
-    go true true e f = (λ h. eqb-true (earlyOpening p) 0 e, λ h. rw (e, f) (omega (arith, eqb-true (earlyOpening p) 0 e)))
-    go true false e f = (λ h. eqb-true (earlyOpening p) 0 e, λ h. absurd (h (rw (e, f) refl)))
-    go false found e f = (λ h. absurd (omega (arith, rw e at h, earlier-few p)), λ h. rw e refl)
+    go : (early found : Bool) → eqb (earlyOpening p) 0 ≡ early → narrowed p .found ≡ found → opened p .refusal ≡ earlyOpening p
+    go true true e f = rw (e, f) (omega (arith, eqb-true (earlyOpening p) 0 e))
+    go true false e f = absurd (h (rw (e, f) refl))
+    go false found e f = rw e refl
 
 -- ---- its session
 

@@ -8,7 +8,7 @@ use lib.ListN.{length}
 use lib.Signed.{ltZ}
 use Rattle.limits.specs.Limits.{mostDays, lowestPoint, highestPoint, lowestRise, highestRise, lowestTotal, highestTotal}
 use Rattle.theory_lists.specs.Written.{written}
-use Rattle.base_codes.specs.Code.{within, code, on}
+use Rattle.base_codes.specs.Code.{within, code, on, every}
 use Rattle.theory_method.specs.Filter.{Box, box, Tight, tightened, zeros}
 use Rattle.session.specs.Profile.{Profile}
 use Rattle.session.specs.declared.Numbers.{Numbers}
@@ -32,10 +32,6 @@ abbrev pub noNumbers : Numbers
 noNumbers = numbersWith 0 (pos 0) (pos 0)
 
 -- ---- the refusals
-
-abbrev pub every : (ℤ → Bool) → List ℤ → Bool
-every test [] = true
-every test (z ∷ zs) = test z && every test zs
 
 -- some day's floor is above its ceiling
 abbrev pub crossed : List ℤ → List ℤ → Bool

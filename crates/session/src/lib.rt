@@ -1,14 +1,17 @@
 // A session: document 01's profile, opened, with its ranges, for one batch.
 ghost use mathlib.Core.Path.{_≡_};
+ghost use Prim.Native.Nat.{_≤_};
 ghost use lib.ListN.{length};
+ghost use Rattle.limits.specs.Limits.{mostDays, lowestPoint, highestPoint, lowestRise, highestRise};
 ghost use Rattle.theory_lists.specs.Lent.{lentList};
 ghost use Rattle.theory_method.specs.Filter.{InBounds};
 ghost use Rattle.tighten_filtering.specs.Boxed.{boxed};
-ghost use Rattle.session.specs.Opening.{opened, refusedWith, profile};
-ghost use Rattle.session.specs.Stages.{openedCodes, lengthRefusal};
+ghost use Rattle.session.specs.Opening.{opened, earlyOpening, refusedWith, profile};
+ghost use Rattle.session.specs.Stages.{lengthRefusal, lengthsOf, notCoded, codedWith, codedList, codedProfile, codesCrossed, rangesOpened, openedCodes};
 ghost use Rattle.session.specs.Showing.{SessionInBounds, shown, listTooShort, floorOn, ceilingOn};
 use base_codes::Coded;
 use base_codes::CodedNumbers;
+use base_codes::code_all;
 use limits::MOST_DAYS;
 use limits::TOTAL_OFFSET;
 
@@ -43,6 +46,19 @@ pub struct Session {
     pub opened: Ranges,
     pub present: Ranges,
     pub spent: bool,
+}
+
+// A profile's numbers as codes, or all 0 beside a refusal's number.
+pub struct CodedProfile {
+    pub refusal: u8,
+    pub numbers: CodedNumbers,
+}
+
+// The total's range of ranges that are opened, or both 0 beside a refusal's number.
+pub struct OpenedRanges {
+    pub refusal: u8,
+    pub lowest: usize,
+    pub highest: usize,
 }
 
 // The refusal's number, 0 for none, and the session.
@@ -108,6 +124,129 @@ fn length_refusal(days: usize, floors: usize, ceilings: usize, rises: usize) -> 
     0
 }
 
+fn not_coded(number: u8) -> CodedProfile
+    ensures { λ r. ⌜ r ≡ notCoded number ⌝ }
+{
+    CodedProfile {
+        refusal: number,
+        numbers: CodedNumbers {
+            days: 0,
+            lowest: 0,
+            highest: 0,
+        },
+    }
+}
+
+// 3, 4, then 5, from whether a point and a rise are outside their bounds, else a profile's numbers as codes.
+pub fn code_numbers(numbers: Numbers, bad_point: bool, bad_rise: bool) -> CodedProfile
+    ensures { λ r. ⌜ r ≡ codedWith numbers «bad_point» «bad_rise» ⌝ }
+{
+    if bad_point {
+        return not_coded(3);
+    }
+    if bad_rise {
+        return not_coded(4);
+    }
+    let Coded::Code(lowest) = base_codes::code(
+        numbers.lowest,
+        Session::LOWEST_TOTAL,
+        Session::HIGHEST_TOTAL,
+    ) else {
+        return not_coded(5);
+    };
+    let Coded::Code(highest) = base_codes::code(
+        numbers.highest,
+        Session::LOWEST_TOTAL,
+        Session::HIGHEST_TOTAL,
+    ) else {
+        return not_coded(5);
+    };
+    CodedProfile {
+        refusal: 0,
+        numbers: CodedNumbers {
+            days: numbers.days,
+            lowest,
+            highest,
+        },
+    }
+}
+
+// Codes a profile: document 01's checks 1 to 5. The arrays are written where 1 and 2 are passed.
+fn code_profile(
+    numbers: Numbers,
+    floors: &[i16],
+    ceilings: &[i16],
+    rises: &[i16],
+    low: &mut [u16; MOST_DAYS],
+    high: &mut [u16; MOST_DAYS],
+    steps: &mut [u16; MOST_DAYS],
+) -> CodedProfile
+    ensures { λ r. ⌜ r ≡ codedProfile (profile numbers (now (floors .entry)) (now (ceilings .entry)) (now (rises .entry))) ⌝ }
+    ensures { λ r. ⌜ now (low .exit) ≡ codedList (lengthsOf (profile numbers (now (floors .entry)) (now (ceilings .entry)) (now (rises .entry)))) lowestPoint highestPoint (now (floors .entry)) (now (low .entry)) ⌝ }
+    ensures { λ r. ⌜ now (high .exit) ≡ codedList (lengthsOf (profile numbers (now (floors .entry)) (now (ceilings .entry)) (now (rises .entry)))) lowestPoint highestPoint (now (ceilings .entry)) (now (high .entry)) ⌝ }
+    ensures { λ r. ⌜ now (steps .exit) ≡ codedList (lengthsOf (profile numbers (now (floors .entry)) (now (ceilings .entry)) (now (rises .entry)))) lowestRise highestRise (now (rises .entry)) (now (steps .entry)) ⌝ }
+{
+    let refusal = length_refusal(numbers.days, floors.len(), ceilings.len(), rises.len());
+    if refusal != 0 {
+        return not_coded(refusal);
+    }
+    let bad_floor = code_all(floors, Session::LOWEST_POINT, Session::HIGHEST_POINT, low);
+    let bad_ceiling = code_all(
+        ceilings,
+        Session::LOWEST_POINT,
+        Session::HIGHEST_POINT,
+        high,
+    );
+    let bad_rise = code_all(rises, Session::LOWEST_RISE, Session::HIGHEST_RISE, steps);
+    code_numbers(numbers, bad_floor | bad_ceiling, bad_rise)
+}
+
+// 6: whether a floor is above its ceiling, of a day or the total.
+fn is_range_crossed(
+    floors: &[u16; MOST_DAYS],
+    ceilings: &[u16; MOST_DAYS],
+    numbers: CodedNumbers,
+) -> bool
+    requires { ⌜ numbers .days ≤ mostDays ⌝ }
+    ensures { λ r. ⌜ r ≡ codesCrossed (now (floors .entry)) (now (ceilings .entry)) (numbers .days) (numbers .lowest) (numbers .highest) ⌝ }
+{
+    tighten_carry::is_crossed(floors, ceilings, numbers.days) | (numbers.highest < numbers.lowest)
+}
+
+fn no_ranges(number: u8) -> OpenedRanges
+    ensures { λ r. ⌜ r ≡ record { refusal = number; lowest = 0; highest = 0 } ⌝ }
+{
+    OpenedRanges {
+        refusal: number,
+        lowest: 0,
+        highest: 0,
+    }
+}
+
+// Opens ranges that have passed the checks on lengths and bounds: 6, which leaves them, then 8, which leaves them as `tighten` does.
+pub fn open_ranges(
+    floors: &mut [u16; MOST_DAYS],
+    ceilings: &mut [u16; MOST_DAYS],
+    rises: &[u16; MOST_DAYS],
+    numbers: CodedNumbers,
+) -> OpenedRanges
+    requires { ⌜ InBounds (boxed (now floors) (now ceilings) (now rises) numbers) ⌝ }
+    ensures { λ r. ⌜ record { refusal = r .refusal; floors = now (floors .exit); ceilings = now (ceilings .exit); lowest = r .lowest; highest = r .highest } ≡ rangesOpened (boxed (now (floors .entry)) (now (ceilings .entry)) (now (rises .entry)) numbers) ⌝ }
+{
+    if is_range_crossed(floors, ceilings, numbers) {
+        return no_ranges(6);
+    }
+    let t = tighten_filtering::tighten(floors, ceilings, rises, numbers);
+    if t.found {
+        return OpenedRanges {
+            refusal: 0,
+            lowest: t.lowest,
+            highest: t.highest,
+        };
+    }
+    no_ranges(8)
+}
+
 // Opens what has passed the checks on lengths and bounds: 6, then 8.
 fn open_codes(
     numbers: CodedNumbers,
@@ -118,37 +257,53 @@ fn open_codes(
     requires { ⌜ InBounds (boxed floors ceilings rises numbers) ⌝ }
     ensures { λ r. ⌜ r ≡ openedCodes (boxed floors ceilings rises numbers) ⌝ }
 {
-    let days = numbers.days;
-    let lowest = numbers.lowest;
-    let highest = numbers.highest;
-    if tighten_carry::first_crossed(&floors, &ceilings, days) < days {
-        return refused(6);
-    }
-    if highest < lowest {
-        return refused(6);
-    }
     let mut low = floors;
     let mut high = ceilings;
-    let t = tighten_filtering::tighten(&mut low, &mut high, &rises, numbers);
-    if t.found {
-        let ranges = Ranges {
-            floors: low,
-            ceilings: high,
-            lowest: t.lowest,
-            highest: t.highest,
-        };
-        return Opened {
-            refusal: 0,
-            session: Session {
-                days,
-                rises,
-                opened: ranges,
-                present: ranges,
-                spent: false,
-            },
-        };
+    let opened = open_ranges(&mut low, &mut high, &rises, numbers);
+    if opened.refusal != 0 {
+        return refused(opened.refusal);
     }
-    refused(8)
+    let ranges = Ranges {
+        floors: low,
+        ceilings: high,
+        lowest: opened.lowest,
+        highest: opened.highest,
+    };
+    Opened {
+        refusal: 0,
+        session: Session {
+            days: numbers.days,
+            rises,
+            opened: ranges,
+            present: ranges,
+            spent: false,
+        },
+    }
+}
+
+// The first of document 01's checks 1 to 6 of opening that refuses, or 0.
+pub fn early_refusal(numbers: Numbers, floors: &[i16], ceilings: &[i16], rises: &[i16]) -> u8
+    ensures { λ r. ⌜ r ≡ earlyOpening (profile numbers (now (floors .entry)) (now (ceilings .entry)) (now (rises .entry))) ⌝ }
+{
+    let mut low = [0u16; MOST_DAYS];
+    let mut high = [0u16; MOST_DAYS];
+    let mut steps = [0u16; MOST_DAYS];
+    let coded = code_profile(
+        numbers,
+        floors,
+        ceilings,
+        rises,
+        &mut low,
+        &mut high,
+        &mut steps,
+    );
+    if coded.refusal != 0 {
+        return coded.refusal;
+    }
+    if is_range_crossed(&low, &high, coded.numbers) {
+        return 6;
+    }
+    0
 }
 
 fn too_short() -> Shown
@@ -182,52 +337,22 @@ impl Session {
     pub fn open(numbers: Numbers, floors: &[i16], ceilings: &[i16], rises: &[i16]) -> Opened
         ensures { λ r. ⌜ r ≡ opened (profile numbers (now (floors .entry)) (now (ceilings .entry)) (now (rises .entry))) ⌝ }
     {
-        let days = numbers.days;
-        let lowest = numbers.lowest;
-        let highest = numbers.highest;
-        let refusal = length_refusal(days, floors.len(), ceilings.len(), rises.len());
-        if refusal != 0 {
-            return refused(refusal);
-        }
         let mut low = [0u16; MOST_DAYS];
         let mut high = [0u16; MOST_DAYS];
         let mut steps = [0u16; MOST_DAYS];
-        let inside = base_codes::code_all(
+        let coded = code_profile(
+            numbers,
             floors,
-            Self::LOWEST_POINT,
-            Self::HIGHEST_POINT,
-            &mut low,
-        );
-        if inside < days {
-            return refused(3);
-        }
-        let inside = base_codes::code_all(
             ceilings,
-            Self::LOWEST_POINT,
-            Self::HIGHEST_POINT,
+            rises,
+            &mut low,
             &mut high,
+            &mut steps,
         );
-        if inside < days {
-            return refused(3);
+        if coded.refusal != 0 {
+            return refused(coded.refusal);
         }
-        let inside = base_codes::code_all(rises, Self::LOWEST_RISE, Self::HIGHEST_RISE, &mut steps);
-        if inside + 1 < days {
-            return refused(4);
-        }
-        let Coded::Code(least) = base_codes::code(lowest, Self::LOWEST_TOTAL, Self::HIGHEST_TOTAL)
-        else {
-            return refused(5);
-        };
-        let Coded::Code(most) = base_codes::code(highest, Self::LOWEST_TOTAL, Self::HIGHEST_TOTAL)
-        else {
-            return refused(5);
-        };
-        let codes = CodedNumbers {
-            days,
-            lowest: least,
-            highest: most,
-        };
-        open_codes(codes, low, high, steps)
+        open_codes(coded.numbers, low, high, steps)
     }
 
     // Fills both lists with the present range of each day, or, where either is too short, neither (2).

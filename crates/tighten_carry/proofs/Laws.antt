@@ -1,4 +1,4 @@
--- The loops over plain lists and numbers: a record of what holds at the loop's head, what starts it, what a turn does, and each way out.
+-- The loop of `carry` over plain lists and numbers: a record of what holds at the loop's head, what starts it, what a turn does, and each way out.
 use Prim.Native.Nat.{ℕ, _+_, _-_, _≤_, _<_, max}
 use mathlib.Core.Path.{_≡_, ap, _∙_}
 use mathlib.Core.List.{List}
@@ -13,15 +13,10 @@ use Rattle.theory_lists.specs.First.{Nowhere, nowhere-none, nowhere-more, nowhe
 use Rattle.theory_lists.specs.Filled.{Filled, filled-none, filled-more, filled-all}
 use Rattle.theory_method.specs.Filter.{carried, firstCrossed}
 
--- ---- crossing: none of the days below i, of n
-
-abbrev pub Uncrossed : (ℕ → ℕ) → (ℕ → ℕ) → ℕ → ℕ → Type 0
-Uncrossed a b = Nowhere (λ k. ltb (b k) (a k))
-
 -- ---- carrying: the floors below i are carried and uncrossed, and day i is to be at least low
 
 pub record Upto (fs cs rs : List ℕ) (n i low : ℕ) (out : List ℕ) : Type 0 where
-  pub under : Uncrossed (carried fs rs) (at cs) n i
+  pub under : Nowhere (λ k. ltb (at cs k) (carried fs rs k)) n i
   pub floors : Filled (carried fs rs) n i fs out
   pub next : carried fs rs i ≡ max (at fs i) low
 

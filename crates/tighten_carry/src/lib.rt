@@ -1,6 +1,7 @@
-// Floors carried forward, and the first day at which a floor is above its ceiling.
+// Floors carried forward, and whether a floor is above its ceiling.
 ghost use mathlib.Core.Path.{_≡_};
 ghost use Prim.Native.Nat.{_+_, _-_, _≤_};
+ghost use lib.Dec.{ltb};
 ghost use Rattle.limits.specs.Limits.{mostDays, highestLevel, riseOffset, highestRiseCode};
 ghost use Rattle.theory_lists.specs.Sum.{at};
 ghost use Rattle.theory_lists.specs.Written.{written};
@@ -50,17 +51,16 @@ pub fn carry(
     n
 }
 
-// The first day whose floor is above its ceiling, or n.
-pub fn first_crossed(floors: &[u16; MOST_DAYS], ceilings: &[u16; MOST_DAYS], n: usize) -> usize
+// Whether the floor of one of the first n days is above its ceiling.
+pub fn is_crossed(floors: &[u16; MOST_DAYS], ceilings: &[u16; MOST_DAYS], n: usize) -> bool
     requires { ⌜ n ≤ mostDays ⌝ }
-    ensures { λ r. ⌜ r ≡ firstCrossed (at (now (floors .entry))) (at (now (ceilings .entry))) n ⌝ }
+    ensures { λ r. ⌜ r ≡ ltb (firstCrossed (at (now (floors .entry))) (at (now (ceilings .entry))) n) n ⌝ }
 {
+    let mut crossed = false;
     let mut i = 0;
     while i < n {
-        if ceilings[i] < floors[i] {
-            return i;
-        }
+        crossed = crossed | (ceilings[i] < floors[i]);
         i += 1;
     }
-    n
+    crossed
 }

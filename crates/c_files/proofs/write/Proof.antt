@@ -85,10 +85,10 @@ from-ceilings c = at-floors (c .before)
 abbrev from-rises : tie.After-points3 → tie.After-points2
 from-rises c = at-ceilings (c .before)
 
-abbrev from-profile : tie.After-profile-refusal → tie.After-points3
+abbrev from-profile : tie.After-early-refusal → tie.After-points3
 from-profile c = at-rises (c .before .before .before)
 
-abbrev from-cuts : tie.After-cuts-refusal → tie.After-profile-refusal
+abbrev from-cuts : tie.After-cuts-refusal → tie.After-early-refusal
 from-cuts c = at-opens c .before
 
 abbrev from-header : tie.After-put-header → tie.Else4
@@ -143,12 +143,12 @@ steps : (c : tie.After-points3)
 steps c = held _ _ (omega (arith, sizes (from-floors (from-ceilings (from-rises c))) .lists .few)) (c .points3 .ensures)
 
 -- what is checked as opening does
-by-opening : (c : tie.After-profile-refusal) → c .profile-refusal .result ≡ earlyOpening (profileOf (handed (from-right (from-floors (from-ceilings (from-rises (from-profile c)))))))
+by-opening : (c : tie.After-early-refusal) → c .early-refusal .result ≡ earlyOpening (profileOf (handed (from-right (from-floors (from-ceilings (from-rises (from-profile c)))))))
 by-opening c =
     let r = from-profile c in
     let h = from-rises r in
     let l = from-ceilings h in
-    rw (low l .same, high h .same, steps r .same) at (c .profile-refusal .ensures)
+    rw (low l .same, high h .same, steps r .same) at (c .early-refusal .ensures)
 
 opens : (c : tie.Else2) → let s = from-right (from-floors (from-ceilings (from-rises (from-profile (c .before))))) in Opens (handed s) (s .args .cuts .now)
 opens c =
@@ -204,14 +204,14 @@ points-requires-3 c κs = let s = sizes (from-floors (from-ceilings (at-ceilings
 array-share-prefix-low : tie.Need-array-share-prefix-low
 array-share-prefix-low c = low (from-ceilings (from-rises c)) .room
 
-slice-aggregate-profile-refusal : tie.Need-slice-aggregate-profile-refusal
-slice-aggregate-profile-refusal c = low (from-ceilings (from-rises (at-rises c))) .long
+slice-aggregate-early-refusal : tie.Need-slice-aggregate-early-refusal
+slice-aggregate-early-refusal c = low (from-ceilings (from-rises (at-rises c))) .long
 
 array-share-prefix-high : tie.Need-array-share-prefix-high
 array-share-prefix-high c = high (from-rises (at-rises c)) .room
 
-slice-aggregate-profile-refusal-2 : tie.Need-slice-aggregate-profile-refusal-2
-slice-aggregate-profile-refusal-2 c = high (from-rises (at-rises (c .before))) .long
+slice-aggregate-early-refusal-2 : tie.Need-slice-aggregate-early-refusal-2
+slice-aggregate-early-refusal-2 c = high (from-rises (at-rises (c .before))) .long
 
 sub-steps : tie.Need-sub-steps
 sub-steps c = omega (arith, sizes (from-floors (from-ceilings (from-rises (at-rises (c .before))))) .lists .some)
@@ -219,8 +219,8 @@ sub-steps c = omega (arith, sizes (from-floors (from-ceilings (from-rises (at-ri
 array-share-prefix-steps : tie.Need-array-share-prefix-steps
 array-share-prefix-steps c = steps (at-rises (c .before)) .room
 
-slice-aggregate-profile-refusal-3 : tie.Need-slice-aggregate-profile-refusal-3
-slice-aggregate-profile-refusal-3 c = steps (at-rises (c .before .before)) .long
+slice-aggregate-early-refusal-3 : tie.Need-slice-aggregate-early-refusal-3
+slice-aggregate-early-refusal-3 c = steps (at-rises (c .before .before)) .long
 
 -- ---- the profile, a cut or the output's length refused
 
@@ -315,12 +315,12 @@ write-spec =
     sub-points
     points-requires-3
     array-share-prefix-low
-    slice-aggregate-profile-refusal
+    slice-aggregate-early-refusal
     array-share-prefix-high
-    slice-aggregate-profile-refusal-2
+    slice-aggregate-early-refusal-2
     sub-steps
     array-share-prefix-steps
-    slice-aggregate-profile-refusal-3
+    slice-aggregate-early-refusal-3
     (λ c. search needs)
     (λ c. search needs)
     returns-2

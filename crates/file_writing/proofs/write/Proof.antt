@@ -15,10 +15,10 @@ use Rattle.file_writing.proofs.write.Tie as tie
 abbrev at-start : tie.After-entries → tie.Start
 at-start c = c .before .before
 
-abbrev at-few : tie.After-profile-refusal → tie.Else1
+abbrev at-few : tie.After-early-refusal → tie.Else1
 at-few c = c .before
 
-abbrev at-profile : tie.After-entries-refusal → tie.After-profile-refusal
+abbrev at-profile : tie.After-entries-refusal → tie.After-early-refusal
 at-profile c = c .before
 
 abbrev test-profile : tie.After-entries-refusal → tie.After-entries-refusal
@@ -45,7 +45,7 @@ at-entries c = c .before .before
 -- ---- what is known at them
 
 -- what is handed over, seen from where the profile is judged
-abbrev handed : tie.After-profile-refusal → tie.Start
+abbrev handed : tie.After-early-refusal → tie.Start
 handed c = at-start (at-few c .before)
 
 abbrev from-opens : tie.Else2 → tie.Start
@@ -58,8 +58,8 @@ abbrev given : tie.Start → Profile
 given c = let a = c .args in profile (a .numbers) (a .floors .now) (a .ceilings .now) (a .rises .now)
 
 -- what is checked as opening does
-by-opening : (c : tie.After-profile-refusal) → c .profile-refusal .result ≡ earlyOpening (given (handed c))
-by-opening c = c .profile-refusal .ensures
+by-opening : (c : tie.After-early-refusal) → c .early-refusal .result ≡ earlyOpening (given (handed c))
+by-opening c = c .early-refusal .ensures
 
 opens : (c : tie.Else2) → Opens (given (from-opens c)) (from-opens c .args .sheet)
 opens c = let p = at-profile (test-profile (c .before)) in record { few = at-few p .if1 .left; profile = sym (by-opening p) ∙ c .if2 .left }
