@@ -1,17 +1,21 @@
 // Lists as a caller in C hands them over: byte strings of 2-byte little-endian elements.
 ghost use mathlib.Core.Path.{_≡_};
-ghost use Prim.Native.Nat.{_+_, _*_, _≤_, _<_};
+ghost use mathlib.Core.Bool.{true, not};
+ghost use Prim.Native.Nat.{ℕ, _+_, _*_, _≤_, _<_};
 ghost use lib.ListN.{length};
 ghost use lib.Seq.{sets};
-ghost use Rattle.limits.specs.Limits.{mostDays};
+ghost use Rattle.limits.specs.Limits.{mostDays, lowestPoint, highestLevel, lowestSetpoint, highestSetpoint};
 ghost use Rattle.theory_lists.specs.Sum.{at};
 ghost use Rattle.theory_lists.specs.Written.{written};
-ghost use Rattle.base_codes.specs.Code.{on};
-ghost use Rattle.c_lists.specs.Lists.{pointAt, pointBytes, cellBytes};
+ghost use Rattle.base_codes.specs.Code.{within, code, decoded, on, every, codeOrZero};
+ghost use Rattle.c_lists.specs.Lists.{pointAt, pointsIn, pointBytes, cellBytes};
 ghost use Rattle.c_lists.specs.Profiles.{haveLengths, byteCountsRefusal};
+use base_codes::code_cell;
+use base_codes::decode_short;
 use base_little_endian::i16_at;
 use base_little_endian::put_i16;
 use base_little_endian::put_u16;
+use limits::LOWEST_POINT;
 use limits::MOST_DAYS;
 use session::Session;
 
@@ -27,6 +31,24 @@ pub fn points(bytes: &[u8], n: usize, out: &mut [i16; MOST_DAYS])
     }
 }
 
+// Stores the codes of the first n points of a list, 0 for one outside its bounds, and says whether there is one. All have 16 bits.
+pub fn code_points(bytes: &[u8], n: usize, low: i32, high: i32, out: &mut [u16; MOST_DAYS]) -> bool
+    requires { ⌜ (code low high ≤ 65535) × (n ≤ mostDays) × (n * 2 ≤ length (now bytes)) ⌝ }
+    ensures { λ r. ⌜ r ≡ not (every (within low high) (pointsIn (now (bytes .entry)) n)) ⌝ }
+    ensures { λ r. ⌜ now (out .exit) ≡ written (λ k. codeOrZero low high (pointAt (now (bytes .entry)) k)) n (now (out .entry)) ⌝ }
+    ensures { λ r. ⌜ every (within lowestSetpoint highestSetpoint) (pointsIn (now (bytes .entry)) n) ≡ true ⌝ }
+{
+    let mut outside = false;
+    let mut k = 0;
+    while k < n {
+        let cell = code_cell(i16_at(bytes, k * 2), low, high);
+        out[k] = cell.code;
+        outside = outside | cell.outside;
+        k += 1;
+    }
+    outside
+}
+
 // Stores n points as the front of a list.
 pub fn put_points(points: &[i16; MOST_DAYS], n: usize, out: &mut [u8])
     requires { ⌜ (n ≤ mostDays) × (n * 2 ≤ length (now out)) ⌝ }
@@ -35,6 +57,18 @@ pub fn put_points(points: &[i16; MOST_DAYS], n: usize, out: &mut [u8])
     let mut k = 0;
     while k < n {
         put_i16(out, k * 2, points[k]);
+        k += 1;
+    }
+}
+
+// Stores the points of n levels as the front of a list.
+pub fn put_levels(levels: &[u16; MOST_DAYS], n: usize, out: &mut [u8])
+    requires { ⌜ (n ≤ mostDays) × (n * 2 ≤ length (now out)) × ((k : ℕ) → k < n → at (now levels) k ≤ highestLevel) ⌝ }
+    ensures { λ r. ⌜ now (out .exit) ≡ sets (now (out .entry)) 0 (pointBytes (λ k. decoded lowestPoint (at (now (levels .entry)) k)) n) ⌝ }
+{
+    let mut k = 0;
+    while k < n {
+        put_i16(out, k * 2, decode_short(levels[k], LOWEST_POINT));
         k += 1;
     }
 }
