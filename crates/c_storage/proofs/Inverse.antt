@@ -35,7 +35,7 @@ module _ (b : List ℕ) (n : ℕ) (few : n ≤ 512) where
   length-cells : (most place : ℕ) → length (cellsAt b n most place) ≡ 512
   length-cells most place = length-written (λ k. min (u16At b (place + k * 2)) most) n zeros ∙ length-replicate {A = ℕ} 512 0
 
-  cell : (most place k : ℕ) → k < n → at (cellsAt b n most place) k ≡ min (u16At b (place + k * 2)) most
+  pub cell : (most place k : ℕ) → k < n → at (cellsAt b n most place) k ≡ min (u16At b (place + k * 2)) most
   cell most place k h = written-below (λ j. min (u16At b (place + j * 2)) most) 0 n zeros k h (omega (arith, length-replicate {A = ℕ} 512 0))
 
 total-small : (b : List ℕ) (place : ℕ) → totalAt b place ≤ 2560000

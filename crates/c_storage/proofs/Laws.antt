@@ -1,5 +1,5 @@
 -- Bytes stored one part after another.
-use Prim.Native.Nat.{ℕ, zero, suc, _+_}
+use Prim.Native.Nat.{ℕ, zero, suc, _+_, _≤_}
 use mathlib.Core.Path.{_≡_, refl, _∙_}
 use mathlib.Core.List.{List, [], _∷_, _++_, append-nil}
 use native.Mathlib.Numerals.{add-one}
@@ -7,6 +7,8 @@ use native.Mathlib.Omega.{arith}
 use lib.ListN.{length, length-append, replicate, replicate-append-replicate}
 use lib.Seq.{sets, drop-length}
 use Rattle.theory_lists.specs.Front.{inFront}
+use Rattle.theory_lists.specs.Part.{stored-before, stored-past}
+use Rattle.base_little_endian.specs.Fields.{u16At}
 use Rattle.theory_lists.specs.Rows.{rows, front-sets, stored-after}
 
 -- rows of one element each
@@ -35,3 +37,13 @@ module _ {l m out xs : List ℕ} {place w : ℕ} (h : Laid l place xs w m) (ys :
 pub sets-whole : (xs l : List ℕ) → length xs ≡ length l → sets l 0 xs ≡ xs
 unfolding inFront
 sets-whole xs l e = front-sets xs l (omega arith) ∙ rw (e, drop-length) (append-nil xs)
+
+-- ---- a field that no store reached
+
+pub field-before : (xs l : List ℕ) (i k : ℕ) → k + 2 ≤ i → u16At (sets l i xs) k ≡ u16At l k
+unfolding u16At
+field-before xs l i k h = rw (stored-before xs l i k (omega arith), stored-before xs l i (k + 1) (omega arith)) refl
+
+pub field-past : (xs l : List ℕ) (i k : ℕ) → i + length xs ≤ k → u16At (sets l i xs) k ≡ u16At l k
+unfolding u16At
+field-past xs l i k h = rw (stored-past xs l i k h, stored-past xs l i (k + 1) (omega arith)) refl

@@ -1,11 +1,12 @@
 -- A session as a byte string of one length, as the panel's firmware holds it: the day count and whether it is spent, 2 bytes each; the floor and the
 -- ceiling of the total, 4 bytes each, as opened and at present; then the rises, the floors and ceilings as opened, and those at present, each as 512
 -- cells of 2 bytes. All fields are little-endian. A cell has what the session holds, and past the last day 0.
-use mathlib.Core.Bool.{cond, not}
+use mathlib.Core.Bool.{Bool, cond, not, _||_}
 use mathlib.Core.List.{List, _++_}
 use Prim.Native.Nat.{ℕ, _+_, _-_, _*_, min, max}
 use lib.Dec.{eqb}
-use lib.ListN.{replicate}
+use lib.ListN.{length, replicate}
+use lib.Seq.{sets}
 use Rattle.limits.specs.Limits.{mostDays, lowestTotal, highestTotal, highestLevel, highestRiseCode}
 use Rattle.theory_lists.specs.Sum.{at}
 use Rattle.theory_lists.specs.Written.{written}
@@ -15,6 +16,7 @@ use Rattle.base_little_endian.specs.Fields.{u16At, i32At, u16Bytes, i32Bytes}
 use Rattle.c_lists.specs.Lists.{cellBytes}
 use Rattle.session.specs.declared.Ranges.{Ranges}
 use Rattle.session.specs.declared.Session.{Session}
+use Rattle.session_changed.specs.Changes.{daysWhere}
 
 -- ---- where each field stands: its place is the one before it and the size of what stands there
 
@@ -101,3 +103,26 @@ decoding b =
       present = rangesAt b (daysAt b) presentTotalsPlace presentPlace;
       spent = not (eqb (u16At b markPlace) 0);
     }
+
+-- ---- what a cut makes of the bytes
+
+-- the mark, the total's range and the ranges of n days, stored as the present ones; nothing else changes
+unfoldable pub patched : List ℕ → ℕ → Bool → Ranges → List ℕ
+patched b n spent r =
+    let marked : List ℕ = sets b markPlace (u16Bytes (cond spent 1 0)) in
+    let summed : List ℕ = sets marked presentTotalsPlace (totalBytes (r .lowest) (r .highest)) in
+    let floored : List ℕ = sets summed presentPlace (cellBytes (at (r .floors)) n) in
+    sets floored (presentPlace + blockLength) (cellBytes (at (r .ceilings)) n)
+
+-- another floor or ceiling than this stands in the cells of day k
+abbrev pub cellsDiffer : List ℕ → List ℕ → List ℕ → ℕ → Bool
+cellsDiffer b floors ceilings k =
+    not (eqb (u16At b (presentPlace + k * cellLength)) (at floors k)) || not (eqb (u16At b (presentPlace + blockLength + k * cellLength)) (at ceilings k))
+
+-- the days of which that holds, in their order
+unfoldable pub changedIn : List ℕ → List ℕ → List ℕ → ℕ → List ℕ
+changedIn b floors ceilings n = daysWhere (cellsDiffer b floors ceilings) n
+
+-- days as the list for changed days has them
+unfoldable pub dayBytes : List ℕ → List ℕ
+dayBytes days = cellBytes (at days) (length days)

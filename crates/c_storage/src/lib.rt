@@ -1,17 +1,28 @@
 // A session as a byte string of one length.
 ghost use mathlib.Core.Path.{_≡_};
-ghost use mathlib.Core.Bool.{cond};
+ghost use mathlib.Core.Bool.{true, false, cond};
 ghost use mathlib.Core.List.{_++_};
-ghost use Prim.Native.Nat.{_+_, _-_, _*_, _≤_, min};
+ghost use Prim.Native.Nat.{_+_, _-_, _*_, _≤_, _<_, min};
 ghost use lib.ListN.{length, replicate};
 ghost use lib.Seq.{sets};
-ghost use Rattle.limits.specs.Limits.{mostDays, highestTotalCode};
+ghost use Rattle.limits.specs.Limits.{mostDays, lowestPoint, highestLevel, highestTotalCode};
+ghost use Rattle.theory_lists.specs.Sum.{at};
+ghost use Rattle.theory_lists.specs.Front.{inFront};
 ghost use Rattle.theory_lists.specs.Written.{written};
-ghost use Rattle.base_little_endian.specs.Fields.{u16At};
-ghost use Rattle.session.specs.Showing.{SessionInBounds};
-ghost use Rattle.c_storage.specs.Layout.{cellLength, totalLength, totalsLength, blockLength, rangesLength, sessionBytes, totalBytes, blockBytes, encoding, totalAt, rangesAt, decoding};
+ghost use Rattle.base_codes.specs.Code.{decoded};
+ghost use Rattle.base_little_endian.specs.Fields.{u16At, u16Bytes};
+ghost use Rattle.theory_method.specs.Filter.{InBounds, zeros};
+ghost use Rattle.tighten_filtering.specs.Boxed.{boxed};
+ghost use Rattle.session.specs.Opening.{fresh};
+ghost use Rattle.session.specs.Showing.{floorOn, ceilingOn};
+ghost use Rattle.c_lists.specs.Lists.{pointBytes, cellBytes};
+ghost use Rattle.c_storage.specs.Layout.{cellLength, totalLength, totalsLength, blockLength, rangesLength, sessionBytes, totalBytes, blockBytes, encoding, totalAt, decoding};
+ghost use Rattle.c_storage.specs.Layout.{patched, changedIn, dayBytes};
 use base_codes::Coded;
+use base_codes::CodedNumbers;
+use base_codes::decode_short;
 use base_little_endian::i32_at;
+use base_little_endian::put_i16;
 use base_little_endian::put_i32;
 use base_little_endian::put_u16;
 use base_little_endian::u16_at;
@@ -21,7 +32,6 @@ use base_numbers::narrow;
 use base_numbers::wide;
 use c_lists::put_cells;
 use limits::MOST_DAYS;
-use session::Ranges;
 use session::Session;
 
 // As cells of 2 bytes.
@@ -57,7 +67,7 @@ const PRESENT_AT: usize = OPENED_AT + RANGES_BYTES;
 
 pub const SESSION_BYTES: usize = PRESENT_AT + RANGES_BYTES;
 
-// ---- decoding: whatever the bytes are, the numbers are in bounds
+// ---- fields: whatever the bytes are, the numbers are in bounds
 
 fn at_most(x: u16, most: u16) -> u16
     ensures { λ r. ⌜ r ≡ min x most ⌝ }
@@ -78,7 +88,7 @@ fn cells(bytes: &[u8], place: usize, n: usize, most: u16, out: &mut [u16; MOST_D
 }
 
 // A bound of the total, as it is held.
-fn total(bytes: &[u8], place: usize) -> usize
+fn bound(bytes: &[u8], place: usize) -> usize
     requires { ⌜ place + totalLength ≤ length (now bytes) ⌝ }
     ensures { λ r. ⌜ r ≡ totalAt (now (bytes .entry)) place ⌝ }
 {
@@ -92,41 +102,87 @@ fn total(bytes: &[u8], place: usize) -> usize
     held
 }
 
-fn ranges(bytes: &[u8], n: usize, totals: usize, place: usize) -> Ranges
-    requires { ⌜ (n ≤ mostDays) × (totals + totalsLength ≤ length (now bytes)) × (place + rangesLength ≤ length (now bytes)) ⌝ }
-    ensures { λ r. ⌜ r ≡ rangesAt (now (bytes .entry)) n totals place ⌝ }
+// The total's range, as it is held.
+pub struct Total {
+    pub lowest: usize,
+    pub highest: usize,
+}
+
+fn totals(bytes: &[u8], place: usize) -> Total
+    requires { ⌜ place + totalsLength ≤ length (now bytes) ⌝ }
+    ensures { λ r. ⌜ (r .lowest ≡ totalAt (now (bytes .entry)) place) × (r .highest ≡ totalAt (now (bytes .entry)) (place + totalLength)) ⌝ }
 {
-    let mut floors = [0u16; MOST_DAYS];
-    let mut ceilings = [0u16; MOST_DAYS];
-    cells(bytes, place, n, MOST_LEVEL, &mut floors);
-    cells(bytes, place + BLOCK_BYTES, n, MOST_LEVEL, &mut ceilings);
-    Ranges {
-        floors,
-        ceilings,
-        lowest: total(bytes, totals),
-        highest: total(bytes, totals + TOTAL_BYTES),
+    Total {
+        lowest: bound(bytes, place),
+        highest: bound(bytes, place + TOTAL_BYTES),
     }
 }
 
-pub fn decode(bytes: &[u8]) -> Session
+fn level(bytes: &[u8], place: usize) -> u16
+    requires { ⌜ place + cellLength ≤ length (now bytes) ⌝ }
+    ensures { λ r. ⌜ r ≡ min (u16At (now (bytes .entry)) place) highestLevel ⌝ }
+{
+    at_most(u16_at(bytes, place), MOST_LEVEL)
+}
+
+// ---- parts of the session, each read when it is needed
+
+pub fn days_of(bytes: &[u8]) -> usize
     requires { ⌜ length (now bytes) ≡ sessionBytes ⌝ }
-    ensures { λ r. ⌜ r ≡ decoding (now (bytes .entry)) ⌝ }
+    ensures { λ r. ⌜ r ≡ decoding (now (bytes .entry)) .days ⌝ }
 {
-    let days = max(1, min(Session::MOST_DAYS, wide(u16_at(bytes, DAYS_AT))));
-    let mut rises = [0u16; MOST_DAYS];
-    cells(bytes, RISES_AT, days, MOST_RISE_CODE, &mut rises);
-    let opened = ranges(bytes, days, OPENED_TOTALS_AT, OPENED_AT);
-    let present = ranges(bytes, days, PRESENT_TOTALS_AT, PRESENT_AT);
-    Session {
-        days,
-        rises,
-        opened,
-        present,
-        spent: u16_at(bytes, MARK_AT) != 0,
-    }
+    max(1, min(Session::MOST_DAYS, wide(u16_at(bytes, DAYS_AT))))
 }
 
-// ---- encoding
+pub fn is_spent(bytes: &[u8]) -> bool
+    requires { ⌜ length (now bytes) ≡ sessionBytes ⌝ }
+    ensures { λ r. ⌜ r ≡ decoding (now (bytes .entry)) .spent ⌝ }
+{
+    u16_at(bytes, MARK_AT) != 0
+}
+
+// The total's present range.
+pub fn total_of(bytes: &[u8]) -> Total
+    requires { ⌜ length (now bytes) ≡ sessionBytes ⌝ }
+    ensures { λ r. ⌜ (r .lowest ≡ decoding (now (bytes .entry)) .present .lowest) × (r .highest ≡ decoding (now (bytes .entry)) .present .highest) ⌝ }
+{
+    totals(bytes, PRESENT_TOTALS_AT)
+}
+
+// The present range of a day.
+pub fn floor_of(bytes: &[u8], day: usize) -> u16
+    requires { ⌜ (length (now bytes) ≡ sessionBytes) × (day < decoding (now bytes) .days) ⌝ }
+    ensures { λ r. ⌜ r ≡ at (decoding (now (bytes .entry)) .present .floors) day ⌝ }
+{
+    level(bytes, PRESENT_AT + day * CELL_BYTES)
+}
+
+pub fn ceiling_of(bytes: &[u8], day: usize) -> u16
+    requires { ⌜ (length (now bytes) ≡ sessionBytes) × (day < decoding (now bytes) .days) ⌝ }
+    ensures { λ r. ⌜ r ≡ at (decoding (now (bytes .entry)) .present .ceilings) day ⌝ }
+{
+    level(bytes, PRESENT_AT + BLOCK_BYTES + day * CELL_BYTES)
+}
+
+pub fn load_rises(bytes: &[u8], rises: &mut [u16; MOST_DAYS])
+    requires { ⌜ (length (now bytes) ≡ sessionBytes) × (now rises ≡ zeros) ⌝ }
+    ensures { λ _. ⌜ now (rises .exit) ≡ decoding (now (bytes .entry)) .rises ⌝ }
+{
+    cells(bytes, RISES_AT, days_of(bytes), MOST_RISE_CODE, rises);
+}
+
+// The present ranges of the days.
+pub fn load_present(bytes: &[u8], floors: &mut [u16; MOST_DAYS], ceilings: &mut [u16; MOST_DAYS])
+    requires { ⌜ (length (now bytes) ≡ sessionBytes) × (now floors ≡ zeros) × (now ceilings ≡ zeros) ⌝ }
+    ensures { λ _. ⌜ now (floors .exit) ≡ decoding (now (bytes .entry)) .present .floors ⌝ }
+    ensures { λ _. ⌜ now (ceilings .exit) ≡ decoding (now (bytes .entry)) .present .ceilings ⌝ }
+{
+    let n = days_of(bytes);
+    cells(bytes, PRESENT_AT, n, MOST_LEVEL, floors);
+    cells(bytes, PRESENT_AT + BLOCK_BYTES, n, MOST_LEVEL, ceilings);
+}
+
+// ---- a whole session stored
 
 fn mark(spent: bool) -> u16
     ensures { λ r. ⌜ r ≡ cond spent 1 0 ⌝ }
@@ -166,29 +222,156 @@ fn put_block(cells: &[u16; MOST_DAYS], n: usize, place: usize, out: &mut [u8])
     put_zeros(out, place + n * CELL_BYTES, place + BLOCK_BYTES);
 }
 
-fn put_ranges(ranges: Ranges, n: usize, place: usize, out: &mut [u8])
+fn put_ranges(
+    floors: &[u16; MOST_DAYS],
+    ceilings: &[u16; MOST_DAYS],
+    n: usize,
+    place: usize,
+    out: &mut [u8],
+)
     requires { ⌜ (n ≤ mostDays) × (place + rangesLength ≤ length (now out)) ⌝ }
-    ensures { λ r. ⌜ now (out .exit) ≡ sets (now (out .entry)) place (blockBytes (ranges .floors) n ++ blockBytes (ranges .ceilings) n) ⌝ }
+    ensures { λ r. ⌜ now (out .exit) ≡ sets (now (out .entry)) place (blockBytes (now (floors .entry)) n ++ blockBytes (now (ceilings .entry)) n) ⌝ }
 {
-    let floors = ranges.floors;
-    let ceilings = ranges.ceilings;
-    put_block(&floors, n, place, out);
-    put_block(&ceilings, n, place + BLOCK_BYTES, out);
+    put_block(floors, n, place, out);
+    put_block(ceilings, n, place + BLOCK_BYTES, out);
 }
 
-pub fn encode(session: Session, out: &mut [u8])
-    requires { ⌜ SessionInBounds session × (length (now out) ≡ sessionBytes) ⌝ }
-    ensures { λ r. ⌜ now (out .exit) ≡ encoding session ⌝ }
+// Stores a fresh session: the rises, and the tightened ranges as opened and at present.
+pub fn store_fresh(
+    rises: &[u16; MOST_DAYS],
+    floors: &[u16; MOST_DAYS],
+    ceilings: &[u16; MOST_DAYS],
+    numbers: CodedNumbers,
+    out: &mut [u8],
+)
+    requires { ⌜ InBounds (boxed (now floors) (now ceilings) (now rises) numbers) × (length (now out) ≡ sessionBytes) ⌝ }
+    ensures { λ _. ⌜ now (out .exit) ≡ encoding (fresh (numbers .days) (now (rises .entry)) (record { floors = now (floors .entry); ceilings = now (ceilings .entry); lowest = numbers .lowest; highest = numbers .highest })) ⌝ }
 {
-    let n = session.days;
-    let rises = session.rises;
-    let opened = session.opened;
-    let present = session.present;
+    let n = numbers.days;
+    let lowest = numbers.lowest;
+    let highest = numbers.highest;
     put_u16(out, DAYS_AT, narrow(n));
-    put_u16(out, MARK_AT, mark(session.spent));
-    put_totals(opened.lowest, opened.highest, OPENED_TOTALS_AT, out);
-    put_totals(present.lowest, present.highest, PRESENT_TOTALS_AT, out);
-    put_block(&rises, n, RISES_AT, out);
-    put_ranges(opened, n, OPENED_AT, out);
-    put_ranges(present, n, PRESENT_AT, out);
+    put_u16(out, MARK_AT, mark(false));
+    put_totals(lowest, highest, OPENED_TOTALS_AT, out);
+    put_totals(lowest, highest, PRESENT_TOTALS_AT, out);
+    put_block(rises, n, RISES_AT, out);
+    put_ranges(floors, ceilings, n, OPENED_AT, out);
+    put_ranges(floors, ceilings, n, PRESENT_AT, out);
+}
+
+// ---- what a cut changes
+
+// Writes a changed day behind the days that the list has, and gives their number.
+fn note(list: &mut [u8], count: usize, day: usize, differs: bool) -> usize
+    requires { ⌜ (day < mostDays) × ((count + 1) * cellLength ≤ length (now list)) ⌝ }
+    ensures { λ r. ⌜ r ≡ cond differs (count + 1) count ⌝ }
+    ensures { λ r. ⌜ now (list .exit) ≡ cond differs (sets (now (list .entry)) (count * cellLength) (u16Bytes day)) (now (list .entry)) ⌝ }
+{
+    if differs {
+        put_u16(list, count * CELL_BYTES, day as u16);
+        return count + 1;
+    }
+    count
+}
+
+// Lists the days whose cells differ from these, and gives their number.
+fn list_changes(
+    bytes: &[u8],
+    floors: &[u16; MOST_DAYS],
+    ceilings: &[u16; MOST_DAYS],
+    n: usize,
+    changed: &mut [u8],
+) -> usize
+    requires { ⌜ (length (now bytes) ≡ sessionBytes) × (n ≤ mostDays) × (n * cellLength ≤ length (now changed)) ⌝ }
+    ensures { λ r. ⌜ r ≡ length (changedIn (now (bytes .entry)) (now (floors .entry)) (now (ceilings .entry)) n) ⌝ }
+    ensures { λ r. ⌜ now (changed .exit) ≡ inFront (dayBytes (changedIn (now (bytes .entry)) (now (floors .entry)) (now (ceilings .entry)) n)) (now (changed .entry)) ⌝ }
+{
+    let mut count = 0;
+    let mut day = 0;
+    while day < n {
+        let at = day * CELL_BYTES;
+        let differs = (u16_at(bytes, PRESENT_AT + at) != floors[day])
+            | (u16_at(bytes, PRESENT_AT + BLOCK_BYTES + at) != ceilings[day]);
+        count = note(changed, count, day, differs);
+        day += 1;
+    }
+    count
+}
+
+// Stores the present ranges that a cut leaves, and lists the days whose bytes that changes; gives their number.
+pub fn store_cut(
+    floors: &[u16; MOST_DAYS],
+    ceilings: &[u16; MOST_DAYS],
+    numbers: CodedNumbers,
+    out: &mut [u8],
+    changed: &mut [u8],
+) -> usize
+    requires { ⌜ (numbers .days ≤ mostDays) × (numbers .lowest ≤ highestTotalCode) × (numbers .highest ≤ highestTotalCode) × (length (now out) ≡ sessionBytes) × (numbers .days * cellLength ≤ length (now changed)) ⌝ }
+    ensures { λ r. ⌜ r ≡ length (changedIn (now (out .entry)) (now (floors .entry)) (now (ceilings .entry)) (numbers .days)) ⌝ }
+    ensures { λ r. ⌜ now (changed .exit) ≡ inFront (dayBytes (changedIn (now (out .entry)) (now (floors .entry)) (now (ceilings .entry)) (numbers .days))) (now (changed .entry)) ⌝ }
+    ensures { λ r. ⌜ now (out .exit) ≡ patched (now (out .entry)) (numbers .days) false (record { floors = now (floors .entry); ceilings = now (ceilings .entry); lowest = numbers .lowest; highest = numbers .highest }) ⌝ }
+{
+    let n = numbers.days;
+    let lowest = numbers.lowest;
+    let highest = numbers.highest;
+    let count = list_changes(out, floors, ceilings, n, changed);
+    put_u16(out, MARK_AT, mark(false));
+    put_totals(lowest, highest, PRESENT_TOTALS_AT, out);
+    put_cells(floors, n, PRESENT_AT, out);
+    put_cells(ceilings, n, PRESENT_AT + BLOCK_BYTES, out);
+    count
+}
+
+// Stores n levels from one place at a place behind them.
+fn copy_levels(bytes: &mut [u8], from: usize, n: usize, place: usize)
+    requires { ⌜ (n ≤ mostDays) × (from + n * cellLength ≤ place) × (place + n * cellLength ≤ length (now bytes)) ⌝ }
+    ensures { λ _. ⌜ now (bytes .exit) ≡ sets (now (bytes .entry)) place (cellBytes (λ k. min (u16At (now (bytes .entry)) (from + k * cellLength)) highestLevel) n) ⌝ }
+{
+    let mut k = 0;
+    while k < n {
+        let held = level(bytes, from + k * CELL_BYTES);
+        put_u16(bytes, place + k * CELL_BYTES, held);
+        k += 1;
+    }
+}
+
+// Marks the session spent: its present ranges are those that it had when opened.
+pub fn spend(bytes: &mut [u8])
+    requires { ⌜ length (now bytes) ≡ sessionBytes ⌝ }
+    ensures { λ _. ⌜ now (bytes .exit) ≡ patched (now (bytes .entry)) (decoding (now (bytes .entry)) .days) true (decoding (now (bytes .entry)) .opened) ⌝ }
+{
+    let n = days_of(bytes);
+    let opened = totals(bytes, OPENED_TOTALS_AT);
+    let lowest = opened.lowest;
+    let highest = opened.highest;
+    put_u16(bytes, MARK_AT, mark(true));
+    put_totals(lowest, highest, PRESENT_TOTALS_AT, bytes);
+    copy_levels(bytes, OPENED_AT, n, PRESENT_AT);
+    copy_levels(bytes, OPENED_AT + BLOCK_BYTES, n, PRESENT_AT + BLOCK_BYTES);
+}
+
+// ---- shown
+
+// Stores the points of n levels as the front of a list.
+fn show_levels(bytes: &[u8], place: usize, n: usize, out: &mut [u8])
+    requires { ⌜ (n ≤ mostDays) × (place + n * cellLength ≤ length (now bytes)) × (n * cellLength ≤ length (now out)) ⌝ }
+    ensures { λ _. ⌜ now (out .exit) ≡ sets (now (out .entry)) 0 (pointBytes (λ k. decoded lowestPoint (min (u16At (now (bytes .entry)) (place + k * cellLength)) highestLevel)) n) ⌝ }
+{
+    let mut k = 0;
+    while k < n {
+        let point = decode_short(level(bytes, place + k * CELL_BYTES), Session::LOWEST_POINT);
+        put_i16(out, k * CELL_BYTES, point);
+        k += 1;
+    }
+}
+
+// Stores the present range of each day, in points, as the front of both lists.
+pub fn show_present(bytes: &[u8], floors: &mut [u8], ceilings: &mut [u8])
+    requires { ⌜ (length (now bytes) ≡ sessionBytes) × (decoding (now bytes) .days * cellLength ≤ length (now floors)) × (decoding (now bytes) .days * cellLength ≤ length (now ceilings)) ⌝ }
+    ensures { λ _. ⌜ now (floors .exit) ≡ inFront (pointBytes (floorOn (decoding (now (bytes .entry)))) (decoding (now (bytes .entry)) .days)) (now (floors .entry)) ⌝ }
+    ensures { λ _. ⌜ now (ceilings .exit) ≡ inFront (pointBytes (ceilingOn (decoding (now (bytes .entry)))) (decoding (now (bytes .entry)) .days)) (now (ceilings .entry)) ⌝ }
+{
+    let n = days_of(bytes);
+    show_levels(bytes, PRESENT_AT, n, floors);
+    show_levels(bytes, PRESENT_AT + BLOCK_BYTES, n, ceilings);
 }

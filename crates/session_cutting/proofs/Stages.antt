@@ -16,9 +16,9 @@ use Rattle.base_codes.proofs.Laws.{point-most}
 use Rattle.base_codes.proofs.Casts.{seen, coded-seen}
 use Rattle.base_codes.specs.declared.Coded.{Coded}
 use Rattle.base_codes.specs.declared.Coded.the-variants.{Code, Outside}
-use Rattle.theory_method.specs.Filter.{Tight, tightened}
+use Rattle.theory_method.specs.Filter.{Tight}
 use Rattle.session.specs.Opening.{rangesOf}
-use Rattle.session.specs.Showing.{Fits, SessionInBounds, boxOf}
+use Rattle.session.specs.Showing.{Fits}
 use Rattle.session.specs.declared.Ranges.{Ranges}
 use Rattle.session.specs.declared.Session.{Session}
 use Rattle.session_cuts.specs.declared.Cut.{Cut}
@@ -75,14 +75,12 @@ module _ (n : ℕ) (c : Cut) {r : Checked} (e : r ≡ checkedCut n c) where
   pub checked-clips : n ≤ 512 → r .refusal ≡ 0 → Clips c (r .value)
   checked-clips few z = rw e (clips-of n c few (sym checked-refusal ∙ z))
 
+-- ---- cut_ranges
+
+pub clips-bounds : {rs : List ℕ} {n : ℕ} (r : Ranges) (c : Cut) {k : Ranges} → k ≡ clipped r c → Fits rs n r → malformed n c ≡ 0 → Fits rs n k
+clips-bounds {rs} {n} r c clip bounds e = rw clip (clipped-in-bounds rs n r c bounds e)
+
 -- ---- tighten_again
-
-module _ (s : Session) (c : Cut) {r : Ranges} (clip : r ≡ clipped (s .present) c) where
-  pub again-bounds : SessionInBounds s → malformed (s .days) c ≡ 0 → Fits (s .rises) (s .days) r
-  again-bounds bounds e = rw clip (clipped-in-bounds (s .rises) (s .days) (s .present) c (bounds .present) e)
-
-  pub again : {t : Tight} → t ≡ tightened (boxOf (s .rises) (s .days) r) → t ≡ retightened s (clipped (s .present) c)
-  again tight = rw clip at tight
 
 module _ (s : Session) (c : Cut) {t : Tight} (e : t ≡ retightened s (clipped (s .present) c)) where
   pub again-found : t .found ≡ true → {count : ℕ} → count ≡ length (changedDays (s .days) (s .present) (rangesOf t))

@@ -5,7 +5,9 @@ ghost use lib.ListN.{length};
 ghost use Rattle.limits.specs.Limits.{lowestPoint, highestPoint, lowestTotal, highestTotal};
 ghost use Rattle.session_cuts.specs.Numbered.{numbered};
 ghost use Rattle.base_codes.specs.Code.{coded};
-ghost use Rattle.session.specs.Showing.{SessionInBounds};
+ghost use Rattle.theory_method.specs.Filter.{InBounds, tightened};
+ghost use Rattle.tighten_filtering.specs.Boxed.{boxed};
+ghost use Rattle.session.specs.Showing.{SessionInBounds, boxOf};
 ghost use Rattle.session_cutting.specs.Cutting.{malformed, clipped, retightened, spend, withPresent, refusing, tightenedTo, afterCut, afterNumbered, listAfter};
 ghost use Rattle.session_cutting.specs.Stages.{checkedValue, checkedCut, Clips};
 use base_codes::Coded;
@@ -18,6 +20,7 @@ use session::Ranges;
 use session::Session;
 use session_cuts::Cut;
 use session_cuts::Numbered;
+use tighten_filtering::Totals;
 
 // The refusal's number, 0 for none, and the number of days whose range changed.
 pub struct CutAnswer {
@@ -31,9 +34,9 @@ pub struct AfterCut {
 }
 
 // The number of the refusal that a cut has by itself, and beside 0 its value as it is held.
-struct Checked {
-    refusal: u8,
-    value: usize,
+pub struct Checked {
+    pub refusal: u8,
+    pub value: usize,
 }
 
 // The total's range.
@@ -80,7 +83,8 @@ fn check_total(placed: bool, value: i32) -> Checked
     check_value(placed, 12, total, 5)
 }
 
-fn check(cut: Cut, days: usize) -> Checked
+// The refusal of a cut by itself, whatever the session: 12, 7, then 3 or 5, else 0; and its value.
+pub fn check(cut: Cut, days: usize) -> Checked
     ensures { λ r. ⌜ r ≡ checkedCut days cut ⌝ }
 {
     match cut {
@@ -91,7 +95,7 @@ fn check(cut: Cut, days: usize) -> Checked
     }
 }
 
-// The refusal of a cut by itself, whatever the session: 12, 7, then 3 or 5, else 0.
+// That refusal alone.
 pub fn malformed(cut: Cut, days: usize) -> u8
     ensures { λ r. ⌜ r ≡ malformed days cut ⌝ }
 {
@@ -129,6 +133,35 @@ fn clip(
             highest: min(highest, value),
         },
     }
+}
+
+// Clips ranges by a well-formed cut and tightens everything again.
+pub fn cut_ranges(
+    floors: &mut [u16; MOST_DAYS],
+    ceilings: &mut [u16; MOST_DAYS],
+    rises: &[u16; MOST_DAYS],
+    numbers: CodedNumbers,
+    cut: Cut,
+    value: usize,
+) -> Totals
+    requires { ⌜ InBounds (boxed (now floors) (now ceilings) (now rises) numbers) × (malformed (numbers .days) cut ≡ 0) × Clips cut value ⌝ }
+    ensures { λ r. ⌜ record { found = r .found; floors = now (floors .exit); ceilings = now (ceilings .exit); lowest = r .lowest; highest = r .highest } ≡ tightened (boxOf (now (rises .entry)) (numbers .days) (clipped (record { floors = now (floors .entry); ceilings = now (ceilings .entry); lowest = numbers .lowest; highest = numbers .highest }) cut)) ⌝ }
+{
+    let n = numbers.days;
+    let total = clip(
+        cut,
+        value,
+        floors,
+        ceilings,
+        numbers.lowest,
+        numbers.highest,
+    );
+    let clipped = CodedNumbers {
+        days: n,
+        lowest: total.lowest,
+        highest: total.highest,
+    };
+    tighten_filtering::tighten(floors, ceilings, rises, clipped)
 }
 
 fn refuse(session: Session, number: u8) -> AfterCut
@@ -182,20 +215,12 @@ fn tighten_again(session: Session, cut: Cut, value: usize, changed: &mut [u16]) 
     let ceilings = before.ceilings;
     let mut low = floors;
     let mut high = ceilings;
-    let total = clip(
-        cut,
-        value,
-        &mut low,
-        &mut high,
-        before.lowest,
-        before.highest,
-    );
     let numbers = CodedNumbers {
         days: n,
-        lowest: total.lowest,
-        highest: total.highest,
+        lowest: before.lowest,
+        highest: before.highest,
     };
-    let t = tighten_filtering::tighten(&mut low, &mut high, &rises, numbers);
+    let t = cut_ranges(&mut low, &mut high, &rises, numbers, cut, value);
     if !t.found {
         return spend(session);
     }

@@ -1,11 +1,11 @@
 -- The part of a list that begins at a place.
-use Prim.Native.Nat.{ℕ, zero, suc, _+_, _-_, _*_, _<_}
+use Prim.Native.Nat.{ℕ, zero, suc, _+_, _-_, _*_, _≤_, _<_}
 use mathlib.Core.Path.{_≡_, refl, sym, _∙_}
-use mathlib.Core.List.{List, _++_}
+use mathlib.Core.List.{List, [], _∷_, _++_}
 use native.Mathlib.Omega.{arith}
 use native.Mathlib.Decide.{decLt}
-use lib.ListN.{length, length-append, List·getD-append}
-use lib.Seq.{getD-append-add, ext-getD}
+use lib.ListN.{length, set, length-set, length-append, List·getD-append}
+use lib.Seq.{sets, getD-set-same, getD-set-other, getD-append-add, ext-getD}
 use Rattle.theory_lists.specs.Sum.{at}
 use Rattle.theory_lists.specs.Rows.{rows, length-rows}
 
@@ -61,3 +61,34 @@ module _ {l : List ℕ} {i : ℕ} (f : ℕ → List ℕ) (w : ℕ) where
       go : Dec (k < n) → (k < n → Part l (i + k * w) (f k)) → Part l (i + k * w) (f k)
       go (yes u) ih = ih u
       go (no u) ih = let q : k ≡ n = omega arith in rw q (part-right (rows f n) (f n) s p)
+
+-- ---- a list stored from a place on
+
+-- the elements before it stay, and those past it
+pub stored-before : (xs l : List ℕ) (i k : ℕ) → k < i → at (sets l i xs) k ≡ at l k
+stored-before [] l i k h = refl
+stored-before (x ∷ xs) l i k h = stored-before xs (set l i x) (suc i) k (omega arith) ∙ getD-set-other l i k x 0 (λ e. absurd (omega arith))
+
+pub stored-past : (xs l : List ℕ) (i k : ℕ) → i + length xs ≤ k → at (sets l i xs) k ≡ at l k
+stored-past [] l i k h = refl
+stored-past (x ∷ xs) l i k h = stored-past xs (set l i x) (suc i) k (omega arith) ∙ getD-set-other l i k x 0 (λ e. absurd (omega arith))
+
+stored-at : (xs l : List ℕ) (i j : ℕ) → i + length xs ≤ length l → j < length xs → at (sets l i xs) (i + j) ≡ at xs j
+stored-at [] l i j h u = absurd (omega arith)
+stored-at (x ∷ xs) l i zero h u =
+    let z : i + 0 ≡ i = omega arith in
+    rw z (stored-before xs (set l i x) (suc i) i (omega arith) ∙ getD-set-same l i x 0 (omega arith))
+stored-at (x ∷ xs) l i (suc j) h u =
+    let e : i + suc j ≡ suc i + j = omega arith in
+    rw e (stored-at xs (set l i x) (suc i) j (omega (arith, length-set l i x)) (omega arith))
+
+module _ (l : List ℕ) (i : ℕ) (xs : List ℕ) where
+  pub part-stored : i + length xs ≤ length l → Part (sets l i xs) i xs
+  part-stored h = record { has = λ j u. stored-at xs l i j h u }
+
+  -- a part that ends before it, or begins past it
+  pub part-before : {k : ℕ} (ys : List ℕ) → k + length ys ≤ i → Part l k ys → Part (sets l i xs) k ys
+  part-before {k} ys h p = record { has = λ j u. stored-before xs l i (k + j) (omega arith) ∙ p .has j u }
+
+  pub part-past : {k : ℕ} (ys : List ℕ) → i + length xs ≤ k → Part l k ys → Part (sets l i xs) k ys
+  part-past {k} ys h p = record { has = λ j u. stored-past xs l i (k + j) (omega arith) ∙ p .has j u }

@@ -1,131 +1,100 @@
--- `open_lists` meets its contract: each array holds its list's points (`Held`), so that its lent part is the profile's list.
-use Prim.Native.Nat.{ℕ, _-_}
-use native.Mathlib.Omega.{arith}
+-- `open_lists` meets its contract: what is coded is the profile's (`lists-coded`), and each return is a law of Opening by what opening over codes gave.
+use mathlib.Core.Path.{_≡_, _∙_}
+use Prim.Native.Nat.{ℕ}
+use mathlib.Core.List.{List}
 use borrow.Author.Needs.{needs}
-use Rattle.c_lists.specs.Profiles.{byteProfile}
-use Rattle.c_lists.proofs.Laws.{Long, long, Held, held}
+use Rattle.theory_method.specs.Filter.{Box}
+use Rattle.tighten_filtering.specs.Boxed.{boxed}
+use Rattle.session.specs.Opening.{fresh, opened}
+use Rattle.session.specs.declared.Opened.{Opened}
+use Rattle.session.specs.declared.Ranges.{Ranges}
+use Rattle.session.proofs.Checks.{CodedArrays, all-refused, in-bounds, all-opened}
+use Rattle.session.proofs.Stages.{session-refused, session-fresh}
+use Rattle.c_lists.specs.Profiles.{ByteProfile, byteProfile, profileOf}
+use Rattle.c_sessions.proofs.Opening.{lists-coded, open-refused, open-stored, fresh-in-bounds}
 use Rattle.c_sessions.proofs.open_lists.Statement.{statement}
 use Rattle.c_sessions.proofs.open_lists.Tie as tie
 
--- ---- the places on the way, each from the next: the slices are known; an array is made, and holds the floors, the ceilings, the rises; each is lent in part
+-- ---- the places on the way: the slices are known, the lists coded and passed, the ranges opened and passed
 
 abbrev at-start : tie.After-shared-slice-known3 → tie.Start
-at-start c = c .before .before .before
+at-start c = c .before .before .before .before
 
-abbrev at-known : tie.After-low → tie.After-shared-slice-known3
-at-known c = c .before
+abbrev from-coded : tie.After-code-lists → tie.Start
+from-coded c = at-start (c .before .before .before .before)
 
-abbrev at-low : tie.After-points → tie.After-low
-at-low c = c .before
+abbrev at-coded : tie.Else1 → tie.After-code-lists
+at-coded c = c .before .before
 
-abbrev at-floors : tie.After-high → tie.After-points
-at-floors c = c .before
+abbrev at-passed : tie.After-open-ranges → tie.Else1
+at-passed c = c .before .before .before .before
 
-abbrev at-high : tie.After-points2 → tie.After-high
-at-high c = c .before
+abbrev at-opened : tie.Else2 → tie.After-open-ranges
+at-opened c = c .before .before
 
-abbrev at-ceilings : tie.After-steps → tie.After-points2
-at-ceilings c = c .before
+abbrev at-stored : tie.After-slice-known2 → tie.After-store-fresh
+at-stored c = c .before .before
 
-abbrev at-steps : tie.After-points3 → tie.After-steps
-at-steps c = c .before
+abbrev from-stored : tie.After-store-fresh-arg → tie.Else2
+from-stored c = c .before .before .before .before
 
-abbrev at-rises : tie.After-low2 → tie.After-points3
-at-rises c = c .before
+-- ---- what was handed over, and its codes
 
-abbrev at-low-lent : tie.After-high2 → tie.After-low2
-at-low-lent c = c .before
+abbrev handed : tie.Start → ByteProfile
+handed s = let a = s .args in byteProfile (a .numbers) (a .floors .now) (a .ceilings .now) (a .rises .now)
 
-abbrev at-high-lent : tie.After-steps2 → tie.After-high2
-at-high-lent c = c .before
+abbrev steps : tie.After-code-lists → List ℕ
+steps c = c .code-lists .last .1 .1 .1 .1 .1 .1 .0
 
-abbrev at-steps-lent : tie.After-open → tie.After-steps2
-at-steps-lent c = c .before
+coded : (c : tie.After-code-lists)
+    → let l = c .code-lists .last .1 .1 .1 .1 in
+    CodedArrays (profileOf (handed (from-coded c))) (l .0) (l .1 .0) (steps c) (c .code-lists .result)
+coded c = let e = c .code-lists .ensures in lists-coded (handed (from-coded c)) (from-coded c .pre .1) (e .0) (e .1)
 
--- ---- what was handed over, and its lengths, past 1 and 2
+-- what is opened
+abbrev codes : tie.After-code-lists → Box
+codes c = let l = c .code-lists .last .1 .1 .1 .1 in boxed (l .0) (l .1 .0) (steps c) (c .code-lists .result .numbers)
 
-abbrev days : tie.Start → ℕ
-days s = s .args .numbers .days
+abbrev ranges : tie.After-open-ranges → Ranges
+ranges c = let o = c .open-ranges in record { floors = o .last .0; ceilings = o .last .1 .0; lowest = o .result .lowest; highest = o .result .highest }
 
-abbrev from-floors : tie.After-points → tie.Start
-from-floors c = at-start (at-known (at-low c))
+session-opened : (c : tie.Else2)
+    → let k = at-coded (at-passed (at-opened c)) in
+    let s = fresh (k .code-lists .result .numbers .days) (steps k) (ranges (at-opened c)) in
+    _≡_ {A = Opened} (record { refusal = 0; session = s }) (opened (profileOf (handed (from-coded k))))
+session-opened c =
+    let o = at-opened c in
+    let p = at-passed o in
+    let k = at-coded p in
+    session-fresh (codes k) (o .open-ranges .ensures) (c .if2 .left) ∙ all-opened (coded k) (p .if1 .left)
 
-abbrev from-ceilings : tie.After-points2 → tie.Start
-from-ceilings c = from-floors (at-floors (at-high c))
-
-abbrev from-rises : tie.After-points3 → tie.Start
-from-rises c = from-ceilings (at-ceilings (at-steps c))
-
-sizes : (s : tie.Start) → let a = s .args in Long (byteProfile (a .numbers) (a .floors .now) (a .ceilings .now) (a .rises .now))
-sizes s = long _ (s .pre)
-
--- ---- what the arrays hold
-
-low : (c : tie.After-points) → let s = from-floors c in Held (s .args .floors .now) (days s) (c .points .last .1 .1 .0)
-low c = held _ _ (sizes (from-floors c) .few) (c .points .ensures)
-
-high : (c : tie.After-points2) → let s = from-ceilings c in Held (s .args .ceilings .now) (days s) (c .points2 .last .1 .1 .0)
-high c = held _ _ (sizes (from-ceilings c) .few) (c .points2 .ensures)
-
-steps : (c : tie.After-points3) → let s = from-rises c in Held (s .args .rises .now) (days s - 1) (c .points3 .last .1 .1 .0)
-steps c = held _ _ (omega (arith, sizes (from-rises c) .few)) (c .points3 .ensures)
-
--- ---- what the calls ask
-
-points-requires : tie.Need-points-requires
-points-requires c κs = let z = sizes (at-start (at-known c)) in omega arith
-
-points-requires-2 : tie.Need-points-requires-2
-points-requires-2 c κs = let z = sizes (from-floors (at-floors c)) in omega arith
-
-sub-points : tie.Need-sub-points
-sub-points c = omega (arith, sizes (from-ceilings c) .some)
-
-points-requires-3 : tie.Need-points-requires-3
-points-requires-3 c κs = let z = sizes (from-ceilings (at-ceilings c)) in omega arith
-
-array-share-prefix-low : tie.Need-array-share-prefix-low
-array-share-prefix-low c = low (at-floors (at-high (at-ceilings (at-steps c)))) .room
-
-slice-aggregate-open : tie.Need-slice-aggregate-open
-slice-aggregate-open c = low (at-floors (at-high (at-ceilings (at-steps (at-rises c))))) .long
-
-array-share-prefix-high : tie.Need-array-share-prefix-high
-array-share-prefix-high c = high (at-ceilings (at-steps (at-rises c))) .room
-
-slice-aggregate-open-2 : tie.Need-slice-aggregate-open-2
-slice-aggregate-open-2 c = high (at-ceilings (at-steps (at-rises (at-low-lent c)))) .long
-
-sub-steps : tie.Need-sub-steps
-sub-steps c = omega (arith, sizes (from-rises (at-rises (at-low-lent c))) .some)
-
-array-share-prefix-steps : tie.Need-array-share-prefix-steps
-array-share-prefix-steps c = steps (at-rises (at-low-lent c)) .room
-
-slice-aggregate-open-3 : tie.Need-slice-aggregate-open-3
-slice-aggregate-open-3 c = steps (at-rises (at-low-lent (at-high-lent c))) .long
+-- ---- the needs
 
 returns : tie.Need-returns
-returns c =
-    let r = at-rises (at-low-lent (at-high-lent (at-steps-lent c))) in
-    let h = at-ceilings (at-steps r) in
-    let l = at-floors (at-high h) in
-    rw (low l .same, high h .same, steps r .same) at (c .«open» .ensures)
+returns c = let k = c .before .before in open-refused _ _ (from-coded k .pre .0) (from-coded k .pre .1) (c .if1 .taken) (all-refused (coded k) (c .if1 .taken))
+
+open-ranges-requires : tie.Need-open-ranges-requires
+open-ranges-requires c κs = let p = c .before .before .before in in-bounds (coded (at-coded p)) (p .if1 .left)
+
+returns-2 : tie.Need-returns-2
+returns-2 c =
+    let o = c .before .before in
+    let p = at-passed o in
+    let k = at-coded p in
+    open-refused _ _ (from-coded k .pre .0) (from-coded k .pre .1) (c .if2 .taken) (session-refused (codes k) (o .open-ranges .ensures) (c .if2 .taken) ∙ all-opened (coded k) (p .if1 .left))
+
+store-fresh-requires : tie.Need-store-fresh-requires
+store-fresh-requires c κs =
+    let e = from-stored c in
+    let k = at-coded (at-passed (at-opened e)) in
+    (fresh-in-bounds (handed (from-coded k)) _ _ _ (session-opened e), from-coded k .pre .0)
+
+returns-3 : tie.Need-returns-3
+returns-3 c =
+    let s = at-stored c in
+    let e = from-stored (s .before) in
+    let k = at-coded (at-passed (at-opened e)) in
+    open-stored _ _ (from-coded k .pre .0) (from-coded k .pre .1) _ (session-opened e) (s .store-fresh .ensures)
 
 pub open-lists-spec : {M : Type 1} → statement M
-open-lists-spec =
-    tie.close
-    (tie.spec
-    points-requires
-    points-requires-2
-    sub-points
-    points-requires-3
-    array-share-prefix-low
-    slice-aggregate-open
-    array-share-prefix-high
-    slice-aggregate-open-2
-    sub-steps
-    array-share-prefix-steps
-    slice-aggregate-open-3
-    (λ c. search needs)
-    returns)
+open-lists-spec = tie.close (tie.spec (λ c. search needs) returns open-ranges-requires returns-2 store-fresh-requires (λ c. search needs) returns-3)

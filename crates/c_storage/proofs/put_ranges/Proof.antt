@@ -8,10 +8,10 @@ use Rattle.c_storage.proofs.put_ranges.Tie as tie
 
 -- the places on the way, each from the next: the floors are stored, and the ceilings
 abbrev at-start : tie.After-put-block → tie.Start
-at-start c = c .before .before .before .before .before .before
+at-start c = c .before .before .before
 
 abbrev at-floors : tie.After-put-block2 → tie.After-put-block
-at-floors c = c .before .before .before .before .before
+at-floors c = c .before .before .before .before
 
 abbrev at-ceilings : tie.After-slice-known3 → tie.After-put-block2
 at-ceilings c = c .before .before
@@ -22,8 +22,8 @@ returns c =
     let l = at-floors h in
     let start = at-start l in
     let a = start .args in
-    laid-last (laid (a .out .now) (a .place) (blockBytes (a .ranges .floors) (a .n)) (l .put-block .ensures) (block-length _ (a .n) (start .pre .0)))
-    (blockBytes (a .ranges .ceilings) (a .n)) (h .put-block2 .ensures)
+    laid-last (laid (a .out .now) (a .place) (blockBytes (a .floors .now) (a .n)) (l .put-block .ensures) (block-length _ (a .n) (start .pre .0)))
+    (blockBytes (a .ceilings .now) (a .n)) (h .put-block2 .ensures)
 
 pub put-ranges-spec : {M : Type 1} → statement M
 put-ranges-spec =

@@ -1,4 +1,4 @@
--- `total` meets its contract: a law of codes for each return, by the field's number.
+-- `bound` meets its contract: a law of codes for each return, by the field's number.
 use lib.IntN.{ℤ}
 use mathlib.Core.Path.{_≡_, ap, _∙_}
 use Rattle.limits.specs.Limits.{lowestTotal, highestTotal}
@@ -7,8 +7,8 @@ use Rattle.base_codes.proofs.Laws.{coded-code, coded-outside}
 use Rattle.base_codes.proofs.Casts.{coded-seen}
 use Rattle.base_little_endian.specs.Fields.{i32At}
 use borrow.Author.Needs.{needs, sfits-of}
-use Rattle.c_storage.proofs.total.Statement.{statement}
-use Rattle.c_storage.proofs.total.Tie as tie
+use Rattle.c_storage.proofs.bound.Statement.{statement}
+use Rattle.c_storage.proofs.bound.Tie as tie
 
 -- the places on the way, each from the next: the field is read, and coded
 abbrev at-start : tie.After-i32-at → tie.Start
@@ -35,6 +35,6 @@ returns-2 c =
     let t = coded-code lowestTotal highestTotal (field (at-field e)) _ (answer e) (h .held .given .1) in
     rw (t .0) (t .1)
 
-pub total-spec : {M : Type 1} → statement M
-total-spec =
+pub bound-spec : {M : Type 1} → statement M
+bound-spec =
     tie.close (tie.spec (λ c. search needs) (λ c. search needs) (λ c. search needs) (λ c. search needs) returns returns-2)
