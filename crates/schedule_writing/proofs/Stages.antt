@@ -26,7 +26,7 @@ use Rattle.schedule_writing.proofs.Levels.{Standing, raised-standing, t
 -- ---- a session's ranges, and a value that was checked by them
 
 -- the present ranges, with a total to raise to
-present-bounds : {s : Session} {t : ℕ} → SessionInBounds s → t ≤ 2560000 → InBounds (box (s .present .floors) (s .present .ceilings) (s .rises) (s .days) 0 t)
+pub present-bounds : {s : Session} {t : ℕ} → SessionInBounds s → t ≤ 2560000 → InBounds (box (s .present .floors) (s .present .ceilings) (s .rises) (s .days) 0 t)
 present-bounds bounds = let b = bounds .present in refit b (b .floors) (b .ceilings) (b .floor) (b .ceiling) (omega arith)
 
 -- a value by the present range, which does not refuse it
