@@ -1,4 +1,3 @@
-pub mod Held
 pub mod Opening
 pub mod Cutting
 pub mod Showing
