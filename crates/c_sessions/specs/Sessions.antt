@@ -7,17 +7,17 @@ use Prim.Native.Nat.{ℕ, _/_}
 use lib.IntN.{ℤ}
 use lib.Dec.{eqb}
 use lib.ListN.{length}
-use Rattle.theory_lists.specs.Sum.{at}
 use Rattle.theory_lists.specs.Front.{inFront}
 use Rattle.session.specs.Opening.{opened}
 use Rattle.session.specs.Showing.{shown, listTooShort}
+use Rattle.session.specs.declared.Session.{Session}
 use Rattle.session.specs.declared.Shown.{Shown}
 use Rattle.session_cuts.specs.declared.Numbered.{Numbered}
-use Rattle.session_cutting.specs.Cutting.{afterNumbered, changedDays}
+use Rattle.session_cutting.specs.Cutting.{afterNumbered}
+use Rattle.session_cutting.specs.declared.AfterCut.{AfterCut}
 use Rattle.session_cutting.specs.declared.CutAnswer.{CutAnswer}
-use Rattle.c_lists.specs.Lists.{cellBytes}
 use Rattle.c_lists.specs.Profiles.{ByteProfile, byteLengthRefusal, profileOf}
-use Rattle.c_storage.specs.Layout.{sessionBytes, encoding, decoding}
+use Rattle.c_storage.specs.Layout.{sessionBytes, encoding, decoding, patched, changedIn, dayBytes}
 
 abbrev pub isSession : List ℕ → Bool
 isSession b = eqb (length b) sessionBytes
@@ -35,20 +35,35 @@ bytesOpened b h = cond (eqb (openRefusal b h) 0) (encoding (opened (profileOf h)
 
 -- ---- cutting, where the list for changed days has that many bytes
 
-unfoldable pub cutAnswer : List ℕ → Numbered → ℕ → CutAnswer
-cutAnswer b t list = cond (isSession b) (afterNumbered (decoding b) t (list / 2) .answer) (record { refusal = 2; changed = 0 })
+-- the days whose bytes change where a session's present ranges are stored
+abbrev pub changedBy : List ℕ → Session → List ℕ
+changedBy b s = changedIn b (s .present .floors) (s .present .ceilings) (s .days)
 
--- the session's bytes afterwards: as they were beside a refusal other than 8
-unfoldable pub bytesCut : List ℕ → Numbered → ℕ → List ℕ
-bytesCut b t list =
-    let refusal : ℕ = cutAnswer b t list .refusal in
-    cond (eqb refusal 0 || eqb refusal 8) (encoding (afterNumbered (decoding b) t (list / 2) .session)) b
+-- what is answered, by what the cut gives for the session that the bytes hold
+unfoldable pub answerFor : List ℕ → AfterCut → CutAnswer
+answerFor b a =
+    let refusal : ℕ = a .answer .refusal in
+    record { refusal = refusal; changed = cond (eqb refusal 0) (length (changedBy b (a .session))) 0 }
+
+-- the session's bytes afterwards: as they were beside a refusal other than 8, else with the patch that the cut makes
+unfoldable pub bytesFor : List ℕ → AfterCut → List ℕ
+bytesFor b a =
+    let refusal : ℕ = a .answer .refusal in
+    let s : Session = a .session in
+    cond (eqb refusal 0 || eqb refusal 8) (patched b (s .days) (s .spent) (s .present)) b
 
 -- the list afterwards: as it was beside a refusal, else with the changed days at its front
+unfoldable pub listFor : List ℕ → AfterCut → List ℕ → List ℕ
+listFor b a l = cond (eqb (a .answer .refusal) 0) (inFront (dayBytes (changedBy b (a .session))) l) l
+
+unfoldable pub cutAnswer : List ℕ → Numbered → ℕ → CutAnswer
+cutAnswer b t list = cond (isSession b) (answerFor b (afterNumbered (decoding b) t (list / 2))) (record { refusal = 2; changed = 0 })
+
+unfoldable pub bytesCut : List ℕ → Numbered → ℕ → List ℕ
+bytesCut b t list = cond (isSession b) (bytesFor b (afterNumbered (decoding b) t (list / 2))) b
+
 unfoldable pub changedBytes : List ℕ → Numbered → List ℕ → List ℕ
-changedBytes b t l =
-    let days : List ℕ = changedDays (decoding b .days) (decoding b .present) (afterNumbered (decoding b) t (length l / 2) .session .present) in
-    cond (eqb (cutAnswer b t (length l) .refusal) 0) (inFront (cellBytes (at days) (length days)) l) l
+changedBytes b t l = cond (isSession b) (listFor b (afterNumbered (decoding b) t (length l / 2)) l) l
 
 -- ---- showing, with lists of that many bytes
 

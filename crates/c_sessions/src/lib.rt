@@ -1,27 +1,32 @@
 // A session's bytes, opened, cut and shown, as a caller in C hands them over.
 ghost use mathlib.Core.Path.{_≡_};
-ghost use Prim.Native.Nat.{_-_};
+ghost use Prim.Native.Nat.{_-_, _/_};
 ghost use lib.ListN.{length};
 ghost use Rattle.limits.specs.Limits.{lowestPoint, highestPoint, lowestRise, highestRise};
 ghost use Rattle.theory_lists.specs.Written.{written};
 ghost use Rattle.base_codes.specs.Code.{codeOrZero};
-ghost use Rattle.session_cuts.specs.Numbered.{numbered};
-ghost use Rattle.session.specs.Showing.{floorOn, ceilingOn};
+ghost use Rattle.session.specs.Showing.{listTooShort, floorOn, ceilingOn};
 ghost use Rattle.session.specs.Stages.{codedProfile};
+ghost use Rattle.session_cuts.specs.Numbered.{numbered};
+ghost use Rattle.session_cutting.specs.Cutting.{afterCut};
 ghost use Rattle.c_lists.specs.Lists.{pointAt, lentPoints};
 ghost use Rattle.c_lists.specs.Profiles.{byteProfile, byteLengthRefusal, profileOf};
 ghost use Rattle.c_storage.specs.Layout.{sessionBytes, decoding};
-ghost use Rattle.c_sessions.specs.Sessions.{openRefusal, bytesOpened, cutAnswer, bytesCut, changedBytes, shownOver};
+ghost use Rattle.c_sessions.specs.Sessions.{openRefusal, bytesOpened, answerFor, bytesFor, listFor, cutAnswer, bytesCut, changedBytes, shownOver};
+ghost use Rattle.c_sessions.specs.Stages.{Cuttable, madeOf};
 use base_codes::CodedNumbers;
-use base_numbers::min;
 use c_lists::code_points;
 use c_lists::length_refusal;
-use c_lists::put_cells;
-use c_lists::put_points;
 use c_storage::SESSION_BYTES;
-use c_storage::decode;
-use c_storage::encode;
+use c_storage::days_of;
+use c_storage::is_spent;
+use c_storage::load_present;
+use c_storage::load_rises;
+use c_storage::show_present;
+use c_storage::spend;
+use c_storage::store_cut;
 use c_storage::store_fresh;
+use c_storage::total_of;
 use limits::HIGHEST_POINT;
 use limits::HIGHEST_RISE;
 use limits::LOWEST_POINT;
@@ -29,7 +34,10 @@ use limits::LOWEST_RISE;
 use limits::MOST_DAYS;
 use session::CodedProfile;
 use session::Numbers;
+use session::Session;
 use session::Shown;
+use session_cuts::Cut;
+use session_cuts::Numbered;
 use session_cutting::CutAnswer;
 
 // ---- opening
@@ -120,33 +128,98 @@ pub fn open(
 
 // ---- cutting
 
+fn refuse(number: u8) -> CutAnswer
+    ensures { λ r. ⌜ r ≡ record { refusal = number; changed = 0 } ⌝ }
+{
+    CutAnswer {
+        refusal: number,
+        changed: 0,
+    }
+}
+
+// Clips by a well-formed cut and tightens everything again: 8, or the days that changed.
+fn cut_present(session: &mut [u8], cut: Cut, value: usize, changed: &mut [u8]) -> CutAnswer
+    requires { ⌜ Cuttable (now session) cut value (now changed) ⌝ }
+    ensures { λ r. ⌜ r ≡ answerFor (now (session .entry)) (madeOf (now (session .entry)) cut) ⌝ }
+    ensures { λ r. ⌜ now (session .exit) ≡ bytesFor (now (session .entry)) (madeOf (now (session .entry)) cut) ⌝ }
+    ensures { λ r. ⌜ now (changed .exit) ≡ listFor (now (session .entry)) (madeOf (now (session .entry)) cut) (now (changed .entry)) ⌝ }
+{
+    let mut rises = [0u16; MOST_DAYS];
+    let mut floors = [0u16; MOST_DAYS];
+    let mut ceilings = [0u16; MOST_DAYS];
+    load_rises(session, &mut rises);
+    load_present(session, &mut floors, &mut ceilings);
+    let days = days_of(session);
+    let total = total_of(session);
+    let held = CodedNumbers {
+        days,
+        lowest: total.lowest,
+        highest: total.highest,
+    };
+    let t = session_cutting::cut_ranges(&mut floors, &mut ceilings, &rises, held, cut, value);
+    if !t.found {
+        spend(session);
+        return refuse(8);
+    }
+    let left = CodedNumbers {
+        days,
+        lowest: t.lowest,
+        highest: t.highest,
+    };
+    let count = store_cut(&floors, &ceilings, left, session, changed);
+    CutAnswer {
+        refusal: 0,
+        changed: count,
+    }
+}
+
+// Document 01's checks 12, 7, 3 or 5, 2, 9 from a few bytes, then 8.
+fn cut_known(session: &mut [u8], cut: Cut, changed: &mut [u8]) -> CutAnswer
+    requires { ⌜ length (now session) ≡ sessionBytes ⌝ }
+    ensures { λ r. ⌜ r ≡ answerFor (now (session .entry)) (afterCut (decoding (now (session .entry))) cut (length (now (changed .entry)) / 2)) ⌝ }
+    ensures { λ r. ⌜ now (session .exit) ≡ bytesFor (now (session .entry)) (afterCut (decoding (now (session .entry))) cut (length (now (changed .entry)) / 2)) ⌝ }
+    ensures { λ r. ⌜ now (changed .exit) ≡ listFor (now (session .entry)) (afterCut (decoding (now (session .entry))) cut (length (now (changed .entry)) / 2)) (now (changed .entry)) ⌝ }
+{
+    let days = days_of(session);
+    let checked = session_cutting::check(cut, days);
+    if checked.refusal != 0 {
+        return refuse(checked.refusal);
+    }
+    if changed.len() / 2 < days {
+        return refuse(2);
+    }
+    if is_spent(session) {
+        return refuse(9);
+    }
+    cut_present(session, cut, checked.value, changed)
+}
+
 pub fn cut(session: &mut [u8], kind: usize, day: usize, value: i32, changed: &mut [u8]) -> CutAnswer
     ensures { λ r. ⌜ r ≡ cutAnswer (now (session .entry)) (numbered kind day value) (length (now (changed .entry))) ⌝ }
     ensures { λ r. ⌜ now (session .exit) ≡ bytesCut (now (session .entry)) (numbered kind day value) (length (now (changed .entry))) ⌝ }
     ensures { λ r. ⌜ now (changed .exit) ≡ changedBytes (now (session .entry)) (numbered kind day value) (now (changed .entry)) ⌝ }
 {
     if session.len() != SESSION_BYTES {
-        return CutAnswer {
-            refusal: 2,
-            changed: 0,
-        };
+        return refuse(2);
     }
-    let mut list = [0u16; MOST_DAYS];
-    let room = min(MOST_DAYS, changed.len() / 2);
-    let after = session_cutting::cut_numbered(decode(session), kind, day, value, &mut list[..room]);
-    let answer = after.answer;
-    if answer.refusal == 0 {
-        put_cells(&list, answer.changed, 0, changed);
-        encode(after.session, session);
-        return answer;
-    }
-    if answer.refusal == 8 {
-        encode(after.session, session);
-    }
-    answer
+    let Numbered::Known(known) = Cut::numbered(kind, day, value) else {
+        return refuse(12);
+    };
+    cut_known(session, known, changed)
 }
 
 // ---- showing
+
+fn too_short() -> Shown
+    ensures { λ r. ⌜ r ≡ listTooShort ⌝ }
+{
+    Shown {
+        refusal: 2,
+        lowest: 0,
+        highest: 0,
+        spent: false,
+    }
+}
 
 pub fn show(session: &[u8], floors: &mut [u8], ceilings: &mut [u8]) -> Shown
     ensures { λ r. ⌜ r ≡ shownOver (now (session .entry)) (length (now (floors .entry))) (length (now (ceilings .entry))) ⌝ }
@@ -154,24 +227,21 @@ pub fn show(session: &[u8], floors: &mut [u8], ceilings: &mut [u8]) -> Shown
     ensures { λ r. ⌜ now (ceilings .exit) ≡ lentPoints (r .refusal) (ceilingOn (decoding (now (session .entry)))) (decoding (now (session .entry)) .days) (now (ceilings .entry)) ⌝ }
 {
     if session.len() != SESSION_BYTES {
-        return Shown {
-            refusal: 2,
-            lowest: 0,
-            highest: 0,
-            spent: false,
-        };
+        return too_short();
     }
-    let held = decode(session);
-    let n = held.days;
-    let mut low = [0i16; MOST_DAYS];
-    let mut high = [0i16; MOST_DAYS];
-    let low_room = min(MOST_DAYS, floors.len() / 2);
-    let high_room = min(MOST_DAYS, ceilings.len() / 2);
-    let shown = held.show(&mut low[..low_room], &mut high[..high_room]);
-    if shown.refusal != 0 {
-        return shown;
+    let days = days_of(session);
+    if floors.len() / 2 < days {
+        return too_short();
     }
-    put_points(&low, n, floors);
-    put_points(&high, n, ceilings);
-    shown
+    if ceilings.len() / 2 < days {
+        return too_short();
+    }
+    show_present(session, floors, ceilings);
+    let total = total_of(session);
+    Shown {
+        refusal: 0,
+        lowest: base_codes::decode(total.lowest, Session::LOWEST_TOTAL),
+        highest: base_codes::decode(total.highest, Session::LOWEST_TOTAL),
+        spent: is_spent(session),
+    }
 }

@@ -36,8 +36,8 @@ level-set c =
 level-carried : (c : tie.After-carry)
     → let k = at-ceiling (c .before) in
     let a = at-start (at-copied (at-floor k)) .args in
-    LevelCarried (a .session) (a .day) (a .level) (at-floor k .set-level .last .0) (k .set-level2 .last .0) (c .carry .result) (c .carry .last .0)
-level-carried c = record { before = level-set (at-ceiling (c .before)); first = c .carry .ensures .0; carried = c .carry .ensures .1 }
+    LevelCarried (a .session) (a .day) (a .level) (at-floor k .set-level .last .0) (k .set-level2 .last .0) (c .carry .result .days) (c .carry .last .0)
+level-carried c = record { before = level-set (at-ceiling (c .before)); first = c .carry .ensures .0; carried = c .carry .ensures .1 .0 }
 
 carry-requires : tie.Need-carry-requires
 carry-requires c κs = through-carriable (level-set (at-ceiling c))
