@@ -17,9 +17,9 @@ use Rattle.theory_lists.specs.Front.{inFront}
 use Rattle.theory_lists.specs.Rows.{rows, rows-same, length-rows, front-sets}
 use Rattle.base_codes.specs.Code.{on}
 use Rattle.session.proofs.Lengths.{days-taken}
-use Rattle.base_little_endian.specs.Fields.{u16Bytes, i16Bytes}
-use Rattle.base_little_endian.proofs.Laws.{u16-length, i16-length}
-use Rattle.c_lists.specs.Lists.{pointAt, pointsIn, pointBytes, cellBytes, lentPoints}
+use Rattle.base_little_endian.specs.Fields.{i16Bytes}
+use Rattle.base_little_endian.proofs.Laws.{i16-length}
+use Rattle.c_lists.specs.Lists.{pointAt, pointsIn, pointBytes, lentPoints}
 use Rattle.c_lists.specs.Profiles.{ByteProfile, haveLengths, byteCountsRefusal, byteLengthRefusal}
 
 -- ---- the lengths by what the tests found
@@ -83,19 +83,13 @@ held b n {l} few e =
 
 -- ---- elements stored as the front of a list
 
-rows-front : (f g : ℕ → List ℕ) (n : ℕ) (l : List ℕ) {out : List ℕ} → ((k : ℕ) → length (g k) ≡ 2) → ((k : ℕ) → k < n → g k ≡ f k) → n * 2 ≤ length l
-    → out ≡ sets l 0 (rows g n) → out ≡ inFront (rows f n) l
-rows-front f g n l wide same room e = e ∙ rw (← rows-same g f n same) (front-sets (rows g n) l (omega (arith, length-rows g 2 n (λ k h. wide k))))
-
 pub points-front : (f g : ℕ → ℤ) (n : ℕ) (l : List ℕ) {out : List ℕ} → ((k : ℕ) → k < n → g k ≡ f k) → n * 2 ≤ length l
     → out ≡ sets l 0 (pointBytes g n) → out ≡ inFront (pointBytes f n) l
 unfolding pointBytes
-points-front f g n l same room e = rows-front (λ k. i16Bytes (f k)) (λ k. i16Bytes (g k)) n l (λ k. i16-length (g k)) (λ k h. ap i16Bytes (same k h)) room e
-
-pub cells-front : (f g : ℕ → ℕ) (n : ℕ) (l : List ℕ) {out : List ℕ} → ((k : ℕ) → k < n → g k ≡ f k) → n * 2 ≤ length l
-    → out ≡ sets l 0 (cellBytes g n) → out ≡ inFront (cellBytes f n) l
-unfolding cellBytes
-cells-front f g n l same room e = rows-front (λ k. u16Bytes (f k)) (λ k. u16Bytes (g k)) n l (λ k. u16-length (g k)) (λ k h. ap u16Bytes (same k h)) room e
+points-front f g n l same room e =
+    let stored : List ℕ = rows (λ k. i16Bytes (g k)) n in
+    let long = length-rows (λ k. i16Bytes (g k)) 2 n (λ k h. i16-length (g k)) in
+    e ∙ rw (← rows-same (λ k. i16Bytes (g k)) (λ k. i16Bytes (f k)) n (λ k h. ap i16Bytes (same k h))) (front-sets stored l (omega arith))
 
 -- what stands in a lent list
 pub lent-at : {refusal n : ℕ} (f : ℕ → ℤ) {points : List ℤ} (l : List ℤ) → refusal ≡ 0 → n ≤ length l → points ≡ lentList refusal f n l → (k : ℕ) → k < n → on points k ≡ f k
