@@ -1,4 +1,4 @@
--- What holds of lists whose lengths were checked, of the points stored from them, and of lists that elements are stored into.
+-- What holds of lists whose lengths were checked, of the points stored from them, and of lists that points are stored into.
 use mathlib.Core.Path.{_≡_, refl, ap, sym, _∙_}
 use mathlib.Core.Bool.{Bool, true, false, cond, _&&_, and-eq-true-iff}
 use mathlib.Core.List.{List}
@@ -81,18 +81,17 @@ held b n {l} few e =
       same = same;
     }
 
--- ---- elements stored as the front of a list
+-- ---- points stored as the front of a list
 
 pub points-front : (f g : ℕ → ℤ) (n : ℕ) (l : List ℕ) {out : List ℕ} → ((k : ℕ) → k < n → g k ≡ f k) → n * 2 ≤ length l
     → out ≡ sets l 0 (pointBytes g n) → out ≡ inFront (pointBytes f n) l
 unfolding pointBytes
 points-front f g n l same room e =
-    let stored : List ℕ = rows (λ k. i16Bytes (g k)) n in
-    let long = length-rows (λ k. i16Bytes (g k)) 2 n (λ k h. i16-length (g k)) in
-    e ∙ rw (← rows-same (λ k. i16Bytes (g k)) (λ k. i16Bytes (f k)) n (λ k h. ap i16Bytes (same k h))) (front-sets stored l (omega arith))
+    let row : (ℕ → ℤ) → ℕ → List ℕ = λ h k. i16Bytes (h k) in
+    e ∙ rw (← rows-same (row g) (row f) n (λ k h. ap i16Bytes (same k h))) (front-sets (rows (row g) n) l (omega (arith, length-rows (row g) 2 n (λ k h. i16-length (g k)))))
 
 -- what stands in a lent list
-pub lent-at : {refusal n : ℕ} (f : ℕ → ℤ) {points : List ℤ} (l : List ℤ) → refusal ≡ 0 → n ≤ length l → points ≡ lentList refusal f n l → (k : ℕ) → k < n → on points k ≡ f k
+lent-at : {refusal n : ℕ} (f : ℕ → ℤ) {points : List ℤ} (l : List ℤ) → refusal ≡ 0 → n ≤ length l → points ≡ lentList refusal f n l → (k : ℕ) → k < n → on points k ≡ f k
 lent-at {refusal} {n} f l z h e k u = rw (e, list-filled refusal f n l z) (written-below f (pos 0) n l k u h)
 
 -- n points of an array that was lent and filled, stored as the front of the list l, which gives out

@@ -1,19 +1,29 @@
 // Schedules written for a session's bytes and inspected by them, as a caller in C hands them over.
 ghost use mathlib.Core.Path.{_≡_};
+ghost use Prim.Native.Nat.{_*_};
 ghost use lib.ListN.{length};
-ghost use Rattle.theory_lists.specs.Lent.{lentList};
-ghost use Rattle.session.specs.Showing.{SessionInBounds};
-ghost use Rattle.schedule_inspection.specs.Inspecting.{finding};
-ghost use Rattle.c_lists.specs.Lists.{lentPoints};
-ghost use Rattle.c_storage.specs.Layout.{decoding};
-ghost use Rattle.c_schedules.specs.Schedules.{refusalFor, setpointFor, writeRefusal, inspectedOver};
-use c_lists::points;
-use c_lists::put_points;
+ghost use Rattle.theory_lists.specs.Written.{written};
+ghost use Rattle.theory_method.specs.Filter.{zeros};
+ghost use Rattle.schedule_inspection.specs.Inspecting.{finding, judged};
+ghost use Rattle.c_lists.specs.Lists.{pointsIn, lentPoints};
+ghost use Rattle.c_storage.specs.Layout.{sessionBytes, decoding};
+ghost use Rattle.c_schedules.specs.Schedules.{setpointFor, writeRefusal, inspectedOver};
+ghost use Rattle.c_schedules.specs.Stages.{checkedFor, CodeFits, levelsFor};
+use c_lists::code_points;
+use c_lists::put_levels;
 use c_storage::SESSION_BYTES;
-use c_storage::decode;
+use c_storage::ceiling_of;
+use c_storage::days_of;
+use c_storage::floor_of;
+use c_storage::is_spent;
+use c_storage::load_present;
+use c_storage::load_rises;
+use c_storage::total_of;
+use limits::HIGHEST_SETPOINT;
+use limits::LOWEST_SETPOINT;
 use limits::MOST_DAYS;
 use schedule_inspection::Inspection;
-use session::Session;
+use schedule_writing::Checked;
 
 // What inspecting finds: the refusal's number; the rule that is broken, 0 for none, 1 for a day's range, 2 for a rise, 3 for the total's range; and the
 // number of the day or rise.
@@ -29,14 +39,60 @@ pub enum Subject {
     Total,
 }
 
-fn write_for(session: Session, subject: Subject, value: i32, list: &mut [i16]) -> u8
-    requires { ⌜ SessionInBounds session × (length (now list) ≡ session .days) ⌝ }
-    ensures { λ r. ⌜ r ≡ refusalFor session subject value ⌝ }
-    ensures { λ r. ⌜ now (list .exit) ≡ lentList r (setpointFor session subject value) (session .days) (now (list .entry)) ⌝ }
+// Checks 7, 9 and 10 of a value for a day.
+fn check_day(session: &[u8], day: usize, value: i32) -> Checked
+    requires { ⌜ length (now session) ≡ sessionBytes ⌝ }
+    ensures { λ r. ⌜ r ≡ checkedFor (decoding (now (session .entry))) (Subject.Day day) value ⌝ }
+{
+    if days_of(session) <= day {
+        return Checked {
+            refusal: 7,
+            code: 0,
+        };
+    }
+    schedule_writing::check_day(
+        value,
+        floor_of(session, day),
+        ceiling_of(session, day),
+        is_spent(session),
+    )
+}
+
+// Checks 9 and 10 of a value for the total.
+fn check_total(session: &[u8], value: i32) -> Checked
+    requires { ⌜ length (now session) ≡ sessionBytes ⌝ }
+    ensures { λ r. ⌜ r ≡ checkedFor (decoding (now (session .entry))) Subject.Total value ⌝ }
+{
+    let total = total_of(session);
+    schedule_writing::check_total(value, total.lowest, total.highest, is_spent(session))
+}
+
+fn check(session: &[u8], subject: Subject, value: i32) -> Checked
+    requires { ⌜ length (now session) ≡ sessionBytes ⌝ }
+    ensures { λ r. ⌜ r ≡ checkedFor (decoding (now (session .entry))) subject value ⌝ }
 {
     match subject {
-        Subject::Day(day) => schedule_writing::write_day(session, day, value, list),
-        Subject::Total => schedule_writing::write_total(session, value, list),
+        Subject::Day(day) => check_day(session, day, value),
+        Subject::Total => check_total(session, value),
+    }
+}
+
+// Turns zeros into the schedule's levels, by the code of the value that it is written for.
+fn load_levels(session: &[u8], subject: Subject, code: usize, levels: &mut [u16; MOST_DAYS])
+    requires { ⌜ (length (now session) ≡ sessionBytes) × CodeFits (decoding (now session)) subject code × (now levels ≡ zeros) ⌝ }
+    ensures { λ _. ⌜ now (levels .exit) ≡ written (levelsFor (decoding (now (session .entry))) subject code) (decoding (now (session .entry)) .days) (decoding (now (session .entry)) .present .floors) ⌝ }
+{
+    let n = days_of(session);
+    let mut rises = [0u16; MOST_DAYS];
+    let mut ceilings = [0u16; MOST_DAYS];
+    load_rises(session, &mut rises);
+    load_present(session, levels, &mut ceilings);
+    match subject {
+        Subject::Day(day) => {
+            let lowest = total_of(session).lowest;
+            schedule_writing::write_through(levels, &mut ceilings, &rises, n, lowest, day, code);
+        }
+        Subject::Total => schedule_raising::raise_to(levels, &ceilings, &rises, n, code),
     }
 }
 
@@ -47,17 +103,17 @@ pub fn write(session: &[u8], subject: Subject, value: i32, list: &mut [u8]) -> u
     if session.len() != SESSION_BYTES {
         return 2;
     }
-    let held = decode(session);
-    let n = held.days;
+    let n = days_of(session);
     if list.len() != n * 2 {
         return 2;
     }
-    let mut schedule = [0i16; MOST_DAYS];
-    let refusal = write_for(held, subject, value, &mut schedule[..n]);
-    if refusal != 0 {
-        return refusal;
+    let checked = check(session, subject, value);
+    if checked.refusal != 0 {
+        return checked.refusal;
     }
-    put_points(&schedule, n, list);
+    let mut levels = [0u16; MOST_DAYS];
+    load_levels(session, subject, checked.code, &mut levels);
+    put_levels(&levels, n, list);
     0
 }
 
@@ -99,20 +155,44 @@ fn number(answer: Inspection) -> Finding
     }
 }
 
+// Judges a list that is n long by the present ranges and rises.
+fn judge_points(session: &[u8], list: &[u8]) -> Inspection
+    requires { ⌜ (length (now session) ≡ sessionBytes) × (length (now list) ≡ decoding (now session) .days * 2) ⌝ }
+    ensures { λ r. ⌜ finding r ≡ judged (decoding (now (session .entry))) (pointsIn (now (list .entry)) (decoding (now (session .entry)) .days)) ⌝ }
+{
+    let n = days_of(session);
+    let mut rises = [0u16; MOST_DAYS];
+    let mut floors = [0u16; MOST_DAYS];
+    let mut ceilings = [0u16; MOST_DAYS];
+    let mut setpoints = [0u16; MOST_DAYS];
+    load_rises(session, &mut rises);
+    load_present(session, &mut floors, &mut ceilings);
+    code_points(list, n, LOWEST_SETPOINT, HIGHEST_SETPOINT, &mut setpoints);
+    let total = total_of(session);
+    schedule_inspection::judge_codes(
+        &setpoints,
+        &floors,
+        &ceilings,
+        &rises,
+        n,
+        total.lowest,
+        total.highest,
+    )
+}
+
 fn judge(session: &[u8], list: &[u8]) -> Inspection
     ensures { λ r. ⌜ finding r ≡ inspectedOver (now (session .entry)) (now (list .entry)) ⌝ }
 {
     if session.len() != SESSION_BYTES {
         return Inspection::WrongLength;
     }
-    let held = decode(session);
-    let n = held.days;
-    if list.len() != n * 2 {
+    if list.len() != days_of(session) * 2 {
         return Inspection::WrongLength;
     }
-    let mut schedule = [0i16; MOST_DAYS];
-    points(list, n, &mut schedule);
-    schedule_inspection::inspect(held, &schedule[..n])
+    if is_spent(session) {
+        return Inspection::Spent;
+    }
+    judge_points(session, list)
 }
 
 pub fn inspect(session: &[u8], list: &[u8]) -> Finding

@@ -1,4 +1,4 @@
-pub mod Held
 pub mod Opening
 pub mod Cutting
 pub mod Showing
+pub mod Encoded

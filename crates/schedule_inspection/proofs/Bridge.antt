@@ -6,21 +6,18 @@ use Prim.Native.Nat.{ℕ, _+_, _-_, _*_, _≤_, _<_}
 use native.Mathlib.Omega.{arith}
 use lib.IntN.{ℤ, _+ℤ_}
 use lib.Dec.{ltb}
-use lib.ListN.{length}
+use lib.ListN.{length, length-replicate}
 use Rattle.limits.specs.Limits.{lowestPoint, lowestRise, lowestTotal, lowestSetpoint, highestSetpoint}
 use Rattle.theory_lists.specs.Sum.{at}
-use Rattle.theory_lists.specs.Written.{written}
+use Rattle.theory_lists.specs.Written.{written, written-below}
 use Rattle.theory_lists.specs.First.{first-same}
 use Rattle.theory_chains.specs.Sum.{sum, all}
 use Rattle.theory_method.specs.Filter.{zeros}
-use Rattle.base_codes.specs.Code.{within, decoded, on, every, codeOrZero}
+use Rattle.base_codes.specs.Code.{within, decoded, on, codeOrZero}
 use Rattle.base_codes.proofs.Offset.{Less, less-shift, less-add}
 use Rattle.base_codes.proofs.Laws.{point-less, rise-less, total-less, setpoint-less, decoded-less, within-less}
-use Rattle.base_codes.proofs.Every.{every-on, codes-inside}
 use Rattle.base_codes.proofs.Order.{less-test, within-test}
 use Rattle.session.specs.Profile.{total}
-use Rattle.session.specs.Opening.{codes}
-use Rattle.session.proofs.Entered.{codes-at}
 use Rattle.session.proofs.Lists as Lists
 use Rattle.session.specs.Showing.{floorOn, ceilingOn, riseOn, totalFloor, totalCeiling}
 use Rattle.session.specs.declared.Session.{Session}
@@ -43,16 +40,15 @@ level v = less-shift (decoded lowestPoint v) v 1000 31768 (decoded-less lowestPo
 held : (n v : ℕ) → Less (decoded lowestTotal v) (v + 32768 * n) (512000 + 32768 * n)
 held n v = less-shift (decoded lowestTotal v) v 512000 (32768 * n) (decoded-less lowestTotal v 512000 total-less)
 
+-- n setpoints f, and their codes where they are stored
+pub setpoint-codes : (f : ℕ → ℤ) (n : ℕ) {xs : List ℕ} → n ≤ 512 → ((k : ℕ) → k < n → within lowestSetpoint highestSetpoint (f k) ≡ true)
+    → xs ≡ written (λ k. codeOrZero lowestSetpoint highestSetpoint (f k)) n zeros → (k : ℕ) → k < n → Less (f k) (at xs k) 32768
+setpoint-codes f n few inside e k h =
+    rw (e, written-below (λ j. codeOrZero lowestSetpoint highestSetpoint (f j)) 0 n zeros k h (omega (arith, length-replicate {A = ℕ} 512 0)), inside k h)
+    (within-less lowestSetpoint highestSetpoint (f k) 32768 setpoint-less (inside k h))
+
 -- a list of n setpoints, and its codes
-module _ (s : Session) (x : List ℤ) (few : s .days ≤ 512) (whole : length x ≡ s .days) (inside : every (within lowestSetpoint highestSetpoint) x ≡ true) where
-  abbrev xs : List ℕ
-  xs = codes lowestSetpoint x (s .days)
-
-  setpoint : (k : ℕ) → k < s .days → Less (on x k) (at xs k) 32768
-  setpoint k h =
-      rw (codes-at lowestSetpoint x (s .days) k h few)
-      (within-less lowestSetpoint highestSetpoint (on x k) 32768 setpoint-less (every-on (within lowestSetpoint highestSetpoint) x inside k (omega arith)))
-
+module _ (s : Session) (x : List ℤ) (xs : List ℕ) (whole : length x ≡ s .days) (setpoint : (k : ℕ) → k < s .days → Less (on x k) (at xs k) 32768) where
   day-test : (k : ℕ) → k < s .days → brokenDay s x k ≡ dayOutside xs (s .present .floors) (s .present .ceilings) k
   day-test k h =
       outside-test (floorOn s k) (ceilingOn s k) (on x k) (at (s .present .floors) k + 31768) (at (s .present .ceilings) k + 31768) (at xs k) 32768
@@ -75,13 +71,10 @@ module _ (s : Session) (x : List ℤ) (few : s .days ≤ 512) (whole : length x 
       outside-test (totalFloor s) (totalCeiling s) (total x) (s .present .lowest + 32768 * s .days) (s .present .highest + 32768 * s .days)
       (sum all (s .days) (at xs) + 512000) (512000 + 32768 * s .days) (held (s .days) (s .present .lowest)) (held (s .days) (s .present .highest)) sum-less
 
-  pub judged-codes : {out : List ℕ} → out ≡ written (λ k. codeOrZero lowestSetpoint highestSetpoint (on x k)) (length x) zeros
-      → judgedCodes out (s .present .floors) (s .present .ceilings) (s .rises) (s .days) (s .present .lowest) (s .present .highest) ≡ judged s x
+  pub judged-codes : judgedCodes xs (s .present .floors) (s .present .ceilings) (s .rises) (s .days) (s .present .lowest) (s .present .highest) ≡ judged s x
   unfolding judgedCodes judged
-  judged-codes made =
+  judged-codes =
       rw (
-        made ∙ codes-inside lowestSetpoint highestSetpoint x zeros inside,
-        whole,
         first-same (brokenDay s x) (dayOutside xs (s .present .floors) (s .present .ceilings)) (s .days) day-test,
         first-same (brokenRise s x) (fallen xs (s .rises)) (s .days - 1) rise-test,
         total-test,

@@ -103,8 +103,8 @@ fn first_fallen(setpoints: &[u16; MOST_DAYS], rises: &[u16; MOST_DAYS], n: usize
     last
 }
 
-// The first broken rule: days in order, then rises in order, then the total.
-fn judge_codes(
+// The first broken rule of n setpoints, each held plus 32,768: days in order, then rises in order, then the total.
+pub fn judge_codes(
     setpoints: &[u16; MOST_DAYS],
     floors: &[u16; MOST_DAYS],
     ceilings: &[u16; MOST_DAYS],

@@ -1,2 +1,4 @@
+pub mod Checks
+pub mod Levels
 pub mod Stages
 pub mod Supported

@@ -39,12 +39,16 @@ totalWriteRefusal s value room =
 unfoldable pub totalLevels : Session → ℤ → ℕ → ℕ
 totalLevels s value = raisedTo (s .present .floors) (s .present .ceilings) (s .rises) (s .days) (code lowestTotal value)
 
--- with a day's value: it is the day's floor and ceiling, the floors are carried forward, and raised to the total's floor where their sum is below it
+-- with a level on a day: it is the day's floor and ceiling, the floors are carried forward, and raised to the total's floor where their sum is below it
+abbrev pub levelsThrough : List ℕ → List ℕ → List ℕ → ℕ → ℕ → ℕ → ℕ → ℕ → ℕ
+levelsThrough floors ceilings rises n lowest day level =
+    let fs : List ℕ = set floors day level in
+    let cs : List ℕ = set ceilings day level in
+    raisedTo (forwarded fs rises (firstCrossed (carried fs rises) (at cs) n)) cs rises n lowest
+
+-- with a day's value: the present floors, with the value's level on the day
 unfoldable pub dayLevels : Session → ℕ → ℤ → ℕ → ℕ
-dayLevels s day value =
-    let fs : List ℕ = set (s .present .floors) day (code lowestPoint value) in
-    let cs : List ℕ = set (s .present .ceilings) day (code lowestPoint value) in
-    raisedTo (forwarded fs (s .rises) (firstCrossed (carried fs (s .rises)) (at cs) (s .days))) cs (s .rises) (s .days) (s .present .lowest)
+dayLevels s day value = levelsThrough (s .present .floors) (s .present .ceilings) (s .rises) (s .days) (s .present .lowest) day (code lowestPoint value)
 
 -- ---- the lent list afterwards: as it was beside a refusal, else the schedule
 

@@ -1,72 +1,74 @@
 // Writing a schedule of a session's present ranges, through a day's value or with a total.
-ghost use mathlib.Core.Bool.{cond, not};
 ghost use mathlib.Core.Path.{_≡_};
 ghost use Prim.Native.Nat.{_≤_, _<_};
 ghost use lib.ListN.{length, set};
-ghost use Rattle.limits.specs.Limits.{mostDays, lowestPoint, highestLevel};
+ghost use Rattle.limits.specs.Limits.{mostDays, lowestPoint, lowestTotal, highestLevel, highestTotalCode};
 ghost use Rattle.theory_lists.specs.Written.{written};
-ghost use Rattle.base_codes.specs.Code.{decoded};
 ghost use Rattle.theory_method.specs.Filter.{box, InBounds};
 ghost use Rattle.session.specs.Showing.{SessionInBounds};
-ghost use Rattle.schedule_raising.specs.Raising.{raisedTo};
-ghost use Rattle.schedule_writing.specs.Writing.{dayWriteRefusal, totalWriteRefusal, dayLevels, dayWritten, totalWritten};
-ghost use Rattle.schedule_writing.specs.Stages.{checkedWithin};
+ghost use Rattle.schedule_writing.specs.Writing.{dayWriteRefusal, totalWriteRefusal, levelsThrough, dayWritten, totalWritten};
+ghost use Rattle.schedule_writing.specs.Stages.{checkedCode, checked};
 use base_codes::Coded;
 use base_numbers::narrow;
 use base_numbers::wide;
 use limits::MOST_DAYS;
 use session::Session;
 
-// Whether a value is within its range, and its code.
-struct Checked {
-    within: bool,
-    code: usize,
-}
-
-// Raises the floors to the total and stores the points.
-fn write(
-    floors: [u16; MOST_DAYS],
-    ceilings: &[u16; MOST_DAYS],
-    rises: &[u16; MOST_DAYS],
-    n: usize,
-    total: usize,
-    list: &mut [i16],
-)
-    requires { ⌜ InBounds (box floors (now ceilings) (now rises) n 0 total) × (n ≤ length (now list)) ⌝ }
-    ensures { λ _. ⌜ now (list .exit) ≡ written (λ k. decoded lowestPoint (raisedTo floors (now (ceilings .entry)) (now (rises .entry)) n total k)) n (now (list .entry)) ⌝ }
-{
-    let mut levels = floors;
-    schedule_raising::raise_to(&mut levels, ceilings, rises, n, total);
-    base_codes::decode_all(&levels, n, Session::LOWEST_POINT, list);
+// What the checks of a value say: 9 for a spent session, then 10 for a value outside its range; beside 0 the value's code.
+pub struct Checked {
+    pub refusal: u8,
+    pub code: usize,
 }
 
 // A value outside its bounds is within no range.
-fn check(value: Coded, floor: usize, ceiling: usize) -> Checked
-    ensures { λ r. ⌜ r ≡ checkedWithin value floor ceiling ⌝ }
+fn check(value: Coded, floor: usize, ceiling: usize, spent: bool) -> Checked
+    ensures { λ r. ⌜ r ≡ checkedCode value floor ceiling spent ⌝ }
 {
+    if spent {
+        return Checked {
+            refusal: 9,
+            code: 0,
+        };
+    }
     let Coded::Code(code) = value else {
         return Checked {
-            within: false,
+            refusal: 10,
             code: 0,
         };
     };
+    if (floor <= code) & (code <= ceiling) {
+        return Checked { refusal: 0, code };
+    }
     Checked {
-        within: (floor <= code) & (code <= ceiling),
-        code,
+        refusal: 10,
+        code: 0,
     }
 }
 
-// 9 for a spent session, then 10 for a value outside its range, else 0.
-fn refusal_of(spent: bool, within: bool) -> u8
-    ensures { λ r. ⌜ r ≡ cond spent 9 (cond (not within) 10 0) ⌝ }
+// Checks a day's value against its range.
+pub fn check_day(value: i32, floor: u16, ceiling: u16, spent: bool) -> Checked
+    requires { ⌜ ceiling ≤ highestLevel ⌝ }
+    ensures { λ r. ⌜ r ≡ checked lowestPoint floor ceiling spent value ⌝ }
 {
-    if spent {
-        return 9;
-    }
-    if !within {
-        return 10;
-    }
-    0
+    check(
+        base_codes::code(value, Session::LOWEST_POINT, Session::HIGHEST_POINT),
+        wide(floor),
+        wide(ceiling),
+        spent,
+    )
+}
+
+// Checks the total's value against its range, as it is held.
+pub fn check_total(value: i32, lowest: usize, highest: usize, spent: bool) -> Checked
+    requires { ⌜ highest ≤ highestTotalCode ⌝ }
+    ensures { λ r. ⌜ r ≡ checked lowestTotal lowest highest spent value ⌝ }
+{
+    check(
+        base_codes::code(value, Session::LOWEST_TOTAL, Session::HIGHEST_TOTAL),
+        lowest,
+        highest,
+        spent,
+    )
 }
 
 fn set_level(levels: &mut [u16; MOST_DAYS], day: usize, level: usize)
@@ -76,20 +78,24 @@ fn set_level(levels: &mut [u16; MOST_DAYS], day: usize, level: usize)
     levels[day] = narrow(level);
 }
 
-// Writes the schedule with this level on this day.
-fn write_through(session: Session, day: usize, level: usize, list: &mut [i16])
-    requires { ⌜ SessionInBounds session × (day < session .days) × (level ≤ highestLevel) × (session .days ≤ length (now list)) ⌝ }
-    ensures { λ _. ⌜ now (list .exit) ≡ written (λ k. decoded lowestPoint (dayLevels session day (decoded lowestPoint level) k)) (session .days) (now (list .entry)) ⌝ }
+// Turns the floors into the levels of the schedule with this level on this day, and a sum of at least `lowest`.
+pub fn write_through(
+    floors: &mut [u16; MOST_DAYS],
+    ceilings: &mut [u16; MOST_DAYS],
+    rises: &[u16; MOST_DAYS],
+    n: usize,
+    lowest: usize,
+    day: usize,
+    level: usize,
+)
+    requires { ⌜ InBounds (box (now floors) (now ceilings) (now rises) n 0 lowest) × (day < n) × (level ≤ highestLevel) ⌝ }
+    ensures { λ _. ⌜ now (floors .exit) ≡ written (levelsThrough (now (floors .entry)) (now (ceilings .entry)) (now (rises .entry)) n lowest day level) n (now (floors .entry)) ⌝ }
+    ensures { λ _. ⌜ now (ceilings .exit) ≡ set (now (ceilings .entry)) day level ⌝ }
 {
-    let n = session.days;
-    let rises = session.rises;
-    let ranges = session.present;
-    let mut floors = ranges.floors;
-    let mut ceilings = ranges.ceilings;
-    set_level(&mut floors, day, level);
-    set_level(&mut ceilings, day, level);
-    tighten_carry::carry(&mut floors, &ceilings, &rises, n);
-    write(floors, &ceilings, &rises, n, ranges.lowest, list);
+    set_level(floors, day, level);
+    set_level(ceilings, day, level);
+    tighten_carry::carry(floors, ceilings, rises, n);
+    schedule_raising::raise_to(floors, ceilings, rises, n, lowest);
 }
 
 // Writes a schedule with this value on this day. Document 01's checks 2, 7, 9, 10.
@@ -106,15 +112,23 @@ pub fn write_day(session: Session, day: usize, value: i32, list: &mut [i16]) -> 
         return 7;
     }
     let ranges = session.present;
-    let floors = ranges.floors;
-    let ceilings = ranges.ceilings;
-    let coded = base_codes::code(value, Session::LOWEST_POINT, Session::HIGHEST_POINT);
-    let level = check(coded, wide(floors[day]), wide(ceilings[day]));
-    let refusal = refusal_of(session.spent, level.within);
-    if refusal != 0 {
-        return refusal;
+    let mut floors = ranges.floors;
+    let mut ceilings = ranges.ceilings;
+    let level = check_day(value, floors[day], ceilings[day], session.spent);
+    if level.refusal != 0 {
+        return level.refusal;
     }
-    write_through(session, day, level.code, list);
+    let rises = session.rises;
+    write_through(
+        &mut floors,
+        &mut ceilings,
+        &rises,
+        n,
+        ranges.lowest,
+        day,
+        level.code,
+    );
+    base_codes::decode_all(&floors, n, Session::LOWEST_POINT, list);
     0
 }
 
@@ -129,15 +143,14 @@ pub fn write_total(session: Session, value: i32, list: &mut [i16]) -> u8
         return 2;
     }
     let ranges = session.present;
-    let coded = base_codes::code(value, Session::LOWEST_TOTAL, Session::HIGHEST_TOTAL);
-    let total = check(coded, ranges.lowest, ranges.highest);
-    let refusal = refusal_of(session.spent, total.within);
-    if refusal != 0 {
-        return refusal;
+    let total = check_total(value, ranges.lowest, ranges.highest, session.spent);
+    if total.refusal != 0 {
+        return total.refusal;
     }
     let rises = session.rises;
-    let floors = ranges.floors;
+    let mut floors = ranges.floors;
     let ceilings = ranges.ceilings;
-    write(floors, &ceilings, &rises, n, total.code, list);
+    schedule_raising::raise_to(&mut floors, &ceilings, &rises, n, total.code);
+    base_codes::decode_all(&floors, n, Session::LOWEST_POINT, list);
     0
 }

@@ -1,12 +1,12 @@
 -- What a loop leaves that stores `f k` at each k below n, in place. d is what `getD` gives past the end.
 use Prim.Native.Nat.{ℕ, zero, suc, _+_, _-_, _≤_, _<_}
-use mathlib.Core.Path.{_≡_, refl, ap, _∙_}
+use mathlib.Core.Path.{_≡_, refl, ap, sym, _∙_}
 use mathlib.Core.List.{List}
 use native.Mathlib.Numerals.{add-one}
 use native.Mathlib.Omega.{arith}
 use native.Mathlib.Decide.{decLt, ℕ-discrete}
 use lib.ListN.{length, getD, set, length-set}
-use lib.Seq.{getD-set-same, getD-set-other, set-comm}
+use lib.Seq.{getD-set-same, getD-set-other, set-comm, ext-getD}
 
 -- what holds at each place of a list with one element changed
 pub by-cell : {A : Type 0} (P : ℕ → A → Type 0) (d : A) (l : List A) (i : ℕ) (a : A) → i < length l → P i a → (k : ℕ) → P k (getD l k d) → P k (getD (set l i a) k d)
@@ -78,6 +78,15 @@ pub written-same : {A : Type 0} (f g : ℕ → A) (n : ℕ) (l : List A) → ((k
 unfolding written
 written-same f g zero l e = refl
 written-same f g (suc n) l e = rw (written-same f g n l (λ k h. e k (omega arith)), e n (omega arith)) refl
+
+-- and not what stood there before
+pub written-over : {A : Type 0} (f : ℕ → A) (d : A) (n : ℕ) (l m : List A) → n ≤ length l → length m ≡ length l → ((k : ℕ) → n ≤ k → getD m k d ≡ getD l k d) → written f n m ≡ written f n l
+written-over f d n l m room e past =
+    ext-getD d (written f n m) (written f n l) (length-written f n m ∙ e ∙ sym (length-written f n l)) (λ k h. go k (decLt k n))
+  where
+    go : (k : ℕ) → Dec (k < n) → getD (written f n m) k d ≡ getD (written f n l) k d
+    go k (yes h) = written-below f d n m k h (omega arith) ∙ sym (written-below f d n l k h room)
+    go k (no h) = written-past f d n m k (omega arith) ∙ past k (omega arith) ∙ sym (written-past f d n l k (omega arith))
 
 -- ---- down from n over all n days is the same as up, however long the list
 

@@ -1,52 +1,54 @@
 -- `write_through` meets its contract: with the day's floor and ceiling set the ranges are in bounds, and stay so where the floors are carried.
--- What is set and carried is said once, as records of Stages.
-use mathlib.Core.Path.{_∙_}
-use Rattle.schedule_writing.proofs.Stages.{LevelSet, LevelCarried, through-carriable, through-bounds, through-written}
+-- What is set, carried and raised is said once, by records and laws of Levels.
+use mathlib.Core.Path.{_≡_}
+use Rattle.theory_lists.specs.Written.{written}
+use Rattle.schedule_writing.specs.Writing.{levelsThrough}
+use Rattle.schedule_writing.proofs.Levels.{LevelSet, LevelCarried, through-carriable, through-bounds, through-raised}
 use borrow.Author.Needs.{needs}
 use Rattle.schedule_writing.proofs.write_through.Statement.{statement}
 use Rattle.schedule_writing.proofs.write_through.Tie as tie
 
--- ---- the places on the way: the ranges are copied, the day's floor is set, its ceiling is set, the floors are carried, the list is written
+-- ---- the places on the way: the day's floor is set, its ceiling is set, the floors are carried
 
-abbrev at-start : tie.After-ranges → tie.Start
+abbrev at-start : tie.After-set-level → tie.Start
 at-start c = c .before .before
-
-abbrev at-copied : tie.After-set-level → tie.After-ranges
-at-copied c = c .before .before .before .before
 
 abbrev at-floor : tie.After-set-level2 → tie.After-set-level
 at-floor c = c .before .before
 
-abbrev at-ceiling : tie.After-rises2 → tie.After-set-level2
-at-ceiling c = c .before .before .before
+abbrev at-ceiling : tie.After-carry-arg2 → tie.After-set-level2
+at-ceiling c = c .before .before
 
-abbrev at-carried : tie.After-write-arg → tie.After-carry
-at-carried c = c .before .before .before
-
-abbrev at-written : tie.After-list → tie.After-write
-at-written c = c .before
+abbrev at-carried : tie.After-raise-to-arg2 → tie.After-carry
+at-carried c = c .before .before
 
 level-set : (c : tie.After-set-level2)
-    → let a = at-start (at-copied (at-floor c)) .args in
-    LevelSet (a .session) (a .day) (a .level) (at-floor c .set-level .last .0) (c .set-level2 .last .0)
+    → let a = at-start (at-floor c) .args in
+    LevelSet (a .floors .now) (a .ceilings .now) (a .rises .now) (a .n) (a .lowest) (a .day) (a .level) (at-floor c .set-level .last .0) (c .set-level2 .last .0)
 level-set c =
-    let p = at-start (at-copied (at-floor c)) .pre in
+    let p = at-start (at-floor c) .pre in
     record { bounds = p .0; known = p .1; small = p .2; floors = at-floor c .set-level .ensures; ceilings = c .set-level2 .ensures }
 
 level-carried : (c : tie.After-carry)
     → let k = at-ceiling (c .before) in
-    let a = at-start (at-copied (at-floor k)) .args in
-    LevelCarried (a .session) (a .day) (a .level) (at-floor k .set-level .last .0) (k .set-level2 .last .0) (c .carry .result .days) (c .carry .last .0)
-level-carried c = record { before = level-set (at-ceiling (c .before)); first = c .carry .ensures .0; carried = c .carry .ensures .1 .0 }
+    let a = at-start (at-floor k) .args in
+    LevelCarried (a .floors .now) (a .ceilings .now) (a .rises .now) (a .n) (a .lowest) (a .day) (a .level) (at-floor k .set-level .last .0) (k .set-level2 .last .0)
+    (c .carry .result .days) (c .carry .last .0)
+level-carried c = record { before = level-set (at-ceiling (c .before)); first = c .carry .ensures .0; forward = c .carry .ensures .1 .0 }
+
+levels : (c : tie.After-raise-to)
+    → let a = at-start (at-floor (at-ceiling (at-carried (c .before) .before))) .args in
+    c .raise-to .last .0 ≡ written (levelsThrough (a .floors .now) (a .ceilings .now) (a .rises .now) (a .n) (a .lowest) (a .day) (a .level)) (a .n) (a .floors .now)
+levels c = through-raised (level-carried (at-carried (c .before))) (c .raise-to .ensures)
 
 carry-requires : tie.Need-carry-requires
 carry-requires c κs = through-carriable (level-set (at-ceiling c))
 
-write-requires : tie.Need-write-requires
-write-requires c κs = (through-bounds (level-carried (at-carried c)), search needs)
+raise-to-requires : tie.Need-raise-to-requires
+raise-to-requires c κs = through-bounds (level-carried (at-carried c))
 
 returns : tie.Need-returns
-returns c = at-written c .write .ensures ∙ through-written (level-carried (at-carried (at-written c .before))) _
+returns c = (levels c, level-set (at-ceiling (at-carried (c .before) .before)) .ceilings)
 
 pub write-through-spec : {M : Type 1} → statement M
 write-through-spec =
@@ -55,6 +57,5 @@ write-through-spec =
     (λ c. search needs)
     (λ c. search needs)
     carry-requires
-    write-requires
-    (λ c. search needs)
+    raise-to-requires
     returns)
