@@ -1,12 +1,11 @@
 -- What writing and inspecting by a session's bytes give, by what their tests found.
 use mathlib.Core.Path.{_≡_, refl, ap, sym, _∙_}
-use mathlib.Core.Bool.{Bool, true, false, cond, _&&_}
+use mathlib.Core.Bool.{Bool, true, false, _&&_}
 use mathlib.Core.List.{List}
 use Prim.Native.Nat.{ℕ, _*_, _≤_, _<_}
 use native.Mathlib.Omega.{arith}
 use native.Mathlib.Decide.{decLt}
 use lib.IntN.{ℤ, pos}
-use lib.Dec.{ltb}
 use lib.ListN.{length}
 use lib.Seq.{sets}
 use borrow.Author.Tests.{eq-eqb, ne-eqb, lt-ltb, le-ltb}
@@ -26,14 +25,13 @@ use Rattle.schedule_writing.specs.Stages.{refusedAs, checked, dayChecked}
 use Rattle.schedule_writing.specs.declared.Checked.{Checked}
 use Rattle.schedule_writing.proofs.Levels.{Standing}
 use Rattle.schedule_writing.proofs.Stages.{present-bounds, DayTaken, TotalTaken, day-asks, day-standing, day-refusal, total-asks, total-standing, total-refusal}
-use Rattle.schedule_inspection.specs.Inspecting.{Finding, refused, judged, inspected}
+use Rattle.schedule_inspection.specs.Inspecting.{Finding, refused, judged}
 use Rattle.schedule_inspection.specs.Stages.{judgedCodes}
 use Rattle.schedule_inspection.proofs.Stages.{spent-refused, unspent-judged}
 use Rattle.schedule_inspection.proofs.Bridge.{setpoint-codes, judged-codes}
 use Rattle.c_lists.specs.Lists.{isLong, pointAt, pointsIn, pointBytes, lentPoints}
 use Rattle.c_lists.proofs.Laws.{points-left, points-front, points-filled}
 use Rattle.c_storage.specs.Layout.{sessionBytes, decoding}
-use Rattle.c_storage.proofs.Inverse.{decoding-in-bounds}
 use Rattle.c_sessions.specs.Sessions.{isSession}
 use Rattle.c_schedules.specs.Schedules.{refusalFor, setpointFor, writeRefusal, inspectedOver}
 use Rattle.c_schedules.specs.Stages.{checkedFor, CodeFits, levelsFor}

@@ -1,8 +1,8 @@
 -- What a cut on a session's bytes gives, by what its tests found.
-use mathlib.Core.Path.{_≡_, refl, ap, sym, subst, _∙_}
+use mathlib.Core.Path.{_≡_, refl, ap, subst, _∙_}
 use mathlib.Core.Bool.{Bool, true, false, cond}
 use mathlib.Core.List.{List}
-use Prim.Native.Nat.{ℕ, suc, _*_, _/_, _≤_, _<_}
+use Prim.Native.Nat.{ℕ, _/_, _≤_}
 use native.Mathlib.Omega.{arith}
 use lib.Dec.{eqb, ltb}
 use lib.ListN.{length}
@@ -20,7 +20,7 @@ use Rattle.session.specs.declared.Session.{Session}
 use Rattle.session_cuts.specs.declared.Cut.{Cut}
 use Rattle.session_cuts.specs.declared.Cut.the-variants.{DayFloor, DayCeiling, TotalFloor, TotalCeiling}
 use Rattle.session_cuts.specs.declared.Numbered.{Numbered}
-use Rattle.session_cutting.specs.Cutting.{malformed, clipped, retightened, spend, withPresent, refusing, afterCut, afterNumbered}
+use Rattle.session_cutting.specs.Cutting.{malformed, clipped, retightened, spend, withPresent, refusing, afterNumbered}
 use Rattle.session_cutting.proofs.Laws.{clipped-in-bounds}
 use Rattle.session_cutting.proofs.Stages.{again-found, again-none}
 use Rattle.session_cutting.specs.declared.AfterCut.{AfterCut}

@@ -17,7 +17,7 @@ use Rattle.session_cutting.specs.Cutting.{earlyCutting, clipped, retightened, c
 use Rattle.session_cutting.specs.declared.AfterCut.{AfterCut}
 use Rattle.session_cutting.proofs.Laws.{accepted, refused-same, numbered-accepted}
 use Rattle.c_lists.specs.Lists.{cellBytes}
-use Rattle.c_storage.specs.Layout.{sessionBytes, encoding, decoding, patched, dayCells}
+use Rattle.c_storage.specs.Layout.{sessionBytes, encoding, patched, dayCells}
 use Rattle.c_storage.specs.Storing.{Storable}
 use Rattle.c_storage.proofs.Lengths.{encoding-length}
 use Rattle.c_storage.proofs.Inverse.{decoding-encoding}

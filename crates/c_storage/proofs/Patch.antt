@@ -4,7 +4,6 @@ use mathlib.Core.Path.{_≡_, refl, ap, _∙_}
 use mathlib.Core.Bool.{Bool, true, cond}
 use mathlib.Core.List.{List}
 use native.Mathlib.Omega.{arith}
-use lib.ListN.{length}
 use lib.Seq.{sets}
 use Rattle.theory_lists.specs.Sum.{at}
 use Rattle.theory_lists.specs.Rows.{rows-same}
@@ -13,7 +12,7 @@ use Rattle.base_little_endian.proofs.Laws.{u16-length}
 use Rattle.session.specs.declared.Ranges.{Ranges}
 use Rattle.c_lists.specs.Lists.{cellBytes}
 use Rattle.c_storage.specs.Layout.{totalBytes, decoding, patched}
-use Rattle.c_storage.proofs.Held.{days-few, opened-held, opened-floor-held, opened-ceiling-held}
+use Rattle.c_storage.proofs.Held.{days-few, opened-floor-held, opened-ceiling-held}
 use Rattle.c_storage.proofs.Laws.{field-before, field-past}
 use Rattle.c_storage.proofs.Lengths.{totals-length}
 

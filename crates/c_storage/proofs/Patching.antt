@@ -1,5 +1,5 @@
 -- The patch on what was encoded is the encoding of the session with the new ranges: each part of it is stored, or stands where nothing was stored.
-use mathlib.Core.Path.{_≡_, refl, sym, _∙_}
+use mathlib.Core.Path.{_≡_, sym, _∙_}
 use mathlib.Core.Bool.{Bool, cond, not, _||_}
 use mathlib.Core.List.{List, _++_}
 use mathlib.Core.Logic.{_⊎_, inl, inr}
@@ -10,7 +10,6 @@ use lib.ListN.{length, length-append, replicate, length-replicate}
 use lib.Seq.{sets, length-sets}
 use Rattle.theory_lists.specs.Sum.{at}
 use Rattle.theory_lists.specs.Part.{Part, part-left, part-right, part-both, part-all, part-same, part-stored, part-before, part-past}
-use Rattle.base_little_endian.specs.Fields.{u16Bytes}
 use Rattle.base_little_endian.proofs.Laws.{u16-length}
 use Rattle.session.specs.declared.Ranges.{Ranges}
 use Rattle.session.specs.declared.Session.{Session}

@@ -1,5 +1,4 @@
 -- `check` meets its contract: each arm knows its subject.
-use mathlib.Core.Path.{_∙_}
 use mir.Facts.{toZ-ofZ}
 use borrow.Author.Needs.{needs}
 use Rattle.c_schedules.proofs.check.Statement.{statement}

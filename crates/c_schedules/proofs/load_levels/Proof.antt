@@ -1,5 +1,4 @@
 -- `load_levels` meets its contract: what is loaded is the session's (`Loaded`), and each arm knows its subject.
-use mathlib.Core.List.{List}
 use borrow.Author.Needs.{needs}
 use Rattle.c_storage.specs.Layout.{decoding}
 use Rattle.c_storage.proofs.Inverse.{decoding-in-bounds}

@@ -1,6 +1,6 @@
 -- `cut_present` meets its contract: the arrays hold what the bytes hold (`Loaded`), then what the cut makes of it, and each return knows whether there is a
 -- schedule and what it stored.
-use mathlib.Core.Path.{_≡_, _∙_}
+use mathlib.Core.Path.{_≡_}
 use mathlib.Core.List.{List}
 use Prim.Native.Nat.{ℕ}
 use native.Mathlib.Omega.{arith}
@@ -12,7 +12,7 @@ use Rattle.session_cuts.specs.declared.Cut.{Cut}
 use Rattle.session_cutting.specs.Cutting.{clipped, retightened}
 use Rattle.c_storage.specs.Layout.{decoding}
 use Rattle.c_storage.proofs.Held.{days-few}
-use Rattle.c_sessions.proofs.Cutting.{Loaded, Stored, loaded-bounds, loaded-tight, made-none, made-found, made-bounds}
+use Rattle.c_sessions.proofs.Cutting.{Loaded, loaded-bounds, loaded-tight, made-none, made-found, made-bounds}
 use Rattle.c_sessions.proofs.cut_present.Statement.{statement}
 use Rattle.c_sessions.proofs.cut_present.Tie as tie
 

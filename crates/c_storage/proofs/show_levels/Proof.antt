@@ -1,7 +1,7 @@
 -- `show_levels` meets its contract: k points are stored from the list's front on (`Stored`), and a turn stores the next one (`stored-more`). The measure is
 -- the points left.
 use Prim.Native.Nat.{_+_, _-_, _*_, min}
-use mathlib.Core.Path.{_≡_, ap, _∙_}
+use mathlib.Core.Path.{ap, _∙_}
 use lib.Seq.{sets}
 use mir.Facts.{toZ-ofZ}
 use mir.Syntax.{w16}

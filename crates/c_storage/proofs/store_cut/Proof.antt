@@ -1,7 +1,6 @@
 -- `store_cut` meets its contract: the changed days are listed by the bytes as they were, and then the patch is stored, part by part (`Celled`).
-use mathlib.Core.Path.{_≡_, refl, ap, _∙_}
+use mathlib.Core.Path.{refl, ap, _∙_}
 use mathlib.Core.Bool.{false}
-use mathlib.Core.List.{List}
 use lib.Seq.{sets}
 use Rattle.theory_lists.specs.Sum.{at}
 use Rattle.base_little_endian.specs.Fields.{u16Bytes}

@@ -1,6 +1,5 @@
 -- `store_fresh` meets its contract: each call stores the next part of the encoding after those before it (`laid-more`), and the last one ends it
 -- (`sets-whole`).
-use mathlib.Core.Bool.{false}
 use mathlib.Core.List.{List, _++_}
 use mathlib.Core.Path.{_≡_, sym, _∙_}
 use Prim.Native.Nat.{ℕ}
