@@ -1,3 +1,4 @@
 pub mod Opening
 pub mod Cutting
 pub mod Showing
+pub mod Encoded

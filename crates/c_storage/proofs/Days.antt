@@ -1,5 +1,5 @@
 -- The loop that lists days as bytes where a test holds: what holds at its head, what starts it, what a turn does, and its way out.
-use Prim.Native.Nat.{ℕ, _+_, _*_, _≤_, _<_}
+use Prim.Native.Nat.{ℕ, zero, suc, _+_, _*_, _≤_, _<_}
 use mathlib.Core.Path.{_≡_, refl, ap, sym, _∙_}
 use mathlib.Core.Bool.{Bool, true, false, cond}
 use mathlib.Core.List.{List, [], _∷_, _++_}
@@ -20,6 +20,12 @@ use Rattle.c_storage.proofs.Lengths.{cells-length}
 pub days-length : (ds : List ℕ) → length (dayBytes ds) ≡ length ds * 2
 unfolding dayBytes
 days-length ds = cells-length (at ds) (length ds)
+
+-- tests that agree below n
+pub days-same : (t u : ℕ → Bool) (n : ℕ) → ((k : ℕ) → k < n → t k ≡ u k) → daysWhere t n ≡ daysWhere u n
+unfolding daysWhere
+days-same t u zero h = refl
+days-same t u (suc n) h = rw (h n (omega arith), days-same t u n (λ k l. h k (omega arith))) refl
 
 -- one day more
 days-add : (ds : List ℕ) (d : ℕ) → dayBytes (ds ++ d ∷ []) ≡ dayBytes ds ++ u16Bytes d

@@ -20,7 +20,7 @@ use Rattle.session.specs.declared.Ranges.{Ranges}
 use Rattle.session.specs.declared.Session.{Session}
 use mir.Syntax.{w32}
 use Rattle.theory_lists.specs.Rows.{rows}
-use Rattle.theory_lists.specs.Part.{Part, part-left, part-right, part-row, part-all}
+use Rattle.theory_lists.specs.Part.{Part, part-left, part-right, part-both, part-row, part-all}
 use Rattle.base_codes.proofs.Offset.{less-le}
 use Rattle.base_codes.proofs.Casts.{less-fits}
 use Rattle.base_little_endian.proofs.Laws.{u16-length, i32-length, u16-read, i32-read}
@@ -85,21 +85,19 @@ module _ {b : List ℕ} where
       let high = less-le (decoded lowestTotal t) highestTotal t 2560000 512000 d refl h in
       rw (e, within-yes lowestTotal highestTotal (decoded lowestTotal t) .1 (low, high)) (code-decoded lowestTotal t)
 
-  cells-read : {place n : ℕ} (most : ℕ) (cells : List ℕ) → Cells n most cells → Part b place (blockBytes cells n) → cellsAt b n most place ≡ cells
+  -- a cell of a block
+  pub cell-read : {place n : ℕ} (cells : List ℕ) → Part b place (blockBytes cells n) → (k : ℕ) → k < n → u16At b (place + k * 2) ≡ at cells k
   unfolding blockBytes cellBytes
+  cell-read {n = n} cells p k h =
+      let row : (ℕ → List ℕ) = λ j. u16Bytes (at cells j) in
+      u16-read (at cells k) (part-row row 2 n (λ j u. u16-length (at cells j)) (part-left (rows row n) (replicate ((512 - n) * 2) 0) refl p) k h)
+
+  cells-read : {place n : ℕ} (most : ℕ) (cells : List ℕ) → Cells n most cells → Part b place (blockBytes cells n) → cellsAt b n most place ≡ cells
   cells-read {place} {n} most cells c p =
       ext-getD 0 (cellsAt b n most place) cells (length-cells b n (c .few) most place ∙ sym (c .whole)) (λ k h. go k (omega (arith, length-cells b n (c .few) most place)) (decLt k n))
     where
-      wide : (k : ℕ) → k < n → length (u16Bytes (at cells k)) ≡ 2
-      wide k h = u16-length (at cells k)
-
-      stored : (k : ℕ) → k < n → u16At b (place + k * 2) ≡ at cells k
-      stored k h =
-          u16-read (at cells k)
-          (part-row (λ j. u16Bytes (at cells j)) 2 n wide (part-left (rows (λ j. u16Bytes (at cells j)) n) (replicate ((512 - n) * 2) 0) refl p) k h)
-
       go : (k : ℕ) → k < 512 → Dec (k < n) → at (cellsAt b n most place) k ≡ at cells k
-      go k u (yes h) = omega (arith, cell b n (c .few) most place k h, stored k h, c .small k h)
+      go k u (yes h) = omega (arith, cell b n (c .few) most place k h, cell-read cells p k h, c .small k h)
       go k u (no h) =
           written-past (λ j. min (u16At b (place + j * 2)) most) 0 n zeros k (omega arith) ∙ getD-replicate {A = ℕ} 512 k 0 0 u ∙ sym (c .past k (omega arith) u)
 
@@ -130,28 +128,28 @@ mark-read false e = rw e refl
 -- ---- the parts of a session's bytes
 
 module _ (s : Session) where
-  abbrev count : List ℕ
+  abbrev pub count : List ℕ
   count = u16Bytes (s .days)
 
-  abbrev mark : List ℕ
+  abbrev pub mark : List ℕ
   mark = u16Bytes (cond (s .spent) 1 0)
 
-  abbrev opening : List ℕ
+  abbrev pub opening : List ℕ
   opening = totalBytes (s .opened .lowest) (s .opened .highest)
 
-  abbrev totals : List ℕ
+  abbrev pub totals : List ℕ
   totals = totalBytes (s .present .lowest) (s .present .highest)
 
-  abbrev rises : List ℕ
+  abbrev pub rises : List ℕ
   rises = blockBytes (s .rises) (s .days)
 
-  abbrev first : List ℕ
+  abbrev pub first : List ℕ
   first = blockBytes (s .opened .floors) (s .days) ++ blockBytes (s .opened .ceilings) (s .days)
 
-  abbrev last : List ℕ
+  abbrev pub last : List ℕ
   last = blockBytes (s .present .floors) (s .days) ++ blockBytes (s .present .ceilings) (s .days)
 
-  record Laid (b : List ℕ) : Type 0 where
+  pub record Laid (b : List ℕ) : Type 0 where
     pub at0 : Part b 0 count
     pub at2 : Part b 2 mark
     pub at4 : Part b 4 opening
@@ -160,7 +158,7 @@ module _ (s : Session) where
     pub at1044 : Part b 1044 first
     pub at3092 : Part b 3092 last
 
-  laid : {b : List ℕ} → s .days ≤ 512 → Part b 0 (encoding s) → Laid b
+  pub laid : {b : List ℕ} → s .days ≤ 512 → Part b 0 (encoding s) → Laid b
   unfolding encoding
   laid few p =
       let l1 : length (count ++ mark) ≡ 4 = simp (length-append, u16-length) in
@@ -182,6 +180,23 @@ module _ (s : Session) where
         at1044 = part-right (count ++ mark ++ opening ++ totals ++ rises) first l4 p5;
         at3092 = part-right (count ++ mark ++ opening ++ totals ++ rises ++ first) last l5 p;
       }
+
+-- the parts, put together
+pub joined : (s : Session) {b : List ℕ} → s .days ≤ 512 → Laid s b → Part b 0 (encoding s)
+unfolding encoding
+joined s few l =
+    let l0 = u16-length (s .days) in
+    let l1 : length (count s ++ mark s) ≡ 4 = simp (length-append, u16-length) in
+    let l2 : length (count s ++ mark s ++ opening s) ≡ 12 = simp (length-append, u16-length, totals-length) in
+    let l3 : length (count s ++ mark s ++ opening s ++ totals s) ≡ 20 = simp (length-append, u16-length, totals-length) in
+    let l4 : length (count s ++ mark s ++ opening s ++ totals s ++ rises s) ≡ 1044 = simp (length-append, u16-length, totals-length, block-length) in
+    let l5 : length (count s ++ mark s ++ opening s ++ totals s ++ rises s ++ first s) ≡ 3092 = simp (length-append, u16-length, totals-length, block-length) in
+    let p1 = part-both (count s) (mark s) l0 (l .at0) (l .at2) in
+    let p2 = part-both (count s ++ mark s) (opening s) l1 p1 (l .at4) in
+    let p3 = part-both (count s ++ mark s ++ opening s) (totals s) l2 p2 (l .at12) in
+    let p4 = part-both (count s ++ mark s ++ opening s ++ totals s) (rises s) l3 p3 (l .at20) in
+    let p5 = part-both (count s ++ mark s ++ opening s ++ totals s ++ rises s) (first s) l4 p4 (l .at1044) in
+    part-both (count s ++ mark s ++ opening s ++ totals s ++ rises s ++ first s) (last s) l5 p5 (l .at3092)
 
 -- what was encoded is decoded
 pub decoding-encoding : DecodingEncoding

@@ -1,12 +1,14 @@
 -- What is kept by a session's bytes, as statements.
 use mathlib.Core.Path.{_≡_}
 use mathlib.Core.List.{List}
+use mathlib.Core.Bool.{Bool}
 use Prim.Native.Nat.{ℕ, _≤_, _<_}
 use Rattle.limits.specs.Limits.{mostDays}
 use Rattle.theory_lists.specs.Sum.{at}
 use Rattle.session.specs.Showing.{SessionInBounds}
+use Rattle.session.specs.declared.Ranges.{Ranges}
 use Rattle.session.specs.declared.Session.{Session}
-use Rattle.c_storage.specs.Layout.{encoding, decoding}
+use Rattle.c_storage.specs.Layout.{encoding, decoding, patched}
 
 -- whatever the bytes, the session's numbers are in bounds
 abbrev pub DecodingInBounds : Type 0
@@ -26,3 +28,9 @@ pub record Storable (s : Session) : Type 0 where
 -- what was encoded is decoded
 abbrev pub DecodingEncoding : Type 0
 DecodingEncoding = (s : Session) → Storable s → decoding (encoding s) ≡ s
+
+-- the patch of other present ranges on what was encoded is the encoding of the session that has them
+abbrev pub PatchedEncoding : Type 0
+PatchedEncoding =
+    (s : Session) → Storable s → (spent : Bool) (r : Ranges)
+    → patched (encoding s) (s .days) spent r ≡ encoding (record { days = s .days; rises = s .rises; opened = s .opened; present = r; spent = spent })

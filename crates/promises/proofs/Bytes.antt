@@ -1,11 +1,10 @@
 -- The bytes of a session that came from opening and cuts.
 use mathlib.Core.Path.{_≡_, refl, sym, ap, _∙_}
-use mathlib.Core.Bool.{Bool, true, false, cond, _||_}
+use mathlib.Core.Bool.{Bool, true, false, cond}
 use mathlib.Core.List.{List, [], _∷_}
 use Prim.Native.Nat.{ℕ, _/_}
 use native.Mathlib.Omega.{arith}
 use lib.Dec.{eqb}
-use lib.ListN.{length, replicate, length-replicate}
 use borrow.Author.Tests.{eq-eqb, eqb-false}
 use Rattle.session.specs.Profile.{Profile}
 use Rattle.session.specs.Opening.{opened}
@@ -13,43 +12,23 @@ use Rattle.session.specs.declared.Session.{Session}
 use Rattle.session_cuts.specs.declared.Numbered.{Numbered}
 use Rattle.session_cutting.specs.Cutting.{afterNumbered}
 use Rattle.promises.specs.Cuts.{after}
-use Rattle.promises.proofs.Demand1.{demand-1}
 use Rattle.c_lists.specs.Profiles.{ByteProfile, byteLengthRefusal, profileOf}
-use Rattle.c_storage.specs.Layout.{sessionBytes, encoding, decoding}
+use Rattle.c_storage.specs.Layout.{encoding, decoding}
 use Rattle.c_storage.specs.Storing.{Storable}
-use Rattle.c_storage.proofs.Lengths.{encoding-length}
 use Rattle.c_storage.proofs.Inverse.{decoding-encoding}
-use Rattle.c_sessions.specs.Sessions.{isSession, openRefusal, bytesOpened, cutAnswer, bytesCut}
+use Rattle.c_sessions.specs.Sessions.{isSession, openRefusal, bytesOpened, bytesCut}
+use Rattle.c_sessions.proofs.Encoded.{encoded, cut-encoded}
 use Rattle.promises.specs.InBytes.{ByteCutCall, byValue, bytesAfter, CameFrom, SessionsInBytes}
 use Rattle.promises.proofs.Storable.{opened-storable, numbered-storable}
 
-encoded : (s : Session) → Storable s → isSession (encoding s) ≡ true
-encoded s h = eq-eqb (length (encoding s)) sessionBytes (encoding-length s (h .bounds .opened .most))
-
 -- ---- cuts
-
-written-or-left : (r : ℕ) (s after : Session) → ((r ≡ 0 → ⊥) → (r ≡ 8 → ⊥) → after ≡ s) → cond (eqb r 0 || eqb r 8) (encoding after) (encoding s) ≡ encoding after
-written-or-left r s after left = go (eqb r 0) (eqb r 8) refl refl
-  where
-    go : (a b : Bool) → eqb r 0 ≡ a → eqb r 8 ≡ b → cond (a || b) (encoding after) (encoding s) ≡ encoding after
-    go true b e f = refl
-    go false true e f = refl
-    go false false e f = ap encoding (sym (left (eqb-false r 0 e) (eqb-false r 8 f)))
-
--- one cut: a refusal other than 8 leaves the session, and so its bytes
-cut-encoded : (s : Session) (t : Numbered) (bytes : ℕ) → Storable s → bytesCut (encoding s) t bytes ≡ encoding (afterNumbered s t (bytes / 2) .session)
-unfolding bytesCut cutAnswer
-cut-encoded s t bytes h =
-    let left = rw (length-replicate {A = ℕ} (bytes / 2) 0) at (demand-1 .refused s t (replicate (bytes / 2) 0) .session) in
-    rw (encoded s h, decoding-encoding s h)
-    (written-or-left (afterNumbered s t (bytes / 2) .answer .refusal) s (afterNumbered s t (bytes / 2) .session) left)
 
 -- a whole list of cuts
 follow : (s : Session) (hs : List ByteCutCall) → Storable s → (bytesAfter (encoding s) hs ≡ encoding (after s (byValue hs))) × Storable (after s (byValue hs))
 follow s [] h = (refl, h)
 follow s (c ∷ hs) h =
     let f = follow (afterNumbered s (c .cut) (c .bytes / 2) .session) hs (numbered-storable s (c .cut) (c .bytes / 2) h) in
-    (ap (λ b. bytesAfter b hs) (cut-encoded s (c .cut) (c .bytes) h) ∙ f .0, f .1)
+    (ap (λ b. bytesAfter b hs) (cut-encoded s h (c .cut) (c .bytes)) ∙ f .0, f .1)
 
 -- ---- opening
 
@@ -109,7 +88,7 @@ pub record CutHeld (b : List ℕ) (t : Numbered) (bytes : ℕ) : Type 0 where
 pub cut-held : (p : Profile) (hs : List ByteCutCall) (b : List ℕ) → CameFrom p hs b → (t : Numbered) (bytes : ℕ) → CutHeld b t bytes
 cut-held p hs b c t bytes =
     let w = came p hs b c in
-    let e = ap (λ a. bytesCut a t bytes) (w .back) ∙ cut-encoded (decoding b) t bytes (w .storable) in
+    let e = ap (λ a. bytesCut a t bytes) (w .back) ∙ cut-encoded (decoding b) (w .storable) t bytes in
     record {
       after-bytes = e;
       after-held = ap decoding e ∙ decoding-encoding (afterNumbered (decoding b) t (bytes / 2) .session) (numbered-storable (decoding b) t (bytes / 2) (w .storable));

@@ -8,7 +8,7 @@ use native.Mathlib.Omega.{arith}
 use lib.IntN.{ℤ}
 use lib.Dec.{eqb, ltb}
 use lib.ListN.{length, replicate, length-replicate}
-use borrow.Author.Tests.{eq-eqb, ne-eqb, eqb-false, ltb-false}
+use borrow.Author.Tests.{ne-eqb, eqb-false, ltb-false}
 use mir.Syntax.{w16}
 use mir.Val.{SFits}
 use Rattle.theory_lists.specs.Sum.{at}
@@ -41,7 +41,8 @@ use Rattle.c_lists.specs.Profiles.{haveLengths, byteCountsRefusal, byteLengthRe
 use Rattle.c_lists.proofs.Laws.{points-left}
 use Rattle.c_storage.specs.Layout.{encoding, decoding}
 use Rattle.c_storage.proofs.Lengths.{cells-length}
-use Rattle.c_sessions.specs.Sessions.{isSession, openRefusal, bytesOpened, cutAnswer, bytesCut, changedBytes, shownOver}
+use Rattle.c_sessions.specs.Sessions.{isSession, openRefusal, bytesOpened, answerFor, bytesFor, listFor, cutAnswer, bytesCut, changedBytes, shownOver}
+use Rattle.c_sessions.proofs.Encoded.{answer-encoded, list-encoded}
 use Rattle.promises.specs.InBytes.{ByteCutCall, byValue, CameFrom}
 use Rattle.promises.specs.DemandsInBytes.{BytesLeft, Changed, Unchanged, AfterBytes, readRanges, Read, Reading, NoneAtOpening, NoneAtCutOver, DemandsInBytes}
 use Rattle.promises.proofs.Bytes.{Came, came, cut-held}
@@ -49,16 +50,36 @@ use Rattle.promises.proofs.Points.{point-fits, lent-point, lent-rest, c
 
 -- ---- demand 1
 
-left-bytes : (r : ℕ) (new old : List ℕ) → (r ≡ 0 → ⊥) → (r ≡ 8 → ⊥) → cond (eqb r 0 || eqb r 8) new old ≡ old
-left-bytes r new old h k = rw (ne-eqb r 0 h, ne-eqb r 8 k) refl
+cut-leaves-list : (b : List ℕ) (t : Numbered) (l : List ℕ) → (cutAnswer b t (length l) .refusal ≡ 0 → ⊥) → changedBytes b t l ≡ l
+unfolding cutAnswer changedBytes answerFor listFor
+cut-leaves-list b t l = go (isSession b)
+  where
+    a : AfterCut
+    a = afterNumbered (decoding b) t (length l / 2)
+
+    go : (x : Bool) → (cond x (answerFor b a) (record { refusal = 2; changed = 0 }) .refusal ≡ 0 → ⊥) → cond x (listFor b a l) l ≡ l
+    go true h = rw (ne-eqb (a .answer .refusal) 0 h) refl
+    go false h = refl
+
+cut-leaves-bytes : (b : List ℕ) (t : Numbered) (list : ℕ) → (cutAnswer b t list .refusal ≡ 0 → ⊥) → (cutAnswer b t list .refusal ≡ 8 → ⊥) → bytesCut b t list ≡ b
+unfolding cutAnswer bytesCut answerFor bytesFor
+cut-leaves-bytes b t list = go (isSession b)
+  where
+    a : AfterCut
+    a = afterNumbered (decoding b) t (list / 2)
+
+    go : (x : Bool) → (cond x (answerFor b a) (record { refusal = 2; changed = 0 }) .refusal ≡ 0 → ⊥)
+        → (cond x (answerFor b a) (record { refusal = 2; changed = 0 }) .refusal ≡ 8 → ⊥) → cond x (bytesFor b a) b ≡ b
+    go true h k = rw (ne-eqb (a .answer .refusal) 0 h, ne-eqb (a .answer .refusal) 8 k) refl
+    go false h k = refl
 
 refused : BytesLeft
-unfolding bytesOpened bytesCut changedBytes
+unfolding bytesOpened
 refused =
     record {
       opening = λ b p h. rw (ne-eqb (openRefusal b p) 0 h) refl;
-      list = λ b t l h. rw (ne-eqb (cutAnswer b t (length l) .refusal) 0 h) refl;
-      session = λ b t l h k. left-bytes (cutAnswer b t (length l) .refusal) _ b h k;
+      list = cut-leaves-list;
+      session = λ b t l. cut-leaves-bytes b t (length l);
       reading = λ b fs cs h. (points-left _ _ _ fs h, points-left _ _ _ cs h);
     }
 
@@ -141,7 +162,7 @@ module _ (p : Profile) (hs : List ByteCutCall) (b : List ℕ) (c : CameFrom p hs
       rw (spent-as u, o) (record { each = x .each; sum = x .sum })
 
   none-at-cut-over : (h : ByteCutCall) → NoneAtCutOver p hs b h
-  unfolding cutAnswer
+  unfolding cutAnswer answerFor
   none-at-cut-over h =
       subst (λ gs. (cutAnswer b (h .cut) (h .bytes) .refusal ≡ 8) ↔ (earlyNumbered (decoding b) (h .cut) (h .bytes / 2) ≡ 0) × ((x : List ℤ) → Kept p gs x → ⊥)) (sym (by-value-more hs h))
       (rw (w .sized) (none-at-cut p (w .opens) (byValue hs) (decoding b) (w .held) (record { cut = h .cut; room = h .bytes / 2 })))
@@ -189,8 +210,7 @@ module _ (p : Profile) (hs : List ByteCutCall) (b : List ℕ) (c : CameFrom p hs
     r = afterNumbered (decoding b) t (length l / 2)
 
     answers : cutAnswer b t (length l) ≡ r .answer
-    unfolding cutAnswer
-    answers = rw (w .sized) refl
+    answers = ap (λ x. cutAnswer x t (length l)) (w .back) ∙ answer-encoded (decoding b) (w .storable) t (length l)
 
     abbrev listed : List ℕ
     listed = changedDays (decoding b .days) (decoding b .present) (r .session .present)
@@ -200,8 +220,7 @@ module _ (p : Profile) (hs : List ByteCutCall) (b : List ℕ) (c : CameFrom p hs
       accepted = numbered-accepted (decoding b) t (length l / 2) z
 
       front : changedBytes b t l ≡ inFront (cellBytes (at listed) (length listed)) l
-      unfolding changedBytes
-      front = rw (answers, eq-eqb (r .answer .refusal) 0 z) refl
+      front = ap (λ x. changedBytes x t l) (w .back) ∙ list-encoded (decoding b) (w .storable) t l z
 
       wide : length (cellBytes (at listed) (length listed)) ≡ r .answer .changed * 2
       wide = cells-length (at listed) (length listed) ∙ ap (λ m. m * 2) (sym (accepted .counted))

@@ -2,6 +2,7 @@
 use Rattle.schedule_inspection.proofs.Answers.{finding-one}
 use Rattle.file_printing.proofs.Longer.{printed-long}
 use Rattle.c_storage.proofs.Inverse.{decoding-in-bounds, decoding-encoding}
+use Rattle.c_storage.proofs.Patching.{patched-encoding}
 use Rattle.promises.specs.Promises.{Promises}
 use Rattle.promises.specs.Starred.{starred}
 use Rattle.promises.proofs.Demand1.{demand-1}
@@ -43,4 +44,5 @@ promised = record {
   files-in-bytes = files-in-bytes;
   decoding = decoding-in-bounds;
   decoding-encoding = decoding-encoding;
+      patched-encoding = patched-encoding;
 }

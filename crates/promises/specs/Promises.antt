@@ -3,7 +3,7 @@ use mathlib.Core.List.{List}
 use Prim.Native.Nat.{ℕ}
 use Rattle.schedule_inspection.specs.Inspecting.{FindingOne}
 use Rattle.file_printing.specs.Printing.{PrintedLong}
-use Rattle.c_storage.specs.Storing.{DecodingInBounds, DecodingEncoding}
+use Rattle.c_storage.specs.Storing.{DecodingInBounds, DecodingEncoding, PatchedEncoding}
 use Rattle.promises.specs.Demands.{Demand1, Demand2, Demand3, LooserCuts, NoneAtCut, SessionsInBounds}
 use Rattle.promises.specs.Schedules.{Writing, Inspection, PresentSchedules}
 use Rattle.promises.specs.RoundTrips.{RoundTrips}
@@ -40,6 +40,8 @@ pub record Promises : Type 0 where
   pub writing-in-bytes : WritingInBytes
   pub inspection-in-bytes : InspectionInBytes
   pub files-in-bytes : FilesInBytes
-  -- over C: whatever the bytes, they hold a session that can be called on, and what was encoded is decoded
+  -- over C: whatever the bytes, they hold a session that can be called on; what was encoded is decoded; and the patch that a cut makes of bytes, on the encoding of a
+  -- session, is the encoding of the session with those ranges
   pub decoding : DecodingInBounds
   pub decoding-encoding : DecodingEncoding
+  pub patched-encoding : PatchedEncoding

@@ -1,10 +1,11 @@
 // Floors carried forward, and whether a floor is above its ceiling.
 ghost use mathlib.Core.Path.{_≡_};
-ghost use Prim.Native.Nat.{_+_, _-_, _≤_};
+ghost use Prim.Native.Nat.{_*_, _≤_};
 ghost use lib.Dec.{ltb};
-ghost use Rattle.limits.specs.Limits.{mostDays, highestLevel, riseOffset, highestRiseCode};
+ghost use Rattle.limits.specs.Limits.{mostDays};
 ghost use Rattle.theory_lists.specs.Sum.{at};
 ghost use Rattle.theory_lists.specs.Written.{written};
+ghost use Rattle.theory_chains.specs.Sum.{sum, all};
 ghost use Rattle.theory_method.specs.Filter.{carried, firstCrossed};
 ghost use Rattle.tighten_carry.specs.Carriable.{Carriable};
 use base_numbers::max;
@@ -13,42 +14,39 @@ use base_numbers::wide;
 use limits::MOST_DAYS;
 use limits::RISE_OFFSET;
 
-// The least level of the next day, or 0 where that is below the scale. A rise code is the rise plus 2,000.
-fn risen(level: usize, rise: usize) -> usize
-    requires { ⌜ (level ≤ highestLevel) × (rise ≤ highestRiseCode) ⌝ }
-    ensures { λ r. ⌜ r ≡ level + rise - riseOffset ⌝ }
-{
-    let up = level + rise;
-    if up < RISE_OFFSET {
-        0
-    } else {
-        up - RISE_OFFSET
-    }
+// The days that were carried, and the sum of their floors.
+pub struct Carried {
+    pub days: usize,
+    pub sum: usize,
 }
 
-// Carries the floors forward, up to the first day whose carried floor is above its ceiling: the result, or n.
+// Carries the floors forward, up to the first day whose carried floor is above its ceiling, or all n. `up` is the least
+// level of day i plus 2,000, as a rise code is the rise plus 2,000.
 pub fn carry(
     floors: &mut [u16; MOST_DAYS],
     ceilings: &[u16; MOST_DAYS],
     rises: &[u16; MOST_DAYS],
     n: usize,
-) -> usize
+) -> Carried
     requires { ⌜ Carriable (now ceilings) (now rises) n ⌝ }
-    ensures { λ r. ⌜ r ≡ firstCrossed (carried (now (floors .entry)) (now (rises .entry))) (at (now (ceilings .entry))) n ⌝ }
-    ensures { λ r. ⌜ now (floors .exit) ≡ written (carried (now (floors .entry)) (now (rises .entry))) r (now (floors .entry)) ⌝ }
+    ensures { λ r. ⌜ r .days ≡ firstCrossed (carried (now (floors .entry)) (now (rises .entry))) (at (now (ceilings .entry))) n ⌝ }
+    ensures { λ r. ⌜ now (floors .exit) ≡ written (carried (now (floors .entry)) (now (rises .entry))) (r .days) (now (floors .entry)) ⌝ }
+    ensures { λ r. ⌜ (r .sum ≡ sum all (r .days) (carried (now (floors .entry)) (now (rises .entry)))) × (r .sum ≤ r .days * 65535) ⌝ }
 {
-    let mut low = 0;
+    let mut up = 0;
+    let mut sum = 0;
     let mut i = 0;
     while i < n {
-        let floor = max(wide(floors[i]), low);
+        let floor = max(wide(floors[i]) + RISE_OFFSET, up) - RISE_OFFSET;
         if wide(ceilings[i]) < floor {
-            return i;
+            return Carried { days: i, sum };
         }
         floors[i] = narrow(floor);
-        low = risen(floor, wide(rises[i]));
+        sum += floor;
+        up = floor + wide(rises[i]);
         i += 1;
     }
-    n
+    Carried { days: n, sum }
 }
 
 // Whether the floor of one of the first n days is above its ceiling.

@@ -60,57 +60,60 @@ over-base a n i v margin up h = pick (decLt (a i) v)
 
 -- ---- settle: at its loop's head stands `Days`
 
-module _ {fs rs : List ℕ} {n i v c s e : ℕ} (g : Carried fs rs n) (d : DaysIn fs rs n i v c s e) where
+module _ {fs rs : List ℕ} {n i v j s e : ℕ} (g : Carried fs rs n) (d : DaysIn fs rs n i v j s e) where
   pub end-most : e ≤ 2048000
-  end-most = omega (arith, d .run .last, shift-most g (i + c - 1) (omega arith))
+  end-most = omega (arith, d .run .last, shift-most g (j - 1) (omega (arith, d .run .inside)))
 
-  pub end-least : 1 < c → 2000 ≤ e
-  end-least h = omega (arith, d .run .last, shift-least g (i + c - 1) (omega arith) (omega arith))
+  pub end-least : i + 1 < j → 2000 ≤ e
+  end-least h = omega (arith, d .run .last, shift-least g (j - 1) (omega arith) (omega (arith, d .run .inside)))
 
-  end-back : {w : ℕ} → 1 < c → w ≡ at rs (i + (c - 1) - 1) → e + w ≡ shift (at rs) n (i + (c - 1) - 1) + 2000
+  end-back : {w : ℕ} → i + 1 < j → w ≡ at rs (j - 1 - 1) → e + w ≡ shift (at rs) n (j - 1 - 1) + 2000
   end-back {w} h q =
-      let p : i + (c - 1) - 1 + 1 ≡ i + c - 1 = omega arith in
-      let r : shift (at rs) n (i + (c - 1) - 1) + 2000 ≡ shift (at rs) n (i + c - 1) + at rs (i + (c - 1) - 1) =
-      rw p at (shift-next g (i + (c - 1) - 1) (omega arith)) in
+      let p : j - 1 - 1 + 1 ≡ j - 1 = omega arith in
+      let r : shift (at rs) n (j - 1 - 1) + 2000 ≡ shift (at rs) n (j - 1) + at rs (j - 1 - 1) =
+      rw p at (shift-next g (j - 1 - 1) (omega (arith, d .run .inside))) in
       omega (arith, d .run .last)
 
-  pub days-last : s ≡ sumFor (shifted fs rs n) i (c - 1) + shifted fs rs n (i + c - 1)
-  days-last = d .run .total ∙ sum-last (shifted fs rs n) i c (d .run .some)
+  pub days-last : s ≡ sumFor (shifted fs rs n) i (j - 1 - i) + shifted fs rs n (j - 1)
+  days-last =
+      let p : j - i - 1 ≡ j - 1 - i = omega arith in
+      let q : i + (j - i) - 1 ≡ j - 1 = omega (arith, d .run .some) in
+      d .run .total ∙ (rw (p, q) at (sum-last (shifted fs rs n) i (j - i) (omega (arith, d .run .some))))
 
-  days-stop : (1 < c → shifted fs rs n (i + c - 1) < v) → FoundIn fs rs n i v c s e
+  days-stop : (i + 1 < j → shifted fs rs n (j - 1) < v) → FoundIn fs rs n i v j s e
   days-stop u =
-      record { run = d .run; count = window-is (shifted fs rs n) n i v c (d .run .some) (d .run .inside) u (d .past) }
+      record { run = d .run; count = window-is (shifted fs rs n) n i v j (d .run .some) (d .run .inside) u (d .past) }
 
-  pub days-found : {x : ℕ} → x ≡ at fs (i + c - 1) → x + e < v → FoundIn fs rs n i v c s e
+  pub days-found : {x : ℕ} → x ≡ at fs (j - 1) → x + e < v → FoundIn fs rs n i v j s e
   days-found q u = days-stop (λ _. omega (arith, d .run .last))
 
-  pub days-one : c ≤ 1 → FoundIn fs rs n i v c s e
+  pub days-one : j ≤ i + 1 → FoundIn fs rs n i v j s e
   days-one u = days-stop (λ h. absurd (omega arith))
 
 -- a turn finds the last of several days, with floor x, at v or above, and reads the rise w before it, from which the shift e′ follows
-pub record Dropping (fs rs : List ℕ) (n i v c s e x w e′ : ℕ) : Type 0 where
+pub record Dropping (fs rs : List ℕ) (n i v j s e x w e′ : ℕ) : Type 0 where
   pub carried : Carried fs rs n
-  pub days : DaysIn fs rs n i v c s e
-  pub more : 1 < c
-  pub floor : x ≡ at fs (i + c - 1)
+  pub days : DaysIn fs rs n i v j s e
+  pub more : i + 1 < j
+  pub floor : x ≡ at fs (j - 1)
   pub high : v ≤ x + e
-  pub rise : w ≡ at rs (i + (c - 1) - 1)
+  pub rise : w ≡ at rs (j - 1 - 1)
   pub shift : e′ ≡ e + w - 2000
 
-pub days-drop : {fs rs : List ℕ} {n i v c s e x w e′ : ℕ} → Dropping fs rs n i v c s e x w e′ → DaysIn fs rs n i v (c - 1) (s - (x + e)) e′
-days-drop {fs} {rs} {n} {i} {v} {c} t =
+pub days-drop : {fs rs : List ℕ} {n i v j s e x w e′ : ℕ} → Dropping fs rs n i v j s e x w e′ → DaysIn fs rs n i v (j - 1) (s - (x + e)) e′
+days-drop {fs} {rs} {n} {i} {v} {j} t =
     record {
       run = record {
-        some = omega arith;
+        some = omega (arith, t .more);
         inside = omega (arith, t .days .run .inside);
         total = omega (arith, days-last (t .carried) (t .days), t .days .run .last);
         last = omega (arith, end-back (t .carried) (t .days) (t .more) (t .rise));
       };
-      past = λ k l m. pick k l m (decLt k (i + c));
+      past = λ k l m. pick k l m (decLt k j);
     }
   where
-    pick : (k : ℕ) → i + (c - 1) ≤ k → k < n → Dec (k < i + c) → v ≤ shifted fs rs n k
-    pick k l m (yes y) = let p : k ≡ i + c - 1 = omega arith in rw p (omega (arith, t .days .run .last))
+    pick : (k : ℕ) → j - 1 ≤ k → k < n → Dec (k < j) → v ≤ shifted fs rs n k
+    pick k l m (yes y) = let p : k ≡ j - 1 = omega arith in rw p (omega (arith, t .days .run .last))
     pick k l m (no y) = t .days .past k (omega arith) m
 
 -- ---- one round
@@ -125,121 +128,125 @@ stepped excess count room he hc hr =
     let le : step excess count room - 1 ≤ q - 1 = omega arith in
     (omega arith, omega arith, omega (arith, mul-le-mul-left count le, mul-sub count q 1))
 
--- by how much a round lowers v over c days
+-- by how much a round lowers v, with the days from i on that are before j
 abbrev fall : (ℕ → ℕ) → ℕ → ℕ → ℕ → ℕ → ℕ → ℕ
-fall a n i margin v c = step (over a n i v - margin) c (v - a (i + c - 1))
+fall a n i margin v j = step (over a n i v - margin) (j - i) (v - a (j - 1))
 
 -- a level v that day i is not above, and its days
-pub record Based (a z : ℕ → ℕ) (n i v c s e : ℕ) : Type 0 where
+pub record Based (a z : ℕ → ℕ) (n i v j s e : ℕ) : Type 0 where
   pub up : Rising a n
-  pub found : Found a z n i v c s e
+  pub found : Found a z n i v j s e
   pub base : a i ≤ v
 
-module _ {a z : ℕ → ℕ} {n i v c s e : ℕ} (b : Based a z n i v c s e) where
-  found-past : (k : ℕ) → i + c ≤ k → k < n → v ≤ a k
+module _ {a z : ℕ → ℕ} {n i v j s e : ℕ} (b : Based a z n i v j s e) where
+  found-past : (k : ℕ) → j ≤ k → k < n → v ≤ a k
   found-past k h u = window-past a n i v k (omega (arith, b .found .count)) u
 
-  found-under : 1 < c → a (i + c - 1) < v
-  found-under h = let p : c ≡ window a n i v = b .found .count in rw p (window-under a n i v (omega arith))
+  found-under : i + 1 < j → a (j - 1) < v
+  found-under h = let p : j ≡ i + window a n i v = b .found .count in rw p (window-under a n i v (omega arith))
 
-  found-all : (k : ℕ) → i ≤ k → k < i + c → a k ≤ v
-  found-all k h u = pick (decLt 1 c)
+  found-all : (k : ℕ) → i ≤ k → k < j → a k ≤ v
+  found-all k h u = pick (decLt (i + 1) j)
     where
-      pick : Dec (1 < c) → a k ≤ v
-      pick (yes y) = omega (arith, found-under y, b .up k (i + c - 1) (omega arith) (omega (arith, b .found .run .inside)))
+      pick : Dec (i + 1 < j) → a k ≤ v
+      pick (yes y) = omega (arith, found-under y, b .up k (j - 1) (omega arith) (omega (arith, b .found .run .inside)))
       pick (no y) = let p : k ≡ i = omega arith in rw p (b .base)
 
-  found-zeros : over a n i v ≡ sumFor (above a v) i c
+  found-zeros : over a n i v ≡ sumFor (above a v) i (j - i)
   found-zeros =
-      let p : c + (n - i - c) ≡ n - i = omega (arith, b .found .run .inside) in
-      rw p at (sum-zeros (above a v) i c (n - i - c) (λ k h u. omega (arith, found-past k h (omega (arith, b .found .run .inside)))))
+      let p : j - i + (n - j) ≡ n - i = omega (arith, b .found .run .inside, b .found .run .some) in
+      rw p at (sum-zeros (above a v) i (j - i) (n - j) (λ k h u. omega (arith, found-past k (omega arith) (omega (arith, b .found .run .inside)))))
 
   -- v counts once for each day
-  pub found-over : over a n i v + s ≡ c * v
-  found-over = omega (arith, found-zeros, b .found .run .total, excess-exact a i c v found-all)
+  pub found-over : over a n i v + s ≡ (j - i) * v
+  found-over = omega (arith, found-zeros, b .found .run .total, excess-exact a i (j - i) v (λ k h u. found-all k h (omega arith)))
 
-  rounded-fall : (margin : ℕ) → rounded a n i margin v ≡ v - fall a n i margin v c
-  rounded-fall margin = let p : c ≡ window a n i v = b .found .count in rw p (rounded-is a n i margin v)
+  rounded-fall : (margin : ℕ) → rounded a n i margin v ≡ v - fall a n i margin v j
+  rounded-fall margin =
+      let p : j - i ≡ window a n i v = omega (arith, b .found .count) in
+      let q : j - 1 ≡ i + window a n i v - 1 = omega (arith, b .found .count) in
+      rw (p, q) (rounded-is a n i margin v)
 
   module _ {margin : ℕ} (h : margin < over a n i v) where
-    pub found-active : a (i + c - 1) < v
-    found-active = pick (decLt 1 c)
+    pub found-active : a (j - 1) < v
+    found-active = pick (decLt (i + 1) j)
       where
-        pick : Dec (1 < c) → a (i + c - 1) < v
+        pick : Dec (i + 1 < j) → a (j - 1) < v
         pick (yes y) = found-under y
-        pick (no y) = let p : i + c - 1 ≡ i = omega (arith, b .found .run .some) in rw p (over-base a n i v margin (b .up) h)
+        pick (no y) = let p : j - 1 ≡ i = omega (arith, b .found .run .some) in rw p (over-base a n i v margin (b .up) h)
 
-    fall-is : (0 < fall a n i margin v c) × (fall a n i margin v c ≤ v - a (i + c - 1)) × (c * (fall a n i margin v c - 1) < over a n i v - margin)
-    fall-is = stepped (over a n i v - margin) c (v - a (i + c - 1)) (omega arith) (b .found .run .some) (omega (arith, found-active))
+    fall-is : (0 < fall a n i margin v j) × (fall a n i margin v j ≤ v - a (j - 1)) × ((j - i) * (fall a n i margin v j - 1) < over a n i v - margin)
+    fall-is = stepped (over a n i v - margin) (j - i) (v - a (j - 1)) (omega arith) (omega (arith, b .found .run .some)) (omega (arith, found-active))
 
 -- round: with o the overload, x the last day's floor, r the step
-module _ {fs rs : List ℕ} {n i margin v c s e : ℕ} (p : Overloaded fs rs n i margin v c s e) where
+module _ {fs rs : List ℕ} {n i margin v j s e : ℕ} (p : Overloaded fs rs n i margin v j s e) where
   round-base : shifted fs rs n i ≤ v
   round-base = omega (arith, over-base (shifted fs rs n) n i v margin (rises (p .carried)) (p .more))
 
-  round-based : Based (shifted fs rs n) (shift (at rs) n) n i v c s e
+  round-based : Based (shifted fs rs n) (shift (at rs) n) n i v j s e
   round-based = record { up = rises (p .carried); found = p .found; base = round-base }
 
-  pub round-overload : (c ≤ 512) × (v ≤ 16777216) × (s ≤ c * v)
+  pub round-overload : (i ≤ j) × (j ≤ 512) × (v ≤ 16777216) × (s ≤ (j - i) * v)
   round-overload =
-      (omega (arith, p .found .run .inside, p .carried .most), p .low, omega (arith, found-over round-based))
+      (omega (arith, p .found .run .some), omega (arith, p .found .run .inside, p .carried .most), p .low, omega (arith, found-over round-based))
 
-  pub round-over : {o : ℕ} → o + s ≡ c * v → o ≡ over (shifted fs rs n) n i v
+  pub round-over : {o : ℕ} → o + s ≡ (j - i) * v → o ≡ over (shifted fs rs n) n i v
   round-over q = omega (arith, found-over round-based)
 
-  pub round-room : {x : ℕ} → x ≡ at fs (i + c - 1) → x + e < v
+  pub round-room : {x : ℕ} → x ≡ at fs (j - 1) → x + e < v
   round-room q = omega (arith, p .found .run .last, found-active round-based (p .more))
 
-  pub round-excess : {o : ℕ} → o + s ≡ c * v → o ≤ 8589934592
-  round-excess q = omega (arith, mul-le-mul {n₁ = c} {m₁ = v} {n₂ = 512} {m₂ = 16777216} (round-overload .0) (p .low))
+  pub round-excess : {o : ℕ} → o + s ≡ (j - i) * v → o ≤ 8589934592
+  round-excess q = omega (arith, mul-le-mul {n₁ = j - i} {m₁ = v} {n₂ = 512} {m₂ = 16777216} (omega (arith, round-overload .1)) (p .low))
 
-  pub round-days : (r : ℕ) → DaysIn fs rs n i (v - r) c s e
+  pub round-days : (r : ℕ) → DaysIn fs rs n i (v - r) j s e
   round-days r =
       record { run = p .found .run; past = λ k l u. omega (arith, found-past round-based k l u) }
 
 -- what the calls of a round gave: the overload o, the last day's floor x, the step r, and the days of the level r below
-pub record Stepping (fs rs : List ℕ) (n i margin v c s e o x r u c′ s′ e′ : ℕ) : Type 0 where
-  pub overloaded : Overloaded fs rs n i margin v c s e
-  pub overload : o + s ≡ c * v
-  pub floor : x ≡ at fs (i + c - 1)
-  pub step : r ≡ step (o - margin) c (v - (x + e))
-  pub found : (u ≡ v - r) × FoundIn fs rs n i (v - r) c′ s′ e′
+pub record Stepping (fs rs : List ℕ) (n i margin v j s e o x r u j′ s′ e′ : ℕ) : Type 0 where
+  pub overloaded : Overloaded fs rs n i margin v j s e
+  pub overload : o + s ≡ (j - i) * v
+  pub floor : x ≡ at fs (j - 1)
+  pub step : r ≡ step (o - margin) (j - i) (v - (x + e))
+  pub found : (u ≡ v - r) × FoundIn fs rs n i (v - r) j′ s′ e′
 
-pub round-end : {fs rs : List ℕ} {n i margin v c s e o x r u c′ s′ e′ : ℕ} → Stepping fs rs n i margin v c s e o x r u c′ s′ e′ → RoundedIn fs rs n i margin v u c′ s′ e′
-round-end {fs} {rs} {n} {i} {margin} {v} {c} {s} {e} {o} {x} {r} t =
+pub round-end : {fs rs : List ℕ} {n i margin v j s e o x r u j′ s′ e′ : ℕ} → Stepping fs rs n i margin v j s e o x r u j′ s′ e′ → RoundedIn fs rs n i margin v u j′ s′ e′
+round-end {fs} {rs} {n} {i} {margin} {v} {j} {s} {e} {o} {x} {r} t =
     let p = t .overloaded in
     let po : o ≡ over (shifted fs rs n) n i v = round-over p (t .overload) in
-    let px : x + e ≡ shifted fs rs n (i + c - 1) = omega (arith, t .floor, p .found .run .last) in
-    let pr : r ≡ fall (shifted fs rs n) n i margin v c = rw (po, px) at (t .step) in
+    let px : x + e ≡ shifted fs rs n (j - 1) = omega (arith, t .floor, p .found .run .last) in
+    let pr : r ≡ fall (shifted fs rs n) n i margin v j = rw (po, px) at (t .step) in
     record { level = omega (arith, t .found .0, rounded-fall (round-based p) margin); found = rw (t .found .0) (t .found .1) }
 
 -- ---- lower
 
 -- at its loop's head: each level above v, up to cap, is over the margin
-pub record Stand (a z : ℕ → ℕ) (n i margin cap v c s e : ℕ) : Type 0 where
-  pub found : Found a z n i v c s e
+pub record Stand (a z : ℕ → ℕ) (n i margin cap v j s e : ℕ) : Type 0 where
+  pub found : Found a z n i v j s e
   pub base : a i ≤ v
   pub fits : v ≤ cap
   pub past : (u : ℕ) → v < u → u ≤ cap → margin < over a n i u
 
-pub stand-start : {a z : ℕ → ℕ} {n i margin cap v c s e : ℕ} → (v ≡ cap) × Found a z n i cap c s e → a i ≤ cap → Stand a z n i margin cap v c s e
+pub stand-start : {a z : ℕ → ℕ} {n i margin cap v j s e : ℕ} → (v ≡ cap) × Found a z n i cap j s e → a i ≤ cap → Stand a z n i margin cap v j s e
 stand-start f b = record { found = rw (f .0) (f .1); base = omega (arith, f .0); fits = omega (arith, f .0); past = λ u h l. absurd (omega (arith, f .0)) }
 
 -- a level w that is at most q below one with overload x
 too-high : (c w k q x y s margin : ℕ) → x + s ≡ c * (w + k) → k ≤ q → c * q < x - margin → c * w ≤ y + s → margin < y
 too-high c w k q x y s margin e h u lo = omega (arith, mul-le-mul-left c h)
 
-module _ {a z : ℕ → ℕ} {n i margin cap v c s e : ℕ} (up : Rising a n) (t : Stand a z n i margin cap v c s e) where
-  stand-based : Based a z n i v c s e
+module _ {a z : ℕ → ℕ} {n i margin cap v j s e : ℕ} (up : Rising a n) (t : Stand a z n i margin cap v j s e) where
+  stand-based : Based a z n i v j s e
   stand-based = record { up = up; found = t .found; base = t .base }
 
-  pub stand-overload : n ≤ 512 → cap ≤ 16777216 → (c ≤ 512) × (v ≤ 16777216) × (s ≤ c * v)
-  stand-overload m h = (omega (arith, t .found .run .inside), omega (arith, t .fits), omega (arith, found-over stand-based))
+  pub stand-overload : n ≤ 512 → cap ≤ 16777216 → (i ≤ j) × (j ≤ 512) × (v ≤ 16777216) × (s ≤ (j - i) * v)
+  stand-overload m h =
+      (omega (arith, t .found .run .some), omega (arith, t .found .run .inside), omega (arith, t .fits), omega (arith, found-over stand-based))
 
-  pub stand-over : {o : ℕ} → o + s ≡ c * v → o ≡ over a n i v
+  pub stand-over : {o : ℕ} → o + s ≡ (j - i) * v → o ≡ over a n i v
   stand-over q = omega (arith, found-over stand-based)
 
-  pub stand-done : {o : ℕ} → o + s ≡ c * v → o ≤ margin → Lowest a z n i margin cap v c s e
+  pub stand-done : {o : ℕ} → o + s ≡ (j - i) * v → o ≤ margin → Lowest a z n i margin cap v j s e
   stand-done q h =
       record {
         level = record { least = t .base; most = t .fits; within = omega (arith, stand-over q); past = t .past };
@@ -247,24 +254,24 @@ module _ {a z : ℕ → ℕ} {n i margin cap v c s e : ℕ} (up : Rising a n) (t
       }
 
   module _ (h : margin < over a n i v) where
-    fallen : (u : ℕ) → v - fall a n i margin v c < u → u ≤ cap → Dec (v < u) → margin < over a n i u
+    fallen : (u : ℕ) → v - fall a n i margin v j < u → u ≤ cap → Dec (v < u) → margin < over a n i u
     fallen u l m (yes y) = t .past u y m
     fallen u l m (no y) =
         let d : u + (v - u) ≡ v = omega arith in
-        let w : c + (n - i - c) ≡ n - i = omega (arith, t .found .run .inside) in
-        let part : sumFor (above a u) i c ≤ over a n i u = rw w at (sum-part (above a u) i c (n - i - c)) in
-        let low : c * u ≤ over a n i u + s = omega (arith, excess-low a i c u, t .found .run .total) in
-        let x : over a n i v + s ≡ c * (u + (v - u)) = rw d (found-over stand-based) in
-        too-high c u (v - u) (fall a n i margin v c - 1) (over a n i v) (over a n i u) s margin x (omega arith) (fall-is stand-based h .2) low
+        let w : j - i + (n - j) ≡ n - i = omega (arith, t .found .run .inside, t .found .run .some) in
+        let part : sumFor (above a u) i (j - i) ≤ over a n i u = rw w at (sum-part (above a u) i (j - i) (n - j)) in
+        let low : (j - i) * u ≤ over a n i u + s = omega (arith, excess-low a i (j - i) u, t .found .run .total) in
+        let x : over a n i v + s ≡ (j - i) * (u + (v - u)) = rw d (found-over stand-based) in
+        too-high (j - i) u (v - u) (fall a n i margin v j - 1) (over a n i v) (over a n i u) s margin x (omega arith) (fall-is stand-based h .2) low
 
-    module _ {u c′ s′ e′ : ℕ} (q : Rounded a z n i margin v u c′ s′ e′) where
-      stand-level : u ≡ v - fall a n i margin v c
+    module _ {u j′ s′ e′ : ℕ} (q : Rounded a z n i margin v u j′ s′ e′) where
+      stand-level : u ≡ v - fall a n i margin v j
       stand-level = q .level ∙ rounded-fall stand-based margin
 
       pub stand-less : u < v
       stand-less = omega (arith, stand-level, fall-is stand-based h .0, found-active stand-based h)
 
-      pub stand-turn : Stand a z n i margin cap u c′ s′ e′
+      pub stand-turn : Stand a z n i margin cap u j′ s′ e′
       stand-turn =
           record {
             found = q .found;
@@ -273,11 +280,17 @@ module _ {a z : ℕ → ℕ} {n i margin cap v c s e : ℕ} (up : Rising a n) (t
               stand-level,
               fall-is stand-based h .1,
               found-active stand-based h,
-              up i (i + c - 1) (omega (arith, t .found .run .some)) (omega (arith, t .found .run .inside)),
+              up i (j - 1) (omega (arith, t .found .run .some)) (omega (arith, t .found .run .inside)),
             );
             fits = omega (arith, stand-less, t .fits);
             past = λ w l m. fallen w (omega (arith, stand-level)) m (decLt v w);
           }
+
+-- ---- lower_day: with the cap that it hands on, and day i's floor x
+
+pub enters : {fs rs : List ℕ} {n i ceiling here v j s e cap x : ℕ} → Entering fs rs n i ceiling here v j s e → cap ≡ min v (ceiling + here) → x ≡ at fs i
+    → DaysIn fs rs n i cap j (s + (x + here)) e × ((cap ≤ 16777216) × (shifted fs rs n i ≤ cap))
+enters p qc qx = rw (qc, qx) (p .days, (p .low, p .base))
 
 -- ---- lower_ceilings
 
@@ -299,17 +312,18 @@ lowered-more fs cs rs n margin m = rw add-one
 pub floors-carried : {fs cs rs : List ℕ} {n : ℕ} → Ready fs cs rs n → Carried fs rs n
 floors-carried g = record { most = g .most; floor = λ k h. omega (arith, g .fits k h, g .ceiling k h); rise = g .rise; climb = g .rising }
 
--- at the loop's head, with the days from i on done: `here` is the shift of day i, and c days from i on are those below v
-pub record Pass (fs cs rs : List ℕ) (n margin : ℕ) (out : List ℕ) (here e v c s i : ℕ) : Type 0 where
+-- at the loop's head, with the days from i on done: `here` is the shift of day i, and the days from i on before j are those below v
+pub record Pass (fs cs rs : List ℕ) (n margin : ℕ) (out : List ℕ) (here e v j s i : ℕ) : Type 0 where
   pub most : i ≤ n
   pub made : out ≡ lastWritten (shown fs cs rs n margin) n (n - i) cs
   pub level : v ≡ loweredFrom fs cs rs n margin (n - i)
   pub shift-here : here ≡ shift (at rs) n i
   pub low : v ≤ 16777216
-  pub inside : i + c ≤ n
-  pub total : s ≡ sumFor (shifted fs rs n) i c
-  pub last : e ≡ shift (at rs) n (i + c - 1)
-  pub past : (k : ℕ) → i + c ≤ k → k < n → v ≤ shifted fs rs n k
+  pub under : i ≤ j
+  pub inside : j ≤ n
+  pub total : s ≡ sumFor (shifted fs rs n) i (j - i)
+  pub last : e ≡ shift (at rs) n (j - 1)
+  pub past : (k : ℕ) → j ≤ k → k < n → v ≤ shifted fs rs n k
   pub base : (k : ℕ) → k < i → shifted fs rs n k ≤ v
 
 module _ {fs cs rs : List ℕ} {n : ℕ} (g : Ready fs cs rs n) where
@@ -323,10 +337,9 @@ module _ {fs cs rs : List ℕ} {n : ℕ} (g : Ready fs cs rs n) where
       omega (arith, first-shift)
 
 module _ {fs cs rs : List ℕ} {n margin : ℕ} (g : Ready fs cs rs n) where
-  pub pass-start : {w e y : ℕ} → w ≡ at rs (n - 1) → e ≡ 1024000 + w - 2000 → y ≡ at cs (n - 1) → Pass fs cs rs n margin cs 1024000 e (y + e) 0 0 n
+  pub pass-start : {w e y : ℕ} → w ≡ at rs (n - 1) → e ≡ 1024000 + w - 2000 → y ≡ at cs (n - 1) → Pass fs cs rs n margin cs 1024000 e (y + e) n 0 n
   pass-start {w} {e} {y} qw qe qy =
       let z : n - n ≡ 0 = omega arith in
-      let zn : n + 0 - 1 ≡ n - 1 = omega arith in
       let top : y + e ≡ shifted cs rs n (n - 1) = omega (arith, pass-first g qw) in
       record {
         most = omega arith;
@@ -334,20 +347,21 @@ module _ {fs cs rs : List ℕ} {n margin : ℕ} (g : Ready fs cs rs n) where
         level = rw z (top ∙ sym (lowered-start fs cs rs n margin));
         shift-here = sym (first-shift g);
         low = omega (arith, g .ceiling (n - 1) (omega (arith, g .some)), shift-most (floors-carried g) (n - 1) (omega arith));
+        under = omega arith;
         inside = omega arith;
-        total = sym (sum-none (shifted fs rs n) n);
-        last = rw zn (omega (arith, pass-first g qw));
+        total = rw z (sym (sum-none (shifted fs rs n) n));
+        last = omega (arith, pass-first g qw);
         past = λ k h u. absurd (omega arith);
         base = λ k h. omega (arith, rises (floors-carried g) k (n - 1) (omega arith) (omega arith), g .fits (n - 1) (omega (arith, g .some)));
       }
 
-  pub pass-end : {out : List ℕ} {here e v c s i : ℕ} → Pass fs cs rs n margin out here e v c s i → i ≤ 0
+  pub pass-end : {out : List ℕ} {here e v j s i : ℕ} → Pass fs cs rs n margin out here e v j s i → i ≤ 0
       → out ≡ written (lowered fs cs rs n margin) n cs
   pass-end {i = i} p h =
       let z : n - i ≡ n = omega arith in
       (rw z at (p .made)) ∙ last-all (shown fs cs rs n margin) (lowered fs cs rs n margin) n cs (λ k u. refl)
 
-  module _ {out : List ℕ} {here e v c s i : ℕ} (p : Pass fs cs rs n margin out here e v c s i) where
+  module _ {out : List ℕ} {here e v j s i : ℕ} (p : Pass fs cs rs n margin out here e v j s i) where
     pub pass-small : s ≤ 8589934592
     pass-small =
         omega (
@@ -355,10 +369,10 @@ module _ {fs cs rs : List ℕ} {n margin : ℕ} (g : Ready fs cs rs n) where
           p .total,
           p .inside,
           mul-le-mul-left 16777216 few,
-          sum-most (shifted fs rs n) i c 16777216 (λ k h u. shifted-most (floors-carried g) k (omega (arith, p .inside))),
+          sum-most (shifted fs rs n) i (j - i) 16777216 (λ k h u. shifted-most (floors-carried g) k (omega (arith, p .inside))),
         )
       where
-        few : c ≤ 512
+        few : j - i ≤ 512
         few = omega (arith, p .inside, g .most)
 
     pub pass-most : here ≤ 2048000
@@ -375,15 +389,15 @@ module _ {fs cs rs : List ℕ} {n margin : ℕ} (g : Ready fs cs rs n) where
         omega (arith, p .shift-here)
 
 -- a turn reads the rise w of the day before, whose shift is then here′, and its ceiling y
-pub record Turning (fs cs rs : List ℕ) (n margin : ℕ) (out : List ℕ) (here e v c s i w here′ y : ℕ) : Type 0 where
+pub record Turning (fs cs rs : List ℕ) (n margin : ℕ) (out : List ℕ) (here e v j s i w here′ y : ℕ) : Type 0 where
   pub ready : Ready fs cs rs n
-  pub head : Pass fs cs rs n margin out here e v c s i
+  pub head : Pass fs cs rs n margin out here e v j s i
   pub more : 0 < i
   pub rise : w ≡ at rs (i - 1)
   pub shift : here′ ≡ here + w - 2000
   pub ceiling : y ≡ at out (i - 1)
 
-module _ {fs cs rs : List ℕ} {n margin : ℕ} {out : List ℕ} {here e v c s i w here′ y : ℕ} (t : Turning fs cs rs n margin out here e v c s i w here′ y) where
+module _ {fs cs rs : List ℕ} {n margin : ℕ} {out : List ℕ} {here e v j s i w here′ y : ℕ} (t : Turning fs cs rs n margin out here e v j s i w here′ y) where
   turn-here : here + w ≡ shift (at rs) n (i - 1) + 2000
   turn-here = pass-here (t .ready) (t .head) (t .more) (t .rise)
 
@@ -399,23 +413,23 @@ module _ {fs cs rs : List ℕ} {n margin : ℕ} {out : List ℕ} {here e v c s i
   pass-room : shifted fs rs n (i - 1) ≤ cap
   pass-room = omega (arith, pass-cap, t .ready .fits (i - 1) (omega (arith, t .head .most)), t .head .base (i - 1) (omega arith))
 
-  pass-days : DaysIn fs rs n (i - 1) cap (c + 1) (s + (at fs (i - 1) + here′)) e
+  pass-days : DaysIn fs rs n (i - 1) cap j (s + (at fs (i - 1) + here′)) e
   pass-days =
       let q : i - 1 + 1 ≡ i = omega arith in
-      let r : i - 1 + (c + 1) - 1 ≡ i + c - 1 = omega arith in
-      let f : sumFor (shifted fs rs n) (i - 1) (c + 1) ≡ shifted fs rs n (i - 1) + sumFor (shifted fs rs n) i c =
-      rw q at (sum-front (shifted fs rs n) (i - 1) c) in
+      let r : j - i + 1 ≡ j - (i - 1) = omega (arith, t .head .under) in
+      let f : sumFor (shifted fs rs n) (i - 1) (j - (i - 1)) ≡ shifted fs rs n (i - 1) + sumFor (shifted fs rs n) i (j - i) =
+      rw (q, r) at (sum-front (shifted fs rs n) (i - 1) (j - i)) in
       record {
         run = record {
-          some = omega arith;
-          inside = omega (arith, t .head .inside);
+          some = omega (arith, t .head .under);
+          inside = t .head .inside;
           total = omega (arith, t .head .total, turn-here);
-          last = rw r (t .head .last);
+          last = t .head .last;
         };
-        past = λ k l u. omega (arith, t .head .past k (omega arith) u);
+        past = λ k l u. omega (arith, t .head .past k l u);
       }
 
-  pub pass-enters : y < 65536 → Entering fs rs n (i - 1) y here′ v c s e
+  pub pass-enters : y < 65536 → Entering fs rs n (i - 1) y here′ v j s e
   pass-enters level =
       record {
         inside = omega (arith, t .head .most);
@@ -427,7 +441,7 @@ module _ {fs cs rs : List ℕ} {n margin : ℕ} {out : List ℕ} {here e v c s i
         small = pass-small (t .ready) (t .head);
       }
 
-  module _ {v′ c′ s′ e′ : ℕ} (d : LowestIn fs rs n (i - 1) margin (min v (y + here′)) v′ c′ s′ e′) where
+  module _ {v′ j′ s′ e′ : ℕ} (d : LowestIn fs rs n (i - 1) margin (min v (y + here′)) v′ j′ s′ e′) where
     -- the level found is the definition's
     pass-level : v′ ≡ loweredFrom fs cs rs n margin (n - (i - 1))
     pass-level =
@@ -451,7 +465,7 @@ module _ {fs cs rs : List ℕ} {n margin : ℕ} {out : List ℕ} {here e v c s i
       omega (arith, turn-here, pass-cap, d .level .most, t .ready .ceiling (i - 1) (omega (arith, t .head .most))),
     )
 
-    pub pass-turn : Pass fs cs rs n margin (set out (i - 1) (v′ - here′)) here′ e′ v′ c′ s′ (i - 1)
+    pub pass-turn : Pass fs cs rs n margin (set out (i - 1) (v′ - here′)) here′ e′ v′ j′ s′ (i - 1)
     pass-turn =
         let q : n - i + 1 ≡ n - (i - 1) = omega (arith, t .head .most) in
         let r : n - (n - (i - 1)) ≡ i - 1 = omega (arith, t .head .most) in
@@ -464,6 +478,7 @@ module _ {fs cs rs : List ℕ} {n margin : ℕ} {out : List ℕ} {here e v c s i
           level = pass-level;
           shift-here = now;
           low = omega (arith, d .level .most, t .head .low);
+          under = omega (arith, d .found .run .some);
           inside = d .found .run .inside;
           total = d .found .run .total;
           last = d .found .run .last;

@@ -61,12 +61,12 @@ module _ (a : ℕ → ℕ) (n i v : ℕ) where
   pub window-past : (k : ℕ) → i + window a n i v ≤ k → k < n → v ≤ a k
   window-past k h u = below-past a i v (n - i) k (omega arith) (omega arith)
 
-  -- there is one such number
-  pub window-is : (c : ℕ) → 0 < c → i + c ≤ n → (1 < c → a (i + c - 1) < v) → ((k : ℕ) → i + c ≤ k → k < n → v ≤ a k) → c ≡ window a n i v
-  window-is c some inside under past = go (decLt c (window a n i v)) (decLt (window a n i v) c)
+  -- there is one such end
+  pub window-is : (j : ℕ) → i < j → j ≤ n → (i + 1 < j → a (j - 1) < v) → ((k : ℕ) → j ≤ k → k < n → v ≤ a k) → j ≡ i + window a n i v
+  window-is j some inside under past = go (decLt j (i + window a n i v)) (decLt (i + window a n i v) j)
     where
-      go : Dec (c < window a n i v) → Dec (window a n i v < c) → c ≡ window a n i v
+      go : Dec (j < i + window a n i v) → Dec (i + window a n i v < j) → j ≡ i + window a n i v
       go (yes l) d =
           absurd (omega (arith, window-under (omega arith), past (i + window a n i v - 1) (omega arith) (omega (arith, window-inside (omega arith)))))
-      go (no l) (yes m) = absurd (omega (arith, under (omega arith), window-past (i + c - 1) (omega arith) (omega arith)))
+      go (no l) (yes m) = absurd (omega (arith, under (omega arith), window-past (j - 1) (omega arith) (omega arith)))
       go (no l) (no m) = omega arith

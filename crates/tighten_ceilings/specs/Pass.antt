@@ -16,32 +16,32 @@ pub record Carried (fs rs : List ℕ) (n : ℕ) : Type 0 where
   pub rise : (k : ℕ) → k < n → at rs k ≤ highestRiseCode
   pub climb : (k : ℕ) → k + 1 < n → at fs k + at rs k ≤ at fs (k + 1) + riseOffset
 
--- c days from day i on, their sum s, and the shift e of the last
-pub record Run (a z : ℕ → ℕ) (n i c s e : ℕ) : Type 0 where
-  pub some : 0 < c
-  pub inside : i + c ≤ n
-  pub total : s ≡ sumFor a i c
-  pub last : e ≡ z (i + c - 1)
+-- the days from day i on that are before day j, their sum s, and the shift e of the last
+pub record Run (a z : ℕ → ℕ) (n i j s e : ℕ) : Type 0 where
+  pub some : i < j
+  pub inside : j ≤ n
+  pub total : s ≡ sumFor a i (j - i)
+  pub last : e ≡ z (j - 1)
 
--- c days from day i on such that each past them is at v or above
-pub record Days (a z : ℕ → ℕ) (n i v c s e : ℕ) : Type 0 where
-  pub run : Run a z n i c s e
-  pub past : (k : ℕ) → i + c ≤ k → k < n → v ≤ a k
+-- such days, and each past them is at v or above
+pub record Days (a z : ℕ → ℕ) (n i v j s e : ℕ) : Type 0 where
+  pub run : Run a z n i j s e
+  pub past : (k : ℕ) → j ≤ k → k < n → v ≤ a k
 
 -- the days from day i to the last that is below v
-pub record Found (a z : ℕ → ℕ) (n i v c s e : ℕ) : Type 0 where
-  pub run : Run a z n i c s e
-  pub count : c ≡ window a n i v
+pub record Found (a z : ℕ → ℕ) (n i v j s e : ℕ) : Type 0 where
+  pub run : Run a z n i j s e
+  pub count : j ≡ i + window a n i v
 
 -- what a round leaves of v: the level u and its days
-pub record Rounded (a z : ℕ → ℕ) (n i margin v u c s e : ℕ) : Type 0 where
+pub record Rounded (a z : ℕ → ℕ) (n i margin v u j s e : ℕ) : Type 0 where
   pub level : u ≡ rounded a n i margin v
-  pub found : Found a z n i u c s e
+  pub found : Found a z n i u j s e
 
 -- what the rounds leave: the greatest level up to cap within the margin, and its days
-pub record Lowest (a z : ℕ → ℕ) (n i margin cap u c s e : ℕ) : Type 0 where
+pub record Lowest (a z : ℕ → ℕ) (n i margin cap u j s e : ℕ) : Type 0 where
   pub level : Fitted (over a n i) margin (a i) cap u
-  pub found : Found a z n i u c s e
+  pub found : Found a z n i u j s e
 
 -- the same of n days of floors as shown and rise codes
 abbrev pub DaysIn : List ℕ → List ℕ → ℕ → ℕ → ℕ → ℕ → ℕ → ℕ → Type 0
@@ -57,16 +57,16 @@ abbrev pub LowestIn : List ℕ → List ℕ → ℕ → ℕ → ℕ → ℕ → 
 LowestIn fs rs n = Lowest (shifted fs rs n) (shift (at rs) n) n
 
 -- a level v of day i that is over the margin, and its days
-pub record Overloaded (fs rs : List ℕ) (n i margin v c s e : ℕ) : Type 0 where
+pub record Overloaded (fs rs : List ℕ) (n i margin v j s e : ℕ) : Type 0 where
   pub carried : Carried fs rs n
-  pub found : FoundIn fs rs n i v c s e
+  pub found : FoundIn fs rs n i v j s e
   pub low : v ≤ 16777216
   pub more : margin < over (shifted fs rs n) n i v
 
 -- what is handed on to day i, whose shift is `here`, with the next day at v: the window of the next day and day i itself
-pub record Entering (fs rs : List ℕ) (n i ceiling here v c s e : ℕ) : Type 0 where
+pub record Entering (fs rs : List ℕ) (n i ceiling here v j s e : ℕ) : Type 0 where
   pub inside : i < n
-  pub days : DaysIn fs rs n i (min v (ceiling + here)) (c + 1) (s + (at fs i + here)) e
+  pub days : DaysIn fs rs n i (min v (ceiling + here)) j (s + (at fs i + here)) e
   pub low : min v (ceiling + here) ≤ 16777216
   pub base : shifted fs rs n i ≤ min v (ceiling + here)
   pub shift-most : here ≤ highestShift

@@ -14,11 +14,11 @@ use limits::LAST_SHIFT;
 use limits::MOST_DAYS;
 use limits::RISE_OFFSET;
 
-// A shifted level v of a day, and its window: the days from that day on to the last whose shifted floor is below v. They are
-// count days, sum is that of their shifted floors, and end is the shift of the last.
+// A shifted level v of a day, and its window: the days from that day on to the last whose shifted floor is below v.
+// past is the day after the last, sum is that of their shifted floors, and end is the shift of the last.
 struct Level {
     v: usize,
-    count: usize,
+    past: usize,
     sum: usize,
     end: usize,
 }
@@ -31,12 +31,12 @@ fn shift_before(next: usize, rise: usize) -> usize
     next + rise - RISE_OFFSET
 }
 
-// By how much v is above the floors of its window: v counts once for each day.
-fn overload_of(day: Level) -> usize
-    requires { ⌜ (day .count ≤ mostDays) × (day .v ≤ 16777216) × (day .sum ≤ day .count * day .v) ⌝ }
-    ensures { λ r. ⌜ r + day .sum ≡ day .count * day .v ⌝ }
+// By how much v is above the floors of its window, which begins at day i: v counts once for each day.
+fn overload_of(day: Level, i: usize) -> usize
+    requires { ⌜ (i ≤ day .past) × (day .past ≤ mostDays) × (day .v ≤ 16777216) × (day .sum ≤ (day .past - i) * day .v) ⌝ }
+    ensures { λ r. ⌜ r + day .sum ≡ (day .past - i) * day .v ⌝ }
 {
-    day.count * day.v - day.sum
+    (day.past - i) * day.v - day.sum
 }
 
 // How far a round lowers a level.
@@ -55,34 +55,34 @@ fn settle(
     n: usize,
     i: usize,
     v: usize,
-    count: usize,
+    past: usize,
     sum: usize,
     end: usize,
 ) -> Level
     requires { ⌜ Carried (now floors) (now rises) n ⌝ }
-    requires { ⌜ DaysIn (now floors) (now rises) n i v count sum end ⌝ }
-    ensures { λ r. ⌜ (r .v ≡ v) × FoundIn (now (floors .entry)) (now (rises .entry)) n i v (r .count) (r .sum) (r .end) ⌝ }
+    requires { ⌜ DaysIn (now floors) (now rises) n i v past sum end ⌝ }
+    ensures { λ r. ⌜ (r .v ≡ v) × FoundIn (now (floors .entry)) (now (rises .entry)) n i v (r .past) (r .sum) (r .end) ⌝ }
 {
-    let mut c = count;
+    let mut j = past;
     let mut s = sum;
     let mut e = end;
-    while 1 < c {
-        let top = wide(floors[i + c - 1]) + e;
+    while i + 1 < j {
+        let top = wide(floors[j - 1]) + e;
         if top < v {
             return Level {
                 v,
-                count: c,
+                past: j,
                 sum: s,
                 end: e,
             };
         }
         s -= top;
-        c -= 1;
-        e = shift_before(e, wide(rises[i + c - 1]));
+        j -= 1;
+        e = shift_before(e, wide(rises[j - 1]));
     }
     Level {
         v,
-        count: c,
+        past: j,
         sum: s,
         end: e,
     }
@@ -97,14 +97,14 @@ fn round(
     margin: usize,
     day: Level,
 ) -> Level
-    requires { ⌜ Overloaded (now floors) (now rises) n i margin (day .v) (day .count) (day .sum) (day .end) ⌝ }
-    ensures { λ r. ⌜ RoundedIn (now (floors .entry)) (now (rises .entry)) n i margin (day .v) (r .v) (r .count) (r .sum) (r .end) ⌝ }
+    requires { ⌜ Overloaded (now floors) (now rises) n i margin (day .v) (day .past) (day .sum) (day .end) ⌝ }
+    ensures { λ r. ⌜ RoundedIn (now (floors .entry)) (now (rises .entry)) n i margin (day .v) (r .v) (r .past) (r .sum) (r .end) ⌝ }
 {
-    let excess = overload_of(day) - margin;
-    let count = day.count;
-    let room = day.v - (wide(floors[i + count - 1]) + day.end);
-    let low = day.v - step_of(excess, count, room);
-    settle(floors, rises, n, i, low, count, day.sum, day.end)
+    let excess = overload_of(day, i) - margin;
+    let past = day.past;
+    let room = day.v - (wide(floors[past - 1]) + day.end);
+    let low = day.v - step_of(excess, past - i, room);
+    settle(floors, rises, n, i, low, past, day.sum, day.end)
 }
 
 // Lowers day i's shifted ceiling by rounds, from cap, until its overload is within the margin.
@@ -115,17 +115,17 @@ fn lower(
     i: usize,
     margin: usize,
     cap: usize,
-    count: usize,
+    past: usize,
     sum: usize,
     end: usize,
 ) -> Level
     requires { ⌜ Carried (now floors) (now rises) n ⌝ }
-    requires { ⌜ DaysIn (now floors) (now rises) n i cap count sum end ⌝ }
+    requires { ⌜ DaysIn (now floors) (now rises) n i cap past sum end ⌝ }
     requires { ⌜ (cap ≤ 16777216) × (shifted (now floors) (now rises) n i ≤ cap) ⌝ }
-    ensures { λ r. ⌜ LowestIn (now (floors .entry)) (now (rises .entry)) n i margin cap (r .v) (r .count) (r .sum) (r .end) ⌝ }
+    ensures { λ r. ⌜ LowestIn (now (floors .entry)) (now (rises .entry)) n i margin cap (r .v) (r .past) (r .sum) (r .end) ⌝ }
 {
-    let mut day = settle(floors, rises, n, i, cap, count, sum, end);
-    while margin < overload_of(day) {
+    let mut day = settle(floors, rises, n, i, cap, past, sum, end);
+    while margin < overload_of(day, i) {
         day = round(floors, rises, n, i, margin, day);
     }
     day
@@ -143,8 +143,8 @@ fn lower_day(
     next: Level,
 ) -> Level
     requires { ⌜ Carried (now floors) (now rises) n ⌝ }
-    requires { ⌜ Entering (now floors) (now rises) n i ceiling here (next .v) (next .count) (next .sum) (next .end) ⌝ }
-    ensures { λ r. ⌜ LowestIn (now (floors .entry)) (now (rises .entry)) n i margin (min (next .v) (ceiling + here)) (r .v) (r .count) (r .sum) (r .end) ⌝ }
+    requires { ⌜ Entering (now floors) (now rises) n i ceiling here (next .v) (next .past) (next .sum) (next .end) ⌝ }
+    ensures { λ r. ⌜ LowestIn (now (floors .entry)) (now (rises .entry)) n i margin (min (next .v) (ceiling + here)) (r .v) (r .past) (r .sum) (r .end) ⌝ }
 {
     let cap = min(next.v, ceiling + here);
     let floor = wide(floors[i]) + here;
@@ -155,7 +155,7 @@ fn lower_day(
         i,
         margin,
         cap,
-        next.count + 1,
+        next.past,
         next.sum + floor,
         next.end,
     )
@@ -185,7 +185,7 @@ pub fn lower_ceilings(
     let v = wide(ceilings[n - 1]) + end;
     let mut day = Level {
         v,
-        count: 0,
+        past: n,
         sum: 0,
         end,
     };

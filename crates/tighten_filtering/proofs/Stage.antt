@@ -1,5 +1,5 @@
 -- What the stages of tightening leave for one another: a record for each stage, and the laws that the next needs and that each return is by.
-use Prim.Native.Nat.{ℕ, _-_, _≤_, _<_, min, max}
+use Prim.Native.Nat.{ℕ, _+_, _-_, _*_, _≤_, _<_, min, max}
 use mathlib.Core.Path.{_≡_, sym, _∙_}
 use mathlib.Core.Bool.{Bool, true, false}
 use mathlib.Core.List.{List}
@@ -8,8 +8,9 @@ use lib.Dec.{ltb}
 use borrow.Author.Tests.{lt-ltb, le-ltb}
 use Rattle.theory_lists.specs.Sum.{at}
 use Rattle.theory_lists.specs.Written.{written}
+use Rattle.theory_chains.specs.Sum.{sum, all, sum-eq}
 use Rattle.theory_method.specs.Filter.{Box, withFloors, withCeilings, InBounds, carried, firstCrossed, forwarded, lowered, mirrored, reversed, zeros, raised, held, none, tightFloors, tightCeilings, tightened}
-use Rattle.theory_method.specs.Stages.{Ready, ready, crossing, lowered-ready, lowered-rising, mirrored-ready, raised-is}
+use Rattle.theory_method.specs.Stages.{Ready, ready, forwarded-at, crossing, lowered-ready, lowered-rising, mirrored-ready, raised-is}
 use Rattle.tighten_filtering.specs.FloorsReady.{FloorsReady}
 
 -- ---- raise_floors
@@ -70,10 +71,24 @@ module _ {b : Box} (h : InBounds b) {r : ℕ} (er : r ≡ firstCrossed (carried 
       let t : ltb (firstCrossed (carried (b .floors) (b .rises)) (at (b .ceilings)) (b .days)) (b .days) ≡ true = lt-ltb _ _ (rw er at l) in
       rw (t, ef, er)
 
-  pub carries : b .days ≤ r → Carried b fs
-  carries clear =
-      let all : r ≡ b .days = omega (arith, crossing (carried (b .floors) (b .rises)) (at (b .ceilings)) (b .days) .most) in
-      record { bounds = h; clear = rw er at clear; floors = rw all at ef }
+  module _ (clear : b .days ≤ r) where
+    every : r ≡ b .days
+    every = omega (arith, crossing (carried (b .floors) (b .rises)) (at (b .ceilings)) (b .days) .most)
+
+    pub carries : Carried b fs
+    carries = record { bounds = h; clear = rw er at clear; floors = rw every at ef }
+
+    -- the sum t of the carried floors is small, and held it is the total's floor
+    module _ {t : ℕ} (et : (t ≡ sum all r (carried (b .floors) (b .rises))) × (t ≤ r * 65535)) where
+      pub carried-small : (b .days ≤ 512) × (t ≤ b .days * 65535)
+      carried-small = (h .most, omega (arith, every, et .1))
+
+      pub carried-held : {s : ℕ} → s ≡ t + 1000 * (512 - b .days) → s ≡ held (b .days) (at fs)
+      carried-held es =
+          let same : sum all (b .days) (at fs) ≡ sum all (b .days) (carried (b .floors) (b .rises)) =
+          rw (carries .floors) (sum-eq all (b .days) _ _ (forwarded-at h (carries .clear))) in
+          let total : t ≡ sum all (b .days) (carried (b .floors) (b .rises)) = rw every at (et .0) in
+          omega (arith, same, total, es)
 
 module _ {b : Box} {fs : List ℕ} (d : Carried b fs) where
   pub carried-ready : Ready fs (b .ceilings) (b .rises) (b .days)

@@ -4,8 +4,10 @@ ghost use mathlib.Core.Bool.{false};
 ghost use Rattle.theory_method.specs.Filter.{InBounds, raised, tightened};
 ghost use Rattle.tighten_filtering.specs.Boxed.{boxed};
 ghost use Rattle.tighten_filtering.specs.FloorsReady.{FloorsReady};
+use base_arrays::held_sum;
 use base_arrays::held_total;
 use base_arrays::mirror;
+use base_arrays::mirror_both;
 use base_arrays::reverse;
 use base_codes::CodedNumbers;
 use base_numbers::max;
@@ -35,8 +37,7 @@ fn raise_floors(
     let mut low = [0u16; MOST_DAYS];
     let mut high = [0u16; MOST_DAYS];
     let mut back = [0u16; MOST_DAYS];
-    mirror(ceilings, n, &mut low);
-    mirror(floors, n, &mut high);
+    mirror_both(floors, ceilings, n, &mut low, &mut high);
     reverse(rises, n, &mut back);
     lower_ceilings(&low, &mut high, &back, n, margin);
     mirror(&high, n, floors);
@@ -65,10 +66,11 @@ pub fn tighten(
 {
     let n = numbers.days;
     let highest = numbers.highest;
-    if carry(floors, ceilings, rises, n) < n {
+    let carried = carry(floors, ceilings, rises, n);
+    if carried.days < n {
         return none();
     }
-    let bottom = held_total(floors, n);
+    let bottom = held_sum(carried.sum, n);
     if highest < bottom {
         return none();
     }

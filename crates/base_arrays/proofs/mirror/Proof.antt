@@ -13,14 +13,18 @@ Inv-loop from n into₀ k₀ into k = Filled (mirrored from n) n k into₀ into
 abbrev μ-loop : tie.MeasureT-loop
 μ-loop from n into₀ k₀ into k = n - k
 
+-- a turn begins
+abbrev at-turn : tie.After-mirror-level-arg Inv-loop μ-loop → tie.In-loop Inv-loop μ-loop
+at-turn c = c .before
+
 loop-holds : tie.Need-loop-holds Inv-loop μ-loop
 loop-holds c = filled-none
 
-sub-narrow : tie.Need-sub-narrow Inv-loop μ-loop
-sub-narrow c = let h = c .before .before .before in omega (arith, h .before .pre .1 (h .before .args .n - (h .loop .k + 1)) (omega arith))
+mirror-level-requires : tie.Need-mirror-level-requires Inv-loop μ-loop
+mirror-level-requires c κs = let h = at-turn c .before in h .before .pre .1 (h .before .args .n - (h .loop .k + 1)) (omega arith)
 
 loop-again : tie.Need-loop-again Inv-loop μ-loop
-loop-again c = filled-more (c .before .before .before .before .loop .inv) (c .before .before .before .loop-test .taken) (search needs)
+loop-again c = let t = at-turn (c .before) in filled-more (t .before .loop .inv) (t .loop-test .taken) (c .mirror-level .ensures)
 
 returns : tie.Need-returns Inv-loop μ-loop
 returns c = filled-all (c .before .loop .inv) (c .loop-test .left)
@@ -36,9 +40,7 @@ mirror-spec =
     (λ c. search needs)
     (λ c. search needs)
     (λ c. search needs)
-    (λ c. search needs)
-    sub-narrow
-    (λ c. search needs)
+    mirror-level-requires
     (λ c. search needs)
     (λ c. search needs)
     (λ c. search needs)

@@ -33,8 +33,8 @@ level-carried : (c : tie.After-carry)
     → let k = at-ceiling (c .before) in
     let a = at-start (at-floor k) .args in
     LevelCarried (a .floors .now) (a .ceilings .now) (a .rises .now) (a .n) (a .lowest) (a .day) (a .level) (at-floor k .set-level .last .0) (k .set-level2 .last .0)
-    (c .carry .result) (c .carry .last .0)
-level-carried c = record { before = level-set (at-ceiling (c .before)); first = c .carry .ensures .0; forward = c .carry .ensures .1 }
+    (c .carry .result .days) (c .carry .last .0)
+level-carried c = record { before = level-set (at-ceiling (c .before)); first = c .carry .ensures .0; forward = c .carry .ensures .1 .0 }
 
 levels : (c : tie.After-raise-to)
     → let a = at-start (at-floor (at-ceiling (at-carried (c .before) .before))) .args in

@@ -1,6 +1,7 @@
--- `carry` meets its contract. At its loop's head, `Upto` of Laws, the floors below i are carried and uncrossed; the measure is the days left.
+-- `carry` meets its contract. At its loop's head, `Upto` of Laws, the floors below i are carried, uncrossed and added up; the measure is the days left.
 -- What a turn reads, and what it then stores, is said once each.
 use Prim.Native.Nat.{_-_}
+use mathlib.Core.Path.{ap}
 use Rattle.tighten_carry.proofs.Laws.{Upto, Turn, Kept, upto-none, upto-more, upto-crossed, upto-all}
 use borrow.Author.Needs.{needs}
 use native.Mathlib.Omega.{arith}
@@ -8,10 +9,10 @@ use Rattle.tighten_carry.proofs.carry.Statement.{statement}
 use Rattle.tighten_carry.proofs.carry.Tie as tie
 
 abbrev Inv-loop : tie.InvT-loop
-Inv-loop floors₀ ceilings rises n low₀ i₀ floors low i = Upto floors₀ ceilings rises n i low floors
+Inv-loop floors₀ ceilings rises n up₀ sum₀ i₀ floors up sum i = Upto floors₀ ceilings rises n i up sum floors
 
 abbrev μ-loop : tie.MeasureT-loop
-μ-loop floors₀ ceilings rises n low₀ i₀ floors low i = n - i
+μ-loop floors₀ ceilings rises n up₀ sum₀ i₀ floors up sum i = n - i
 
 loop-holds : tie.Need-loop-holds Inv-loop μ-loop
 loop-holds c = upto-none
@@ -31,7 +32,7 @@ turn : (c : tie.After-wide2 Inv-loop μ-loop)
     → let f = at-floor c in
     let h = at-turn (f .before) .before in
     let a = h .before .args in
-    Turn (a .floors .now) (a .ceilings .now) (a .rises .now) (a .n) (h .loop .i) (h .loop .low) (h .loop .floors) (f .before .wide .result) (c .wide2 .result) (f .max .result)
+    Turn (a .floors .now) (a .ceilings .now) (a .rises .now) (a .n) (h .loop .i) (h .loop .up) (h .loop .sum) (h .loop .floors) (f .before .wide .result) (c .wide2 .result) (f .max .result - 2000)
 turn c =
     let f = at-floor c in
     let t = at-turn (f .before) in
@@ -39,26 +40,25 @@ turn c =
       head = t .before .loop .inv;
       more = t .loop-test .taken;
       read = f .before .wide .ensures .0;
-      floor = f .max .ensures;
-      ceiling = c .wide2 .ensures .0;
+      floor = ap (λ m. m - 2000) (f .max .ensures);
+      ceiling = c .wide2 .ensures;
     }
 
-kept : (c : tie.After-risen Inv-loop μ-loop)
-    → let k = at-kept (c .before) in
+kept : (c : tie.After-wide3 Inv-loop μ-loop)
+    → let k = at-kept c in
     let d = k .before .before in
     let f = at-floor d in
     let h = at-turn (f .before) .before in
     let a = h .before .args in
-    Kept (a .floors .now) (a .ceilings .now) (a .rises .now) (a .n) (h .loop .i) (h .loop .low) (h .loop .floors) (f .before .wide .result) (d .wide2 .result) (f .max .result)
-    (k .narrow .result) (c .before .wide3 .result) (c .risen .result)
+    Kept (a .floors .now) (a .ceilings .now) (a .rises .now) (a .n) (h .loop .i) (h .loop .up) (h .loop .sum) (h .loop .floors) (f .before .wide .result) (d .wide2 .result) (f .max .result - 2000)
+    (k .narrow .result) (c .wide3 .result)
 kept c =
-    let k = at-kept (c .before) in
+    let k = at-kept c in
     record {
       turn = turn (k .before .before);
       under = k .before .if1 .left;
       stored = k .narrow .ensures;
-      rise = c .before .wide3 .ensures .0;
-      next = c .risen .ensures;
+      rise = c .wide3 .ensures .0;
     }
 
 returns : tie.Need-returns Inv-loop μ-loop
@@ -69,13 +69,6 @@ narrow-requires c κs =
     let t = at-turn (at-floor (c .before) .before) in
     let h = t .before in
     omega (arith, h .before .pre .ceiling (h .loop .i) (t .loop-test .taken))
-
-risen-requires : tie.Need-risen-requires Inv-loop μ-loop
-risen-requires c κs =
-    let t = at-turn (at-floor (at-kept c .before .before) .before) in
-    let h = t .before in
-    let p = h .before .pre in
-    omega (arith, p .ceiling (h .loop .i) (t .loop-test .taken), p .rise (h .loop .i) (t .loop-test .taken))
 
 loop-again : tie.Need-loop-again Inv-loop μ-loop
 loop-again c = upto-more (kept c)
@@ -97,6 +90,8 @@ carry-spec =
     (λ c. search needs)
     (λ c. search needs)
     (λ c. search needs)
+    (λ c. search needs)
+    (λ c. search needs)
     returns
     narrow-requires
     (λ c. search needs)
@@ -104,7 +99,8 @@ carry-spec =
     (λ c. search needs)
     (λ c. search needs)
     (λ c. search needs)
-    risen-requires
+    (λ c. search needs)
+    (λ c. search needs)
     (λ c. search needs)
     (λ c. search needs)
     loop-again

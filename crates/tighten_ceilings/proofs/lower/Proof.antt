@@ -10,11 +10,11 @@ use Rattle.tighten_ceilings.proofs.lower.Statement.{statement}
 use Rattle.tighten_ceilings.proofs.lower.Tie as tie
 
 abbrev Inv-loop : tie.InvT-loop
-Inv-loop floors rises n i margin cap count sum end day₀ day =
-    Stand (shifted floors rises n) (shift (at rises) n) n i margin cap (day .v) (day .count) (day .sum) (day .end)
+Inv-loop floors rises n i margin cap past sum end day₀ day =
+    Stand (shifted floors rises n) (shift (at rises) n) n i margin cap (day .v) (day .past) (day .sum) (day .end)
 
 abbrev μ-loop : tie.MeasureT-loop
-μ-loop floors rises n i margin cap count sum end day₀ day = day .v
+μ-loop floors rises n i margin cap past sum end day₀ day = day .v
 
 settle-requires : tie.Need-settle-requires Inv-loop μ-loop
 settle-requires c κs = (c .pre .0, c .pre .1 .0)

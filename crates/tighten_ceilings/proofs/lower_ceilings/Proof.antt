@@ -7,7 +7,7 @@ use Rattle.tighten_ceilings.proofs.lower_ceilings.Tie as tie
 
 abbrev Inv-loop : tie.InvT-loop
 Inv-loop floors ceilings₀ rises n margin here₀ end v day₀ i₀ ceilings here day i =
-    Pass floors ceilings₀ rises n margin ceilings here (day .end) (day .v) (day .count) (day .sum) i
+    Pass floors ceilings₀ rises n margin ceilings here (day .end) (day .v) (day .past) (day .sum) i
 
 abbrev μ-loop : tie.MeasureT-loop
 μ-loop floors ceilings₀ rises n margin here₀ end v day₀ i₀ ceilings here day i = i
@@ -34,7 +34,7 @@ turning : (c : tie.After-wide4 Inv-loop μ-loop)
     let h = at-turn (s .before) .before in
     let a = before-loop h .args in
     let l = h .loop in
-    Turning (a .floors .now) (a .ceilings .now) (a .rises .now) (a .n) (a .margin) (l .ceilings) (l .here) (l .day .end) (l .day .v) (l .day .count) (l .day .sum) (l .i)
+    Turning (a .floors .now) (a .ceilings .now) (a .rises .now) (a .n) (a .margin) (l .ceilings) (l .here) (l .day .end) (l .day .v) (l .day .past) (l .day .sum) (l .i)
     (s .before .wide3 .result) (s .shift-before2 .result) (c .wide4 .result)
 turning c =
     let s = at-shift c in

@@ -1,21 +1,29 @@
 -- `lower_day` meets its contract: what is handed on is the window with day i in front.
+use Rattle.tighten_ceilings.proofs.Laws.{enters}
 use borrow.Author.Needs.{needs}
 use Rattle.tighten_ceilings.proofs.lower_day.Statement.{statement}
 use Rattle.tighten_ceilings.proofs.lower_day.Tie as tie
 
+-- ---- the places on the way: the cap is known, the day's floor is read
+
+abbrev at-cap : tie.After-wide → tie.After-min
+at-cap c = c .before .before
+
+abbrev at-floor : tie.After-struct-known → tie.After-wide
+at-floor c = c .before
+
 lower-requires : tie.Need-lower-requires
 lower-requires c κs =
-    let p = c .before .before .before .before .before .pre in
-    rw (c .before .before .before .before .min .ensures, c .before .before .wide .ensures .0) (p .0, (p .1 .days, (p .1 .low, p .1 .base)))
+    let p = at-cap (at-floor c) .before .pre in
+    (p .0, enters (p .1) (at-cap (at-floor c) .min .ensures) (at-floor c .wide .ensures .0))
 
 returns : tie.Need-returns
-returns c = rw (c .before .before .before .before .before .min .ensures) at (c .lower .ensures)
+returns c = rw (at-cap (at-floor (c .before)) .min .ensures) at (c .lower .ensures)
 
 pub lower-day-spec : {M : Type 1} → statement M
 lower-day-spec =
     tie.close
     (tie.spec
-    (λ c. search needs)
     (λ c. search needs)
     (λ c. search needs)
     (λ c. search needs)

@@ -26,8 +26,8 @@ stepping : (c : tie.After-settle)
     let a = at-start o .args in
     let d = a .day in
     let r = c .settle .result in
-    Stepping (a .floors .now) (a .rises .now) (a .n) (a .i) (a .margin) (d .v) (d .count) (d .sum) (d .end) (o .overload-of .result) (f .wide .result) (at-step c .step-of .result)
-    (r .v) (r .count) (r .sum) (r .end)
+    Stepping (a .floors .now) (a .rises .now) (a .n) (a .i) (a .margin) (d .v) (d .past) (d .sum) (d .end) (o .overload-of .result) (f .wide .result) (at-step c .step-of .result)
+    (r .v) (r .past) (r .sum) (r .end)
 stepping c =
     let f = at-floor (at-step c .before) in
     let o = at-overload f in
@@ -79,9 +79,9 @@ round-spec =
     (λ c. search needs)
     (λ c. search needs)
     (λ c. search needs)
-    (λ c. search needs)
     add-room
     sub-room
+    (λ c. search needs)
     step-of-requires
     (λ c. search needs)
     settle-requires

@@ -1,4 +1,4 @@
--- `settle` meets its contract. At its loop's head the days past the window are at v or above; the measure is the window's length.
+-- `settle` meets its contract. At its loop's head the days past the window are at v or above; the measure is the window's end.
 use Rattle.tighten_ceilings.specs.Pass.{DaysIn}
 use Rattle.tighten_ceilings.proofs.Laws.{Dropping, end-most, end-least, days-last, days-found, days-one, days-drop}
 use mathlib.Core.Path.{refl}
@@ -8,10 +8,10 @@ use Rattle.tighten_ceilings.proofs.settle.Statement.{statement}
 use Rattle.tighten_ceilings.proofs.settle.Tie as tie
 
 abbrev Inv-loop : tie.InvT-loop
-Inv-loop floors rises n i v count sum end c₀ s₀ e₀ c s e = DaysIn floors rises n i v c s e
+Inv-loop floors rises n i v past sum end j₀ s₀ e₀ j s e = DaysIn floors rises n i v j s e
 
 abbrev μ-loop : tie.MeasureT-loop
-μ-loop floors rises n i v count sum end c₀ s₀ e₀ c s e = c
+μ-loop floors rises n i v past sum end j₀ s₀ e₀ j s e = j
 
 loop-holds : tie.Need-loop-holds Inv-loop μ-loop
 loop-holds c = c .pre .1
@@ -28,7 +28,7 @@ dropping : (c : tie.After-shift-before Inv-loop μ-loop)
     → let w = at-high (c .before) .before in
     let h = at-turn w .before in
     let a = h .before .args in
-    Dropping (a .floors .now) (a .rises .now) (a .n) (a .i) (a .v) (h .loop .c) (h .loop .s) (h .loop .e) (w .wide .result) (c .before .wide2 .result) (c .shift-before .result)
+    Dropping (a .floors .now) (a .rises .now) (a .n) (a .i) (a .v) (h .loop .j) (h .loop .s) (h .loop .e) (w .wide .result) (c .before .wide2 .result) (c .shift-before .result)
 dropping c =
     let u = at-high (c .before) in
     let t = at-turn (u .before) in
@@ -83,7 +83,6 @@ settle-spec =
     add-top
     returns
     sub-s
-    (λ c. search needs)
     (λ c. search needs)
     (λ c. search needs)
     (λ c. search needs)

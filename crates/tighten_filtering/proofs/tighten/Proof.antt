@@ -1,7 +1,10 @@
 -- `tighten` meets its contract: what each stage leaves is said once, as a record of Stage at the place where it is done, from the record before it;
 -- a law for each return.
+use mathlib.Core.Path.{_≡_}
+use Rattle.theory_lists.specs.Sum.{at}
+use Rattle.theory_method.specs.Filter.{held}
 use Rattle.tighten_filtering.specs.Boxed.{boxed}
-use Rattle.tighten_filtering.proofs.Stage.{Carried, Lowered, Narrowed, carries, tight-crossed, carried-ready, tight-over, lowered-raisable, tight-apart, tight-found}
+use Rattle.tighten_filtering.proofs.Stage.{Carried, Lowered, Narrowed, carries, carried-small, carried-held, tight-crossed, carried-ready, tight-over, lowered-raisable, tight-apart, tight-found}
 use borrow.Author.Needs.{needs}
 use Rattle.tighten_filtering.proofs.tighten.Statement.{statement}
 use Rattle.tighten_filtering.proofs.tighten.Tie as tie
@@ -11,16 +14,16 @@ use Rattle.tighten_filtering.proofs.tighten.Tie as tie
 abbrev at-start : tie.After-carry → tie.Start
 at-start c = c .before .before .before
 
-abbrev at-carried : tie.After-held-total → tie.Else1
-at-carried c = c .before .before
+abbrev at-clear : tie.Else1 → tie.After-carry
+at-clear c = c .before .before
 
 abbrev at-under : tie.After-lower-ceilings-arg2 → tie.Else2
 at-under c = c .before .before
 
-abbrev at-lowered : tie.After-held-total2 → tie.After-lower-ceilings
+abbrev at-lowered : tie.After-held-total → tie.After-lower-ceilings
 at-lowered c = c .before .before
 
-abbrev at-top : tie.After-min → tie.After-held-total2
+abbrev at-top : tie.After-min → tie.After-held-total
 at-top c = c .before .before
 
 abbrev at-narrowed : tie.After-raise-floors-arg2 → tie.Else3
@@ -29,41 +32,51 @@ at-narrowed c = c .before .before
 -- ---- what each stage leaves
 
 carried : (c : tie.Else1)
-    → let a = at-start (c .before) .args in
-    Carried (boxed (a .floors .now) (a .ceilings .now) (a .rises .now) (a .numbers)) (c .before .carry .last .0)
-carried c = let e = c .before .carry .ensures in carries (at-start (c .before) .pre) (e .0) (e .1) (c .if1 .left)
+    → let d = at-clear c in
+    let a = at-start d .args in
+    Carried (boxed (a .floors .now) (a .ceilings .now) (a .rises .now) (a .numbers)) (d .carry .last .0)
+carried c = let d = at-clear c in let e = d .carry .ensures in carries (at-start d .pre) (e .0) (e .1 .0) (c .if1 .left)
+
+bottom : (c : tie.After-held-sum) → let d = at-clear (c .before) in c .held-sum .result ≡ held (at-start d .args .numbers .days) (at (d .carry .last .0))
+bottom c =
+    let d = at-clear (c .before) in
+    let e = d .carry .ensures in
+    carried-held (at-start d .pre) (e .0) (e .1 .0) (c .before .if1 .left) (e .1 .1) (c .held-sum .ensures)
 
 lowered : (c : tie.After-lower-ceilings)
     → let b = at-under (c .before) .before in
-    let d = at-carried b .before in
+    let d = at-clear (b .before) in
     let a = at-start d .args in
-    Lowered (boxed (a .floors .now) (a .ceilings .now) (a .rises .now) (a .numbers)) (d .carry .last .0) (b .held-total .result) (c .lower-ceilings .last .1 .0)
+    Lowered (boxed (a .floors .now) (a .ceilings .now) (a .rises .now) (a .numbers)) (d .carry .last .0) (b .held-sum .result) (c .lower-ceilings .last .1 .0)
 lowered c =
     let u = at-under (c .before) in
-    record { before = carried (at-carried (u .before)); bottom = u .before .held-total .ensures .0; under = u .if2 .left; ceilings = c .lower-ceilings .ensures }
+    record { before = carried (u .before .before); bottom = bottom (u .before); under = u .if2 .left; ceilings = c .lower-ceilings .ensures }
 
 narrowed : (c : tie.After-min)
     → let l = at-lowered (at-top c) in
     let b = at-under (l .before) .before in
-    let d = at-carried b .before in
+    let d = at-clear (b .before) in
     let a = at-start d .args in
-    Narrowed (boxed (a .floors .now) (a .ceilings .now) (a .rises .now) (a .numbers)) (d .carry .last .0) (b .held-total .result) (l .lower-ceilings .last .1 .0)
-    (at-top c .held-total2 .result) (c .before .max .result) (c .min .result)
+    Narrowed (boxed (a .floors .now) (a .ceilings .now) (a .rises .now) (a .numbers)) (d .carry .last .0) (b .held-sum .result) (l .lower-ceilings .last .1 .0)
+    (at-top c .held-total .result) (c .before .max .result) (c .min .result)
 narrowed c =
-    record { before = lowered (at-lowered (at-top c)); top = at-top c .held-total2 .ensures .0; low = c .before .max .ensures; high = c .min .ensures }
+    record { before = lowered (at-lowered (at-top c)); top = at-top c .held-total .ensures .0; low = c .before .max .ensures; high = c .min .ensures }
 
 -- ---- the needs
 
 returns : tie.Need-returns
-returns c = let d = c .before .before in rw (c .none .ensures) (tight-crossed (at-start d .pre) (d .carry .ensures .0) (d .carry .ensures .1) (c .before .if1 .taken))
+returns c =
+    let d = c .before .before .before in
+    rw (c .none .ensures) (tight-crossed (at-start d .pre) (d .carry .ensures .0) (d .carry .ensures .1 .0) (c .before .if1 .taken))
+
+held-sum-requires : tie.Need-held-sum-requires
+held-sum-requires c κs = let d = at-clear c in let e = d .carry .ensures in carried-small (at-start d .pre) (e .0) (e .1 .0) (c .if1 .left) (e .1 .1)
 
 returns-2 : tie.Need-returns-2
-returns-2 c =
-    let b = c .before .before in
-    rw (c .none2 .ensures) (tight-over (carried (at-carried b)) (b .held-total .ensures .0) (c .before .if2 .taken))
+returns-2 c = let b = c .before .before in rw (c .none2 .ensures) (tight-over (carried (b .before)) (bottom b) (c .before .if2 .taken))
 
 lower-ceilings-requires : tie.Need-lower-ceilings-requires
-lower-ceilings-requires c κs = carried-ready (carried (at-carried (at-under c .before)))
+lower-ceilings-requires c κs = carried-ready (carried (at-under c .before .before))
 
 returns-3 : tie.Need-returns-3
 returns-3 c = rw (c .none3 .ensures) (tight-apart (narrowed (c .before .before)) (c .before .if3 .taken))
@@ -81,7 +94,7 @@ tighten-spec =
     (λ c. search needs)
     (λ c. search needs)
     returns
-    (λ c. search needs)
+    held-sum-requires
     (λ c. search needs)
     returns-2
     lower-ceilings-requires
