@@ -23,4 +23,9 @@ int plain_open(struct plain_session *session, int32_t days, const int16_t *floor
                int32_t highest);
 int plain_cut(struct plain_session *session, int32_t kind, int32_t day, int32_t value, uint16_t *changed, int32_t *count);
 
+/* The same, tuned by hand. */
+int tuned_open(struct plain_session *session, int32_t days, const int16_t *floors, const int16_t *ceilings, const int16_t *rises, int32_t lowest,
+               int32_t highest);
+int tuned_cut(struct plain_session *session, int32_t kind, int32_t day, int32_t value, uint16_t *changed, int32_t *count);
+
 #endif

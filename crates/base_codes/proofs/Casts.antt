@@ -4,10 +4,9 @@ use mathlib.Core.Path.{_≡_, refl, ap, _∙_, subst}
 use mathlib.Core.Bool.{Bool, true, false, cond}
 use native.Mathlib.Omega.{arith}
 use lib.IntN.{ℤ, pos, negsuc, natAbs, _+ℤ_, _-ℤ_}
-use lib.Signed.{_≤ℤ_, _<ℤ_, ltZ, ltZ-yes, ltZ-no, clashℤ, nonNeg, natAbs-le, mag}
+use lib.Signed.{_≤ℤ_, _<ℤ_, ltZ, ltZ-yes, ltZ-no, clashℤ, nonNeg, natAbs-le}
 use lib.Dec.{T, leb→le}
 use denote.Floats.{passes}
-use borrow.Author.Needs.{sfits-of}
 use borrow.Author.Tests.{le-leb}
 use mir.Syntax.{Width, w16, w32, w64}
 use mir.Val.{Fits, SFits, toZ, ofZ, hbits}
@@ -37,9 +36,6 @@ module _ (v w : Width) {z : ℤ} (f : SFits v z) (g : SFits w z) where
 
   pub recast : toZ w (ofZ w (toZ v (ofZ v z))) ≡ z
   recast = rw (toZ-ofZ f) (toZ-ofZ g)
-
-pub whole-fits : (z : ℤ) → mag z < 2 ^ hbits w16 → SFits w32 (toZ w16 (ofZ w16 z))
-whole-fits z h = recast-fits w16 w32 {z = z} (sfits-of h) (sfits-widen tt (sfits-of {w = w16} h))
 
 -- a number of 16 bits is a setpoint
 pub setpoint-within : {z : ℤ} → SFits w16 z → within lowestSetpoint highestSetpoint z ≡ true

@@ -25,7 +25,7 @@ use Rattle.session_cutting.proofs.Laws.{clipped-in-bounds}
 use Rattle.session_cutting.proofs.Stages.{again-found, again-none}
 use Rattle.session_cutting.specs.declared.AfterCut.{AfterCut}
 use Rattle.session_cutting.specs.declared.CutAnswer.{CutAnswer}
-use Rattle.c_storage.specs.Layout.{sessionBytes, decoding, patched, changedIn, dayBytes}
+use Rattle.c_storage.specs.Layout.{sessionBytes, decoding, patched, changedIn, dayCells}
 use Rattle.c_storage.proofs.Inverse.{decoding-in-bounds}
 use Rattle.c_sessions.specs.Sessions.{answerFor, bytesFor, listFor, cutAnswer, bytesCut, changedBytes}
 use Rattle.c_sessions.specs.Stages.{madeOf}
@@ -57,7 +57,7 @@ pub record Stored (b l : List ℕ) (n : ℕ) (t : Tight) (count : ℕ) (bytes li
   pub days : n ≡ decoding b .days
   pub unspent : decoding b .spent ≡ false
   pub counted : count ≡ length (changedIn b (t .floors) (t .ceilings) n)
-  pub listed : list ≡ inFront (dayBytes (changedIn b (t .floors) (t .ceilings) n)) l
+  pub listed : list ≡ inFront (dayCells (changedIn b (t .floors) (t .ceilings) n)) l
   pub stored : bytes ≡ patched b n false (rangesOf t)
 
 cuts-stored : (b l : List ℕ) {n : ℕ} {t : Tight} {count : ℕ} {bytes list : List ℕ} → Stored b l n t count bytes list → (m : ℕ)

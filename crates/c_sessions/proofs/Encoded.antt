@@ -17,7 +17,7 @@ use Rattle.session_cutting.specs.Cutting.{earlyCutting, clipped, retightened, c
 use Rattle.session_cutting.specs.declared.AfterCut.{AfterCut}
 use Rattle.session_cutting.proofs.Laws.{accepted, refused-same, numbered-accepted}
 use Rattle.c_lists.specs.Lists.{cellBytes}
-use Rattle.c_storage.specs.Layout.{sessionBytes, encoding, decoding, patched, dayBytes}
+use Rattle.c_storage.specs.Layout.{sessionBytes, encoding, decoding, patched, dayCells}
 use Rattle.c_storage.specs.Storing.{Storable}
 use Rattle.c_storage.proofs.Lengths.{encoding-length}
 use Rattle.c_storage.proofs.Inverse.{decoding-encoding}
@@ -101,6 +101,6 @@ module _ (s : Session) (h : Storable s) (t : Numbered) where
       → let r : AfterCut = afterNumbered s t (length l / 2) in
       let days : List ℕ = changedDays (s .days) (s .present) (r .session .present) in
       r .answer .refusal ≡ 0 → changedBytes (encoding s) t l ≡ inFront (cellBytes (at days) (length days)) l
-  unfolding changedBytes listFor dayBytes
+  unfolding changedBytes listFor dayCells
   list-encoded l z =
       rw (encoded s h, decoding-encoding s h, eq-eqb (afterNumbered s t (length l / 2) .answer .refusal) 0 z, changes s h t (length l / 2)) refl

@@ -17,7 +17,7 @@ use Rattle.session_cutting.specs.Cutting.{afterNumbered}
 use Rattle.session_cutting.specs.declared.AfterCut.{AfterCut}
 use Rattle.session_cutting.specs.declared.CutAnswer.{CutAnswer}
 use Rattle.c_lists.specs.Profiles.{ByteProfile, byteLengthRefusal, profileOf}
-use Rattle.c_storage.specs.Layout.{sessionBytes, encoding, decoding, patched, changedIn, dayBytes}
+use Rattle.c_storage.specs.Layout.{sessionBytes, encoding, decoding, patched, changedIn, dayCells}
 
 abbrev pub isSession : List ℕ → Bool
 isSession b = eqb (length b) sessionBytes
@@ -54,7 +54,7 @@ bytesFor b a =
 
 -- the list afterwards: as it was beside a refusal, else with the changed days at its front
 unfoldable pub listFor : List ℕ → AfterCut → List ℕ → List ℕ
-listFor b a l = cond (eqb (a .answer .refusal) 0) (inFront (dayBytes (changedBy b (a .session))) l) l
+listFor b a l = cond (eqb (a .answer .refusal) 0) (inFront (dayCells (changedBy b (a .session))) l) l
 
 unfoldable pub cutAnswer : List ℕ → Numbered → ℕ → CutAnswer
 cutAnswer b t list = cond (isSession b) (answerFor b (afterNumbered (decoding b) t (list / 2))) (record { refusal = 2; changed = 0 })

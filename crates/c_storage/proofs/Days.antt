@@ -14,11 +14,11 @@ use Rattle.base_little_endian.specs.Fields.{u16Bytes}
 use Rattle.session_changed.specs.Changes.{daysWhere}
 use Rattle.session_changed.proofs.Days.{days-few, days-more}
 use Rattle.c_lists.specs.Lists.{cellBytes}
-use Rattle.c_storage.specs.Layout.{dayBytes}
+use Rattle.c_storage.specs.Layout.{dayCells}
 use Rattle.c_storage.proofs.Lengths.{cells-length}
 
-pub days-length : (ds : List ℕ) → length (dayBytes ds) ≡ length ds * 2
-unfolding dayBytes
+pub days-length : (ds : List ℕ) → length (dayCells ds) ≡ length ds * 2
+unfolding dayCells
 days-length ds = cells-length (at ds) (length ds)
 
 -- tests that agree below n
@@ -28,8 +28,8 @@ days-same t u zero h = refl
 days-same t u (suc n) h = rw (h n (omega arith), days-same t u n (λ k l. h k (omega arith))) refl
 
 -- one day more
-days-add : (ds : List ℕ) (d : ℕ) → dayBytes (ds ++ d ∷ []) ≡ dayBytes ds ++ u16Bytes d
-unfolding dayBytes cellBytes
+days-add : (ds : List ℕ) (d : ℕ) → dayCells (ds ++ d ∷ []) ≡ dayCells ds ++ u16Bytes d
+unfolding dayCells cellBytes
 days-add ds d =
     let f : (ℕ → List ℕ) = λ k. u16Bytes (at ds k) in
     let g : (ℕ → List ℕ) = λ k. u16Bytes (at (ds ++ d ∷ []) k) in
@@ -43,7 +43,7 @@ pub record Listed (test : ℕ → Bool) (n day : ℕ) (l : List ℕ) (count : �
   pub few : count ≤ day
   pub kept : length out ≡ length l
   pub counted : count ≡ length (daysWhere test day)
-  pub made : out ≡ sets l 0 (dayBytes (daysWhere test day))
+  pub made : out ≡ sets l 0 (dayCells (daysWhere test day))
 
 -- a turn notes the day where the test holds
 pub record Noted (test : ℕ → Bool) (n day : ℕ) (l : List ℕ) (count : ℕ) (out : List ℕ) (count′ : ℕ) (out′ : List ℕ) : Type 0 where
@@ -54,20 +54,20 @@ pub record Noted (test : ℕ → Bool) (n day : ℕ) (l : List ℕ) (count : ℕ
 
 module _ {test : ℕ → Bool} {n : ℕ} {l : List ℕ} where
   pub listed-none : Listed test n 0 l 0 l
-  unfolding daysWhere dayBytes cellBytes rows
+  unfolding daysWhere dayCells cellBytes rows
   listed-none = record { most = omega arith; few = omega arith; kept = refl; counted = refl; made = refl }
 
   module _ {day count count′ : ℕ} {out out′ : List ℕ} (d : Noted test n day l count out count′ out′) where
     abbrev Front : List ℕ → Type 0
-    Front ds = (count′ ≡ length ds) × (out′ ≡ sets l 0 (dayBytes ds))
+    Front ds = (count′ ≡ length ds) × (out′ ≡ sets l 0 (dayCells ds))
 
     held : test day ≡ true → Front (daysWhere test day ++ day ∷ [])
     held t =
         let ds : List ℕ = daysWhere test day in
-        let place : 0 + length (dayBytes ds) ≡ count * 2 = omega (arith, days-length ds, d .head .counted) in
-        let stored : out′ ≡ sets (sets l 0 (dayBytes ds)) (count * 2) (u16Bytes day) = rw (t, d .head .made) at (d .listed) in (
+        let place : 0 + length (dayCells ds) ≡ count * 2 = omega (arith, days-length ds, d .head .counted) in
+        let stored : out′ ≡ sets (sets l 0 (dayCells ds)) (count * 2) (u16Bytes day) = rw (t, d .head .made) at (d .listed) in (
           rw (length-append ds (day ∷ [])) (omega (arith, rw t at (d .counted), d .head .counted)),
-          rw days-add (stored ∙ rw place at (sets-append (dayBytes ds) (u16Bytes day) l 0)),
+          rw days-add (stored ∙ rw place at (sets-append (dayCells ds) (u16Bytes day) l 0)),
         )
 
     failed : test day ≡ false → Front (daysWhere test day)
@@ -81,14 +81,14 @@ module _ {test : ℕ → Bool} {n : ℕ} {l : List ℕ} where
         record {
           most = omega (arith, d .more);
           few = omega (arith, front .0, days-few test (day + 1));
-          kept = ap length (front .1) ∙ length-sets l 0 (dayBytes (daysWhere test (day + 1)));
+          kept = ap length (front .1) ∙ length-sets l 0 (dayCells (daysWhere test (day + 1)));
           counted = front .0;
           made = front .1;
         }
 
   pub listed-all : {day count : ℕ} {out : List ℕ} → Listed test n day l count out → n ≤ day → n * 2 ≤ length l
-      → (count ≡ length (daysWhere test n)) × (out ≡ inFront (dayBytes (daysWhere test n)) l)
+      → (count ≡ length (daysWhere test n)) × (out ≡ inFront (dayCells (daysWhere test n)) l)
   listed-all {day} h u room =
       let q : day ≡ n = omega (arith, h .most) in
       let few = days-few test n in
-      (rw q at (h .counted), rw q at (h .made) ∙ front-sets (dayBytes (daysWhere test n)) l (omega (arith, days-length (daysWhere test n))))
+      (rw q at (h .counted), rw q at (h .made) ∙ front-sets (dayCells (daysWhere test n)) l (omega (arith, days-length (daysWhere test n))))

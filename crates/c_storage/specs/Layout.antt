@@ -124,5 +124,5 @@ unfoldable pub changedIn : List ℕ → List ℕ → List ℕ → ℕ → List �
 changedIn b floors ceilings n = daysWhere (cellsDiffer b floors ceilings) n
 
 -- days as the list for changed days has them
-unfoldable pub dayBytes : List ℕ → List ℕ
-dayBytes days = cellBytes (at days) (length days)
+unfoldable pub dayCells : List ℕ → List ℕ
+dayCells days = cellBytes (at days) (length days)

@@ -17,7 +17,7 @@ ghost use Rattle.session.specs.Opening.{fresh};
 ghost use Rattle.session.specs.Showing.{floorOn, ceilingOn};
 ghost use Rattle.c_lists.specs.Lists.{pointBytes, cellBytes};
 ghost use Rattle.c_storage.specs.Layout.{cellLength, totalLength, totalsLength, blockLength, rangesLength, sessionBytes, totalBytes, blockBytes, encoding, totalAt, decoding};
-ghost use Rattle.c_storage.specs.Layout.{patched, changedIn, dayBytes};
+ghost use Rattle.c_storage.specs.Layout.{patched, changedIn, dayCells};
 use base_codes::Coded;
 use base_codes::CodedNumbers;
 use base_codes::decode_short;
@@ -284,7 +284,7 @@ fn list_changes(
 ) -> usize
     requires { ⌜ (length (now bytes) ≡ sessionBytes) × (n ≤ mostDays) × (n * cellLength ≤ length (now changed)) ⌝ }
     ensures { λ r. ⌜ r ≡ length (changedIn (now (bytes .entry)) (now (floors .entry)) (now (ceilings .entry)) n) ⌝ }
-    ensures { λ r. ⌜ now (changed .exit) ≡ inFront (dayBytes (changedIn (now (bytes .entry)) (now (floors .entry)) (now (ceilings .entry)) n)) (now (changed .entry)) ⌝ }
+    ensures { λ r. ⌜ now (changed .exit) ≡ inFront (dayCells (changedIn (now (bytes .entry)) (now (floors .entry)) (now (ceilings .entry)) n)) (now (changed .entry)) ⌝ }
 {
     let mut count = 0;
     let mut day = 0;
@@ -308,7 +308,7 @@ pub fn store_cut(
 ) -> usize
     requires { ⌜ (numbers .days ≤ mostDays) × (numbers .lowest ≤ highestTotalCode) × (numbers .highest ≤ highestTotalCode) × (length (now out) ≡ sessionBytes) × (numbers .days * cellLength ≤ length (now changed)) ⌝ }
     ensures { λ r. ⌜ r ≡ length (changedIn (now (out .entry)) (now (floors .entry)) (now (ceilings .entry)) (numbers .days)) ⌝ }
-    ensures { λ r. ⌜ now (changed .exit) ≡ inFront (dayBytes (changedIn (now (out .entry)) (now (floors .entry)) (now (ceilings .entry)) (numbers .days))) (now (changed .entry)) ⌝ }
+    ensures { λ r. ⌜ now (changed .exit) ≡ inFront (dayCells (changedIn (now (out .entry)) (now (floors .entry)) (now (ceilings .entry)) (numbers .days))) (now (changed .entry)) ⌝ }
     ensures { λ r. ⌜ now (out .exit) ≡ patched (now (out .entry)) (numbers .days) false (record { floors = now (floors .entry); ceilings = now (ceilings .entry); lowest = numbers .lowest; highest = numbers .highest }) ⌝ }
 {
     let n = numbers.days;

@@ -44,5 +44,5 @@ promised = record {
   files-in-bytes = files-in-bytes;
   decoding = decoding-in-bounds;
   decoding-encoding = decoding-encoding;
-      patched-encoding = patched-encoding;
+  patched-encoding = patched-encoding;
 }

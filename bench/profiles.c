@@ -1,0 +1,140 @@
+#include "profiles.h"
+
+static int32_t smaller(int32_t a, int32_t b)
+{
+    return a < b ? a : b;
+}
+
+static int32_t larger(int32_t a, int32_t b)
+{
+    return a > b ? a : b;
+}
+
+/* The total's range reaches from the sum by this much a day to either side. */
+static void total_around(struct profile *profile, int32_t sum, int32_t reach)
+{
+    profile->lowest = sum - reach * profile->days;
+    profile->highest = sum + reach * profile->days;
+}
+
+/* Rounds are document 01's: turns of `while (delta > margin)` in plain.c, counted with a copy that counts them; drops are days that leave the window. */
+
+/* ---- even: ranges of 3,000 points, each a point higher than the one before, rises from -3 to 3, and a total in the middle that moves many floors and
+ * ceilings. At 512 days an opening makes 226 rounds in each pass, and no drop. */
+
+enum { EVEN_WIDTH = 3000, EVEN_STEEPEST = 3, EVEN_REACH = 100 };
+
+static void fill_even(struct profile *profile)
+{
+    int32_t middle = 0;
+    for (int32_t i = 0; i < profile->days; i++) {
+        profile->floors[i] = (int16_t)i;
+        profile->ceilings[i] = (int16_t)(EVEN_WIDTH + i);
+        profile->rises[i] = (int16_t)(i % (2 * EVEN_STEEPEST + 1) - EVEN_STEEPEST);
+        middle += EVEN_WIDTH / 2 + i;
+    }
+    total_around(profile, middle, EVEN_REACH);
+}
+
+/* ---- ramp: a ferment, pitched cool, with a free rise, a hold, a rest two degrees warmer and a crash to the cold. It may not fall before the crash, and then
+ * twice as fast as it does. Both bounds of the total move days: at 512 days 56 rounds and 443 drops for the ceilings, 52 and 474 for the floors. */
+
+enum { WHOLE = 100, RAMP_WIDTH = 300, RAMP_REACH = 5, RAMP_FALL = 2 };
+
+/* Where the line has its corners, in hundredths of the days, and the points there. */
+static const struct {
+    int32_t part, point;
+} corners[] = {{0, 800}, {8, 900}, {16, 1200}, {74, 1200}, {78, 1400}, {86, 1400}, {94, 200}, {WHOLE, 100}};
+
+static int32_t ferment(int32_t day, int32_t days)
+{
+    int32_t part = WHOLE * day, last = days - 1;
+    size_t k = 0;
+    while (part > corners[k + 1].part * last)
+        k++;
+    int32_t run = (corners[k + 1].part - corners[k].part) * last;
+    return corners[k].point + (corners[k + 1].point - corners[k].point) * (part - corners[k].part * last) / run;
+}
+
+static void fill_ramp(struct profile *profile)
+{
+    int32_t sum = 0;
+    for (int32_t i = 0; i < profile->days; i++) {
+        int32_t point = ferment(i, profile->days);
+        profile->floors[i] = (int16_t)(point - RAMP_WIDTH / 2);
+        profile->ceilings[i] = (int16_t)(point + RAMP_WIDTH / 2);
+        if (i + 1 < profile->days)
+            profile->rises[i] = (int16_t)smaller(0, RAMP_FALL * (ferment(i + 1, profile->days) - point));
+        sum += point;
+    }
+    total_around(profile, sum, RAMP_REACH);
+}
+
+/* ---- random: a schedule is drawn first; ranges, least rises and the total's range are laid around it. At 512 days 199 and 194 rounds, and no drop. */
+
+enum { RANDOM_LOWEST = 500, RANDOM_HIGHEST = 2500, RANDOM_STEP = 200, RANDOM_NEAR = 500, RANDOM_FAR = 1500, RANDOM_CLIMB = 700, RANDOM_REACH = 20 };
+
+static uint32_t state;
+
+/* From 0 to most, by a linear congruence (Numerical Recipes); its high half is used. */
+static int32_t draw(int32_t most)
+{
+    state = state * 1664525u + 1013904223u;
+    return (int32_t)((state >> 16) % (uint32_t)(most + 1));
+}
+
+/* Least rises are below the schedule's steps by so much that they add up to about the same climb at every day count. */
+static void fill_random(struct profile *profile)
+{
+    int32_t sum = 0, point = (RANDOM_LOWEST + RANDOM_HIGHEST) / 2;
+    state = 1;
+    for (int32_t i = 0; i < profile->days; i++) {
+        int32_t next = larger(RANDOM_LOWEST, smaller(RANDOM_HIGHEST, point + draw(2 * RANDOM_STEP) - RANDOM_STEP));
+        profile->floors[i] = (int16_t)(point - RANDOM_NEAR - draw(RANDOM_FAR - RANDOM_NEAR));
+        profile->ceilings[i] = (int16_t)(point + RANDOM_NEAR + draw(RANDOM_FAR - RANDOM_NEAR));
+        profile->rises[i] = (int16_t)(next - point - draw(2 * RANDOM_CLIMB / profile->days));
+        sum += point;
+        point = next;
+    }
+    total_around(profile, sum, RANDOM_REACH);
+}
+
+/* ---- stairs: with the rises taken away, floors climb by 200 points a day, and from the first day to the next by 400, which is over the margin of 300. So each
+ * ceiling is lowered to a later floor, which drops that day, and then once more. Counted at 16, 64, 256 and 512 days, in the pass of the ceilings: 2n - 1
+ * rounds and n - 1 drops at opening, 2n - 5 rounds where the middle day's floor is cut, 2n - 2 where the total's ceiling is; the other cuts make none, and
+ * nor does the pass of the floors. */
+
+enum { STAIRS_FLOOR = 500, STAIRS_CEILING = 3500, STAIRS_STEP = 200, STAIRS_MARGIN = 300, STAIRS_LEAST = 50 };
+
+static void fill_stairs(struct profile *profile)
+{
+    int32_t bottom = 0;
+    for (int32_t i = 0; i < profile->days; i++) {
+        profile->floors[i] = (int16_t)(i == 0 ? STAIRS_FLOOR - STAIRS_STEP : STAIRS_FLOOR);
+        profile->ceilings[i] = STAIRS_CEILING;
+        profile->rises[i] = -STAIRS_STEP;
+        bottom += profile->floors[i];
+    }
+    profile->lowest = bottom + STAIRS_LEAST;
+    profile->highest = bottom + STAIRS_MARGIN;
+}
+
+/* ---- loose: the ramp, with a total that may be anything, so that an opening makes no round. */
+
+static void fill_loose(struct profile *profile)
+{
+    fill_ramp(profile);
+    profile->lowest = CLOVERDRUM_LOWEST_TOTAL;
+    profile->highest = CLOVERDRUM_HIGHEST_TOTAL;
+}
+
+void fill_profile(struct profile *profile, size_t which, int32_t days)
+{
+    static const struct {
+        const char *name;
+        void (*fill)(struct profile *);
+    } profiles[PROFILES] = {{"even", fill_even}, {"ramp", fill_ramp}, {"random", fill_random}, {"stairs", fill_stairs}, {"loose", fill_loose}};
+    profile->name = profiles[which].name;
+    profile->days = days;
+    profiles[which].fill(profile);
+}
