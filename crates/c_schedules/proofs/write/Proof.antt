@@ -7,7 +7,12 @@ use Prim.Native.Nat.{ℕ, _≤_}
 use mir.Facts.{toZ-ofZ}
 use native.Mathlib.Omega.{arith}
 use borrow.Author.Needs.{needs}
+use lib.Seq.{sets}
+use Rattle.limits.specs.Limits.{lowestPoint}
+use Rattle.theory_lists.specs.Sum.{at}
+use Rattle.base_codes.specs.Code.{decoded}
 use Rattle.session.specs.declared.Session.{Session}
+use Rattle.c_lists.specs.Lists.{pointBytes}
 use Rattle.c_storage.specs.Layout.{decoding}
 use Rattle.c_storage.proofs.Inverse.{decoding-in-bounds}
 use Rattle.c_schedules.specs.Schedules.{setpointFor}
@@ -59,7 +64,7 @@ list c = from-days c .args .list .now
 abbrev held : tie.After-days-of → Session
 held c = decoding (bytes c)
 
--- ---- what was found, checked and loaded
+-- ---- what was found, checked, loaded and stored
 
 few : (c : tie.After-days-of) → c .days-of .result ≤ 512
 few c = omega (arith, c .days-of .ensures, decoding-in-bounds (bytes c) .present .most)
@@ -78,6 +83,12 @@ loaded : (c : tie.After-load-levels)
     let a = from-days d .args in
     PointsStanding (setpointFor (held d) (a .subject) (a .value)) (held d .days) (c .load-levels .last .1 .1 .1 .0)
 loaded c = points-standing _ (taken (from-loaded c)) (c .load-levels .ensures)
+
+stored : (c : tie.After-put-levels)
+    → let l = at-loaded (c .before) in
+    let d = from-checked (at-checked (from-loaded l)) in
+    c .put-levels .last .1 .1 .0 ≡ sets (list d) 0 (pointBytes (λ k. decoded lowestPoint (at (l .load-levels .last .1 .1 .1 .0) k)) (d .days-of .result))
+stored c = c .put-levels .ensures
 
 -- ---- the answers
 
@@ -108,7 +119,7 @@ returns-4 c =
     let l = at-loaded (p .before) in
     let k = at-checked (from-loaded l) in
     let r = at-right k in
-    write-all _ _ _ _ (right r) (checked k) (from-loaded l .if3 .left) (r .before .days-of .ensures) (r .if2 .left) (loaded l) (p .put-levels .ensures)
+    write-all _ _ _ _ (right r) (checked k) (from-loaded l .if3 .left) (r .before .days-of .ensures) (r .if2 .left) (loaded l) (stored p)
 
 pub write-spec : {M : Type 1} → statement M
 write-spec =
