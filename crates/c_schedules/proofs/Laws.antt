@@ -32,6 +32,7 @@ use Rattle.schedule_inspection.proofs.Bridge.{setpoint-codes, judged-codes}
 use Rattle.c_lists.specs.Lists.{isLong, pointAt, pointsIn, pointBytes, lentPoints}
 use Rattle.c_lists.proofs.Laws.{points-left, points-front, points-filled}
 use Rattle.c_storage.specs.Layout.{sessionBytes, decoding}
+use Rattle.c_storage.proofs.Inverse.{decoding-in-bounds}
 use Rattle.c_sessions.specs.Sessions.{isSession}
 use Rattle.c_schedules.specs.Schedules.{refusalFor, setpointFor, writeRefusal, inspectedOver}
 use Rattle.c_schedules.specs.Stages.{checkedFor, CodeFits, levelsFor}
@@ -113,6 +114,10 @@ pub record Loaded (s : Session) (n : ℕ) (rs fs cs : List ℕ) : Type 0 where
   pub rises : rs ≡ s .rises
   pub floors : fs ≡ s .present .floors
   pub ceilings : cs ≡ s .present .ceilings
+
+pub loads : (b : List ℕ) {n : ℕ} {rs fs cs : List ℕ} → n ≡ decoding b .days
+    → (rs ≡ decoding b .rises) × ((fs ≡ decoding b .present .floors) × (cs ≡ decoding b .present .ceilings)) → Loaded (decoding b) n rs fs cs
+loads b d e = record { bounds = decoding-in-bounds b; days = d; rises = e .0; floors = e .1 .0; ceilings = e .1 .1 }
 
 module _ {s : Session} {n : ℕ} {rs fs cs : List ℕ} (d : Loaded s n rs fs cs) {subject : Subject} (code : ℕ) (fits : CodeFits s subject code) where
   module _ (day : ℕ) (e : subject ≡ Day day) {lowest : ℕ} (l : lowest ≡ s .present .lowest) where

@@ -17,7 +17,6 @@ use c_storage::days_of;
 use c_storage::floor_of;
 use c_storage::is_spent;
 use c_storage::load_present;
-use c_storage::load_rises;
 use c_storage::total_of;
 use limits::HIGHEST_SETPOINT;
 use limits::LOWEST_SETPOINT;
@@ -85,8 +84,7 @@ fn load_levels(session: &[u8], subject: Subject, code: usize, levels: &mut [u16;
     let n = days_of(session);
     let mut rises = [0u16; MOST_DAYS];
     let mut ceilings = [0u16; MOST_DAYS];
-    load_rises(session, &mut rises);
-    load_present(session, levels, &mut ceilings);
+    load_present(session, &mut rises, levels, &mut ceilings);
     match subject {
         Subject::Day(day) => {
             let lowest = total_of(session).lowest;
@@ -165,8 +163,7 @@ fn judge_points(session: &[u8], list: &[u8]) -> Inspection
     let mut floors = [0u16; MOST_DAYS];
     let mut ceilings = [0u16; MOST_DAYS];
     let mut setpoints = [0u16; MOST_DAYS];
-    load_rises(session, &mut rises);
-    load_present(session, &mut floors, &mut ceilings);
+    load_present(session, &mut rises, &mut floors, &mut ceilings);
     code_points(list, n, LOWEST_SETPOINT, HIGHEST_SETPOINT, &mut setpoints);
     let total = total_of(session);
     schedule_inspection::judge_codes(

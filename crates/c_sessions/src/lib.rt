@@ -21,7 +21,6 @@ use c_storage::SESSION_BYTES;
 use c_storage::days_of;
 use c_storage::is_spent;
 use c_storage::load_present;
-use c_storage::load_rises;
 use c_storage::show_present;
 use c_storage::spend;
 use c_storage::store_cut;
@@ -147,8 +146,7 @@ fn cut_present(session: &mut [u8], cut: Cut, value: usize, changed: &mut [u8]) -
     let mut rises = [0u16; MOST_DAYS];
     let mut floors = [0u16; MOST_DAYS];
     let mut ceilings = [0u16; MOST_DAYS];
-    load_rises(session, &mut rises);
-    load_present(session, &mut floors, &mut ceilings);
+    load_present(session, &mut rises, &mut floors, &mut ceilings);
     let days = days_of(session);
     let total = total_of(session);
     let held = CodedNumbers {

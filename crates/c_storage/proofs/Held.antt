@@ -7,7 +7,9 @@ use native.Mathlib.Omega.{arith}
 use lib.Dec.{eqb}
 use Rattle.limits.specs.Limits.{highestLevel, highestRiseCode}
 use Rattle.theory_lists.specs.Sum.{at}
+use Rattle.theory_lists.specs.Written.{written}
 use Rattle.base_little_endian.specs.Fields.{u16At}
+use Rattle.theory_method.specs.Filter.{zeros}
 use Rattle.c_storage.specs.Layout.{
   cellLength,
   totalLength,
@@ -72,3 +74,8 @@ module _ (b : List ℕ) where
     pub opened-ceiling-held : min (u16At b (openedPlace + blockLength + k * cellLength)) highestLevel ≡ at (decoding b .opened .ceilings) k
     unfolding decoding rangesAt
     opened-ceiling-held = sym (cell b (daysAt b) days-few highestLevel (openedPlace + blockLength) k h)
+
+-- cells of all days, loaded over zeros
+pub loaded : (b : List ℕ) (most place : ℕ) {n : ℕ} {entry out : List ℕ} → out ≡ written (λ k. min (u16At b (place + k * cellLength)) most) n entry → entry ≡ zeros
+    → n ≡ decoding b .days → out ≡ cellsAt b (decoding b .days) most place
+loaded b most place e z d = rw (z, d) at e

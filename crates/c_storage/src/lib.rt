@@ -164,20 +164,20 @@ pub fn ceiling_of(bytes: &[u8], day: usize) -> u16
     level(bytes, PRESENT_AT + BLOCK_BYTES + day * CELL_BYTES)
 }
 
-pub fn load_rises(bytes: &[u8], rises: &mut [u16; MOST_DAYS])
-    requires { ⌜ (length (now bytes) ≡ sessionBytes) × (now rises ≡ zeros) ⌝ }
+// Loads the rises and the present ranges into arrays that hold zeros.
+pub fn load_present(
+    bytes: &[u8],
+    rises: &mut [u16; MOST_DAYS],
+    floors: &mut [u16; MOST_DAYS],
+    ceilings: &mut [u16; MOST_DAYS],
+)
+    requires { ⌜ (length (now bytes) ≡ sessionBytes) × (now rises ≡ zeros) × (now floors ≡ zeros) × (now ceilings ≡ zeros) ⌝ }
     ensures { λ _. ⌜ now (rises .exit) ≡ decoding (now (bytes .entry)) .rises ⌝ }
-{
-    cells(bytes, RISES_AT, days_of(bytes), MOST_RISE_CODE, rises);
-}
-
-// The present ranges of the days.
-pub fn load_present(bytes: &[u8], floors: &mut [u16; MOST_DAYS], ceilings: &mut [u16; MOST_DAYS])
-    requires { ⌜ (length (now bytes) ≡ sessionBytes) × (now floors ≡ zeros) × (now ceilings ≡ zeros) ⌝ }
     ensures { λ _. ⌜ now (floors .exit) ≡ decoding (now (bytes .entry)) .present .floors ⌝ }
     ensures { λ _. ⌜ now (ceilings .exit) ≡ decoding (now (bytes .entry)) .present .ceilings ⌝ }
 {
     let n = days_of(bytes);
+    cells(bytes, RISES_AT, n, MOST_RISE_CODE, rises);
     cells(bytes, PRESENT_AT, n, MOST_LEVEL, floors);
     cells(bytes, PRESENT_AT + BLOCK_BYTES, n, MOST_LEVEL, ceilings);
 }

@@ -2,8 +2,7 @@
 use native.Mathlib.Omega.{arith}
 use borrow.Author.Needs.{needs}
 use Rattle.c_storage.specs.Layout.{decoding}
-use Rattle.c_storage.proofs.Inverse.{decoding-in-bounds}
-use Rattle.c_schedules.proofs.Laws.{Loaded, points-judged}
+use Rattle.c_schedules.proofs.Laws.{Loaded, loads, points-judged}
 use Rattle.c_schedules.proofs.judge_points.Statement.{statement}
 use Rattle.c_schedules.proofs.judge_points.Tie as tie
 
@@ -12,11 +11,8 @@ use Rattle.c_schedules.proofs.judge_points.Tie as tie
 abbrev at-start : tie.After-days-of → tie.Start
 at-start c = c .before .before .before
 
-abbrev at-days : tie.After-load-rises → tie.After-days-of
-at-days c = c .before .before
-
-abbrev at-rises : tie.After-load-present → tie.After-load-rises
-at-rises c = c .before .before .before
+abbrev at-days : tie.After-load-present → tie.After-days-of
+at-days c = c .before .before .before .before
 
 abbrev at-loaded : tie.After-code-points → tie.After-load-present
 at-loaded c = c .before .before
@@ -30,20 +26,12 @@ at-total c = c .before .before .before .before
 -- ---- what is loaded
 
 abbrev from-loaded : tie.After-load-present → tie.Start
-from-loaded c = at-start (at-days (at-rises c))
+from-loaded c = at-start (at-days c)
 
 loaded : (c : tie.After-load-present)
-    → let r = at-rises c in
-    Loaded (decoding (from-loaded c .args .session .now)) (at-days r .days-of .result) (r .load-rises .last .1 .0) (c .load-present .last .1 .0) (c .load-present .last .1 .1 .0)
-loaded c =
-    let r = at-rises c in
-    record {
-      bounds = decoding-in-bounds (from-loaded c .args .session .now);
-      days = at-days r .days-of .ensures;
-      rises = r .load-rises .ensures;
-      floors = c .load-present .ensures .0;
-      ceilings = c .load-present .ensures .1;
-    }
+    → let l = c .load-present .last in
+    Loaded (decoding (from-loaded c .args .session .now)) (at-days c .days-of .result) (l .1 .0) (l .1 .1 .0) (l .1 .1 .1 .0)
+loaded c = loads (from-loaded c .args .session .now) (at-days c .days-of .ensures) (c .load-present .ensures)
 
 -- ---- the answers
 
@@ -70,7 +58,6 @@ pub judge-points-spec : {M : Type 1} → statement M
 judge-points-spec =
     tie.close
     (tie.spec
-    (λ c. search needs)
     (λ c. search needs)
     (λ c. search needs)
     code-points-requires

@@ -16,13 +16,13 @@ use Rattle.c_sessions.proofs.Cutting.{Loaded, loaded-bounds, loaded-tig
 use Rattle.c_sessions.proofs.cut_present.Statement.{statement}
 use Rattle.c_sessions.proofs.cut_present.Tie as tie
 
--- ---- the places on the way, each from the next: the rises are loaded, the ranges, the days and the total; the ranges are cut; there is a schedule; it is stored
+-- ---- the places on the way, each from the next: three arrays are lent, rises and ranges are loaded, the days and the total are read; the ranges are cut; there is a schedule; it is stored
 
-abbrev at-start : tie.After-load-rises → tie.Start
-at-start c = c .before .before .before .before .before
+abbrev at-start : tie.After-ceilings → tie.Start
+at-start c = c .before .before .before .before .before .before
 
-abbrev at-rises : tie.After-load-present → tie.After-load-rises
-at-rises c = c .before .before .before .before
+abbrev at-arrays : tie.After-load-present → tie.After-ceilings
+at-arrays c = c .before
 
 abbrev at-ranges : tie.After-days-of → tie.After-load-present
 at-ranges c = c .before .before
@@ -51,7 +51,7 @@ at-stored c = c .before .before .before .before
 -- ---- what is handed over, and what was loaded
 
 abbrev from-loaded : tie.After-total-of → tie.Start
-from-loaded c = at-start (at-rises (at-ranges (at-days c)))
+from-loaded c = at-start (at-arrays (at-ranges (at-days c)))
 
 abbrev bytes : tie.After-total-of → List ℕ
 bytes c = from-loaded c .args .session .now
@@ -63,15 +63,15 @@ abbrev numbers : tie.After-total-of → CodedNumbers
 numbers c = record { days = at-days c .days-of .result; lowest = c .total-of .result .lowest; highest = c .total-of .result .highest }
 
 loaded : (c : tie.After-total-of)
-    → let p = at-ranges (at-days c) .load-present in
-    Loaded (bytes c) (p .last .1 .0) (p .last .1 .1 .0) (at-rises (at-ranges (at-days c)) .load-rises .last .1 .0) (numbers c)
+    → let l = at-ranges (at-days c) .load-present .last in
+    Loaded (bytes c) (l .1 .1 .0) (l .1 .1 .1 .0) (l .1 .0) (numbers c)
 loaded c =
     let d = at-days c in
-    let p = at-ranges d in
+    let e = at-ranges d .load-present .ensures in
     record {
-      floors = p .load-present .ensures .0;
-      ceilings = p .load-present .ensures .1;
-      rises = at-rises p .load-rises .ensures;
+      rises = e .0;
+      floors = e .1 .0;
+      ceilings = e .1 .1;
       days = d .days-of .ensures;
       lowest = c .total-of .ensures .0;
       highest = c .total-of .ensures .1;
@@ -123,7 +123,6 @@ pub cut-present-spec : {M : Type 1} → statement M
 cut-present-spec =
     tie.close
     (tie.spec
-    (λ c. search needs)
     (λ c. search needs)
     (λ c. search needs)
     (λ c. search needs)
