@@ -48,7 +48,7 @@ module _ {low high : ℤ} {f : ℕ → ℤ} {n : ℕ} {first : List ℕ} where
           short = below-more _ i (h .short) (rw e at (setpoint-within w));
         }
 
-    coding-all : (zs : List ℤ) → length zs ≡ n → ((k : ℕ) → k < n → on zs k ≡ f k) → n ≤ i → Encoded f n zs first outside out low high
+    pub coding-all : (zs : List ℤ) → length zs ≡ n → ((k : ℕ) → k < n → on zs k ≡ f k) → n ≤ i → Encoded f n zs first outside out low high
     coding-all zs e same l =
         let told = told-all (h .told) l ∙ some-same _ _ n (λ k u. ap (λ z. not (within low high z)) (sym (same k u))) in (
           told ∙ sym (rw e at (every-some (within low high) zs)),

@@ -1,23 +1,31 @@
 // Lists as a caller in C hands them over: byte strings of 2-byte little-endian elements.
 ghost use mathlib.Core.Path.{_≡_};
-ghost use mathlib.Core.Bool.{true, not};
+ghost use mathlib.Core.Bool.{true, not, _||_};
 ghost use Prim.Native.Nat.{ℕ, _+_, _*_, _≤_, _<_};
 ghost use lib.ListN.{length};
 ghost use lib.Seq.{sets};
-ghost use Rattle.limits.specs.Limits.{mostDays, lowestPoint, highestLevel, lowestSetpoint, highestSetpoint};
+ghost use Rattle.limits.specs.Limits.{mostDays, lowestPoint, highestPoint, highestLevel, lowestSetpoint, highestSetpoint};
 ghost use Rattle.theory_lists.specs.Sum.{at};
 ghost use Rattle.theory_lists.specs.Written.{written};
 ghost use Rattle.base_codes.specs.Code.{within, code, decoded, on, every, codeOrZero};
-ghost use Rattle.c_lists.specs.Lists.{pointAt, pointsIn, pointBytes, cellBytes};
+ghost use Rattle.c_lists.specs.Lists.{pointAt, pointsIn, levelAt, levelsCrossed, pointBytes, cellBytes};
 ghost use Rattle.c_lists.specs.Profiles.{haveLengths, byteCountsRefusal};
 use base_codes::code_cell;
 use base_codes::decode_short;
 use base_little_endian::i16_at;
 use base_little_endian::put_i16;
 use base_little_endian::put_u16;
+use limits::HIGHEST_POINT;
 use limits::LOWEST_POINT;
 use limits::MOST_DAYS;
 use session::Session;
+
+// What coding floors and ceilings tells: whether a point is outside its bounds, and whether a day's floor has a higher
+// code than its ceiling.
+pub struct CodedRanges {
+    pub outside: bool,
+    pub crossed: bool,
+}
 
 // Stores the first n points of a list.
 pub fn points(bytes: &[u8], n: usize, out: &mut [i16; MOST_DAYS])
@@ -47,6 +55,35 @@ pub fn code_points(bytes: &[u8], n: usize, low: i32, high: i32, out: &mut [u16; 
         k += 1;
     }
     outside
+}
+
+// The same for the floors and the ceilings of n days, which are compared on the way.
+pub fn code_ranges(
+    floors: &[u8],
+    ceilings: &[u8],
+    n: usize,
+    low: &mut [u16; MOST_DAYS],
+    high: &mut [u16; MOST_DAYS],
+) -> CodedRanges
+    requires { ⌜ (n ≤ mostDays) × (n * 2 ≤ length (now floors)) × (n * 2 ≤ length (now ceilings)) ⌝ }
+    ensures { λ r. ⌜ r .outside ≡ (not (every (within lowestPoint highestPoint) (pointsIn (now (floors .entry)) n)) || not (every (within lowestPoint highestPoint) (pointsIn (now (ceilings .entry)) n))) ⌝ }
+    ensures { λ r. ⌜ r .crossed ≡ levelsCrossed (now (floors .entry)) (now (ceilings .entry)) n ⌝ }
+    ensures { λ r. ⌜ now (low .exit) ≡ written (levelAt (now (floors .entry))) n (now (low .entry)) ⌝ }
+    ensures { λ r. ⌜ now (high .exit) ≡ written (levelAt (now (ceilings .entry))) n (now (high .entry)) ⌝ }
+{
+    let mut outside = false;
+    let mut crossed = false;
+    let mut k = 0;
+    while k < n {
+        let floor = code_cell(i16_at(floors, k * 2), LOWEST_POINT, HIGHEST_POINT);
+        let ceiling = code_cell(i16_at(ceilings, k * 2), LOWEST_POINT, HIGHEST_POINT);
+        low[k] = floor.code;
+        high[k] = ceiling.code;
+        outside = outside | (floor.outside | ceiling.outside);
+        crossed = crossed | (ceiling.code < floor.code);
+        k += 1;
+    }
+    CodedRanges { outside, crossed }
 }
 
 // Stores n points as the front of a list.

@@ -1,16 +1,20 @@
 -- Opening by a session's bytes, by what its calls gave: the arrays hold the codes of the profile's lists, and each return is `openRefusal` with `bytesOpened`.
 use mathlib.Core.Path.{_≡_, refl, ap, sym, _∙_}
+use mathlib.Core.Bool.{Bool}
 use mathlib.Core.List.{List}
-use Prim.Native.Nat.{ℕ, _-_}
+use Prim.Native.Nat.{ℕ, _-_, _≤_, _<_}
 use native.Mathlib.Omega.{arith}
 use lib.IntN.{ℤ, pos}
-use lib.ListN.{length}
+use lib.Dec.{ltb}
+use lib.ListN.{length, length-replicate}
 use borrow.Author.Tests.{eq-eqb, ne-eqb}
 use Rattle.limits.specs.Limits.{lowestPoint, highestPoint, lowestRise, highestRise}
 use Rattle.theory_lists.specs.ListOf.{length-listOf, get-listOf}
-use Rattle.theory_lists.specs.Written.{written, written-same}
+use Rattle.theory_lists.specs.Some.{some-same, some-first}
+use Rattle.theory_lists.specs.Sum.{at}
+use Rattle.theory_lists.specs.Written.{written, written-same, written-below}
 use Rattle.base_codes.specs.Code.{on, codeOrZero}
-use Rattle.theory_method.specs.Filter.{InBounds, zeros}
+use Rattle.theory_method.specs.Filter.{InBounds, firstCrossed, zeros}
 use Rattle.session.specs.Opening.{fresh, opened, refusedWith}
 use Rattle.session.specs.Showing.{boxOf}
 use Rattle.session.specs.Stages.{lengthsOf, codedProfile}
@@ -20,7 +24,7 @@ use Rattle.session.specs.declared.Session.{Session}
 use Rattle.session.proofs.Lengths as Lengths
 use Rattle.session.proofs.Checks.{CodedArrays, list-coded}
 use Rattle.session.proofs.SessionBounds.{opened-in-bounds}
-use Rattle.c_lists.specs.Lists.{pointAt, pointsIn}
+use Rattle.c_lists.specs.Lists.{pointAt, pointsIn, levelAt, levelsCrossed}
 use Rattle.c_lists.specs.Profiles.{ByteProfile, byteLengthRefusal, profileOf}
 use Rattle.c_lists.proofs.Laws.{long}
 use Rattle.c_storage.specs.Layout.{sessionBytes, encoding}
@@ -47,8 +51,8 @@ module _ (h : ByteProfile) (right : byteLengthRefusal h ≡ 0) where
       sym (Lengths.lengths-right n _ _ _ (record { some = λ e. omega (arith, z .some); few = z .few }) (length-points (h .floors) n) (length-points (h .ceilings) n) (length-points (h .rises) (n - 1)))
 
   pub lists-coded : {fs cs rs : List ℕ} {r : CodedProfile} → r ≡ codedProfile (profileOf h)
-      → (fs ≡ written (λ k. codeOrZero lowestPoint highestPoint (pointAt (h .floors) k)) (h .numbers .days) zeros)
-      × ((cs ≡ written (λ k. codeOrZero lowestPoint highestPoint (pointAt (h .ceilings) k)) (h .numbers .days) zeros)
+      → (fs ≡ written (levelAt (h .floors)) (h .numbers .days) zeros)
+      × ((cs ≡ written (levelAt (h .ceilings)) (h .numbers .days) zeros)
       × (rs ≡ written (λ k. codeOrZero lowestRise highestRise (pointAt (h .rises) k)) (h .numbers .days - 1) zeros))
       → CodedArrays (profileOf h) fs cs rs r
   lists-coded e w =
@@ -60,6 +64,18 @@ module _ (h : ByteProfile) (right : byteLengthRefusal h ≡ 0) where
         ceilings = list-coded p lengths-right lowestPoint highestPoint (p .ceilings) zeros (points-coded lowestPoint highestPoint (h .ceilings) n (w .1 .0));
         rises = list-coded p lengths-right lowestRise highestRise (p .rises) zeros (points-coded lowestRise highestRise (h .rises) (n - 1) (w .1 .1));
       }
+
+  -- the arrays hold the levels: a floor is above its ceiling in both, or in neither
+  pub lists-crossed : {fs cs : List ℕ} {n : ℕ} {x : Bool} → n ≡ h .numbers .days → x ≡ levelsCrossed (h .floors) (h .ceilings) (h .numbers .days)
+      → (fs ≡ written (levelAt (h .floors)) (h .numbers .days) zeros) × (cs ≡ written (levelAt (h .ceilings)) (h .numbers .days) zeros)
+      → x ≡ ltb (firstCrossed (at fs) (at cs) n) n
+  unfolding levelsCrossed
+  lists-crossed {fs} {cs} {n} e t w =
+      let few : n ≤ length zeros = omega (arith, long h right .few, length-replicate {A = ℕ} 512 0) in
+      let same : (b : List ℕ) (k : ℕ) → k < n → levelAt b k ≡ at (written (levelAt b) n zeros) k = λ b k u. sym (written-below (levelAt b) 0 n zeros k u few) in
+      rw (← e) at t
+      ∙ some-same (λ k. ltb (levelAt (h .ceilings) k) (levelAt (h .floors) k)) (λ k. ltb (at cs k) (at fs k)) n (λ k u. cc (same (h .ceilings) k u, same (h .floors) k u, w .0, w .1, e))
+      ∙ some-first (λ k. ltb (at cs k) (at fs k)) n
 
 -- ---- the answers
 

@@ -2,20 +2,21 @@
 ghost use mathlib.Core.Path.{_≡_};
 ghost use Prim.Native.Nat.{_-_, _/_};
 ghost use lib.ListN.{length};
-ghost use Rattle.limits.specs.Limits.{lowestPoint, highestPoint, lowestRise, highestRise};
+ghost use Rattle.limits.specs.Limits.{lowestRise, highestRise};
 ghost use Rattle.theory_lists.specs.Written.{written};
 ghost use Rattle.base_codes.specs.Code.{codeOrZero};
 ghost use Rattle.session.specs.Showing.{listTooShort, floorOn, ceilingOn};
 ghost use Rattle.session.specs.Stages.{codedProfile};
 ghost use Rattle.session_cuts.specs.Numbered.{numbered};
 ghost use Rattle.session_cutting.specs.Cutting.{afterCut};
-ghost use Rattle.c_lists.specs.Lists.{pointAt, lentPoints};
+ghost use Rattle.c_lists.specs.Lists.{pointAt, levelAt, levelsCrossed, lentPoints};
 ghost use Rattle.c_lists.specs.Profiles.{byteProfile, byteLengthRefusal, profileOf};
 ghost use Rattle.c_storage.specs.Layout.{sessionBytes, decoding};
 ghost use Rattle.c_sessions.specs.Sessions.{openRefusal, bytesOpened, answerFor, bytesFor, listFor, cutAnswer, bytesCut, changedBytes, shownOver};
 ghost use Rattle.c_sessions.specs.Stages.{Cuttable, madeOf};
 use base_codes::CodedNumbers;
 use c_lists::code_points;
+use c_lists::code_ranges;
 use c_lists::length_refusal;
 use c_storage::SESSION_BYTES;
 use c_storage::days_of;
@@ -26,9 +27,7 @@ use c_storage::spend;
 use c_storage::store_cut;
 use c_storage::store_fresh;
 use c_storage::total_of;
-use limits::HIGHEST_POINT;
 use limits::HIGHEST_RISE;
-use limits::LOWEST_POINT;
 use limits::LOWEST_RISE;
 use limits::MOST_DAYS;
 use session::CodedProfile;
@@ -41,6 +40,12 @@ use session_cutting::CutAnswer;
 
 // ---- opening
 
+// A profile's numbers as codes, or a refusal, and whether a day's floor has a higher code than its ceiling.
+struct CodedLists {
+    profile: CodedProfile,
+    crossed: bool,
+}
+
 // Codes a profile whose lists are as long as its days ask: document 01's checks 3, 4, 5.
 fn code_lists(
     numbers: Numbers,
@@ -50,18 +55,21 @@ fn code_lists(
     low: &mut [u16; MOST_DAYS],
     high: &mut [u16; MOST_DAYS],
     steps: &mut [u16; MOST_DAYS],
-) -> CodedProfile
+) -> CodedLists
     requires { ⌜ byteLengthRefusal (byteProfile numbers (now floors) (now ceilings) (now rises)) ≡ 0 ⌝ }
-    ensures { λ r. ⌜ r ≡ codedProfile (profileOf (byteProfile numbers (now (floors .entry)) (now (ceilings .entry)) (now (rises .entry)))) ⌝ }
-    ensures { λ r. ⌜ now (low .exit) ≡ written (λ k. codeOrZero lowestPoint highestPoint (pointAt (now (floors .entry)) k)) (numbers .days) (now (low .entry)) ⌝ }
-    ensures { λ r. ⌜ now (high .exit) ≡ written (λ k. codeOrZero lowestPoint highestPoint (pointAt (now (ceilings .entry)) k)) (numbers .days) (now (high .entry)) ⌝ }
+    ensures { λ r. ⌜ r .profile ≡ codedProfile (profileOf (byteProfile numbers (now (floors .entry)) (now (ceilings .entry)) (now (rises .entry)))) ⌝ }
+    ensures { λ r. ⌜ r .crossed ≡ levelsCrossed (now (floors .entry)) (now (ceilings .entry)) (numbers .days) ⌝ }
+    ensures { λ r. ⌜ now (low .exit) ≡ written (levelAt (now (floors .entry))) (numbers .days) (now (low .entry)) ⌝ }
+    ensures { λ r. ⌜ now (high .exit) ≡ written (levelAt (now (ceilings .entry))) (numbers .days) (now (high .entry)) ⌝ }
     ensures { λ r. ⌜ now (steps .exit) ≡ written (λ k. codeOrZero lowestRise highestRise (pointAt (now (rises .entry)) k)) (numbers .days - 1) (now (steps .entry)) ⌝ }
 {
     let days = numbers.days;
-    let bad_floor = code_points(floors, days, LOWEST_POINT, HIGHEST_POINT, low);
-    let bad_ceiling = code_points(ceilings, days, LOWEST_POINT, HIGHEST_POINT, high);
+    let ranges = code_ranges(floors, ceilings, days, low, high);
     let bad_rise = code_points(rises, days - 1, LOWEST_RISE, HIGHEST_RISE, steps);
-    session::code_numbers(numbers, bad_floor | bad_ceiling, bad_rise)
+    CodedLists {
+        profile: session::code_numbers(numbers, ranges.outside, bad_rise),
+        crossed: ranges.crossed,
+    }
 }
 
 // Opens such a profile into a session's bytes.
@@ -79,7 +87,7 @@ fn open_lists(
     let mut low = [0u16; MOST_DAYS];
     let mut high = [0u16; MOST_DAYS];
     let mut steps = [0u16; MOST_DAYS];
-    let coded = code_lists(
+    let lists = code_lists(
         numbers,
         floors,
         ceilings,
@@ -88,10 +96,11 @@ fn open_lists(
         &mut high,
         &mut steps,
     );
+    let coded = lists.profile;
     if coded.refusal != 0 {
         return coded.refusal;
     }
-    let opened = session::open_ranges(&mut low, &mut high, &steps, coded.numbers);
+    let opened = session::open_ranges(&mut low, &mut high, &steps, coded.numbers, lists.crossed);
     if opened.refusal != 0 {
         return opened.refusal;
     }

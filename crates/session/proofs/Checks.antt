@@ -25,6 +25,7 @@ use Rattle.session.specs.Profile.{Profile}
 use Rattle.session.specs.Opening.{boxIn, narrowed, numbersOf, openedWith, crossed, earlyOpening, opened, refusedWith, codes, badCount, badLength, badPoint, badRise, badTotal, badRange}
 use Rattle.session.specs.Stages.{lengthsOf, codedNumbers, notCoded, codedWith, codedProfile, codedList, codesCrossed, noRanges, rangesWith, rangesOpened, sessionWith, openedCodes}
 use Rattle.session.specs.declared.CodedProfile.{CodedProfile}
+use Rattle.session.proofs.Stages.{crossed-told}
 use Rattle.session.proofs.Entered.{Entered, Sized, sized, Unrefused, passed, codes-bounds, or-true, floor-less, ceiling-less, lowest-less, highest-less}
 
 -- ---- a floor above its ceiling
@@ -133,12 +134,12 @@ module _ (p : Profile) where
     unfolding codedProfile
     numbers-coded = rw (whole e .0, whole e .1)
 
-    -- whether a floor, a ceiling and a rise are outside their bounds is known
-    pub lists-told : {a b c : Bool} {r : CodedProfile} → r ≡ codedWith (numbersOf p) (a || b) c → (a ≡ not (every (within lowestPoint highestPoint) (p .floors)))
-        × (b ≡ not (every (within lowestPoint highestPoint) (p .ceilings))) × (c ≡ badRise p) → r ≡ codedProfile p
-    lists-told {a} {b} {c} h t =
-        let point : (a || b) ≡ badPoint p = cc (t .0, t .1, not-both (every (within lowestPoint highestPoint) (p .floors)) (every (within lowestPoint highestPoint) (p .ceilings))) in
-        h ∙ (rw (point, t .2) numbers-coded)
+    -- whether a floor or a ceiling is outside its bounds is known, and whether a rise is
+    pub lists-told : {point rise : Bool} {r : CodedProfile} → r ≡ codedWith (numbersOf p) point rise
+        → point ≡ (not (every (within lowestPoint highestPoint) (p .floors)) || not (every (within lowestPoint highestPoint) (p .ceilings))) → rise ≡ badRise p → r ≡ codedProfile p
+    lists-told {point} h e t =
+        let told : point ≡ badPoint p = e ∙ sym (not-both (every (within lowestPoint highestPoint) (p .floors)) (every (within lowestPoint highestPoint) (p .ceilings))) in
+        h ∙ (rw (told, t) numbers-coded)
 
   -- the checks before 8, by what 1 to 5 say
   pub early : earlyOpening p ≡ cond (eqb (codedProfile p .refusal) 0) (cond (badRange p) 6 0) (codedProfile p .refusal)
@@ -204,16 +205,19 @@ module _ {p : Profile} {fs cs rs : List ℕ} {r : CodedProfile} (d : CodedArrays
         let n = ap (λ x. x .numbers) (d .answer) ∙ passes .1 in
         rw (f, c, s, n)
 
+    pub days-kept : r .numbers .days ≡ p .days
+    days-kept = ap (λ b. b .days) same
+
     pub in-bounds : InBounds (boxed fs cs rs (r .numbers))
     in-bounds = rw same (codes-bounds p (passed p (passes .0)))
 
     pub all-opened : openedCodes (boxed fs cs rs (r .numbers)) ≡ opened p
     all-opened = rw same (codes-opened p (passes .0))
 
-    module _ {x : Bool} (asked : x ≡ codesCrossed fs cs (r .numbers .days) (r .numbers .lowest) (r .numbers .highest)) where
+    module _ {days x : Bool} (told : days ≡ ltb (firstCrossed (at fs) (at cs) (r .numbers .days)) (r .numbers .days)) (asked : x ≡ (days || ltb (r .numbers .highest) (r .numbers .lowest))) where
       early-range : earlyOpening p ≡ cond x 6 0
       early-range =
-          let e = asked ∙ ap (λ b. codesCrossed (b .floors) (b .ceilings) (b .days) (b .lowest) (b .highest)) same in
+          let e = crossed-told fs cs (r .numbers .days) (r .numbers .lowest) (r .numbers .highest) told asked ∙ ap (λ b. codesCrossed (b .floors) (b .ceilings) (b .days) (b .lowest) (b .highest)) same in
           rw (early p, ← d .answer, eq-eqb (r .refusal) 0 h, e, ← range-test p (passed p (passes .0)))
 
       pub early-crossed : x ≡ true → 6 ≡ earlyOpening p

@@ -1,19 +1,21 @@
 -- The stages of opening by what their tests found: 3 to 5 with the numbers as codes, then 6, then 8 or the ranges that tightening gives.
 use mathlib.Core.Path.{_≡_, ap, _∙_}
-use mathlib.Core.Bool.{Bool, true, false}
+use mathlib.Core.Bool.{Bool, true, false, _||_}
 use mathlib.Core.List.{List}
 use Prim.Native.Nat.{ℕ}
 use lib.IntN.{ℤ}
+use lib.Dec.{ltb}
 use borrow.Author.Tests.{eq-eqb, ne-eqb}
 use mir.Syntax.{w32}
 use mir.Val.{SFits}
 use Rattle.limits.specs.Limits.{lowestTotal, highestTotal}
+use Rattle.theory_lists.specs.Sum.{at}
 use Rattle.base_codes.specs.Code.{within, code, coded}
 use Rattle.base_codes.specs.declared.Coded.{Coded}
 use Rattle.base_codes.specs.declared.Coded.the-variants.{Code, Outside}
 use Rattle.base_codes.proofs.Laws.{coded-code, coded-outside}
 use Rattle.base_codes.proofs.Casts.{seen, coded-seen}
-use Rattle.theory_method.specs.Filter.{Box, Tight, tightened}
+use Rattle.theory_method.specs.Filter.{Box, Tight, tightened, firstCrossed}
 use Rattle.session.specs.Stages.{notCoded, codedWith, codesCrossed, RangesOpened, noRanges, rangesWith, rangesOpened, openedCodes}
 use Rattle.session.specs.Opening.{fresh, refusedWith}
 use Rattle.session.specs.declared.Numbers.{Numbers}
@@ -69,6 +71,10 @@ module _ (m : Numbers) {point rise : Bool} (d : Inside point rise) {low : Coded}
 
 -- ---- 6 and 8
 
+-- whether a floor is above its ceiling, from what is known of the days
+pub crossed-told : (fs cs : List ℕ) (n L U : ℕ) {days x : Bool} → days ≡ ltb (firstCrossed (at fs) (at cs) n) n → x ≡ (days || ltb U L) → x ≡ codesCrossed fs cs n L U
+crossed-told fs cs n L U e asked = asked ∙ ap (λ b. b || ltb U L) e
+
 -- what `open_ranges` gives, with its arrays
 abbrev pub withArrays : OpenedRanges → List ℕ → List ℕ → RangesOpened
 withArrays r fs cs = record { refusal = r .refusal; floors = fs; ceilings = cs; lowest = r .lowest; highest = r .highest }
@@ -76,15 +82,18 @@ withArrays r fs cs = record { refusal = r .refusal; floors = fs; ceilings = cs; 
 no-ranges : (number : ℕ) {r : OpenedRanges} (fs cs : List ℕ) → r ≡ record { refusal = number; lowest = 0; highest = 0 } → withArrays r fs cs ≡ noRanges number fs cs
 no-ranges number fs cs e = ap (λ x. withArrays x fs cs) e
 
-module _ (b : Box) {x : Bool} (asked : x ≡ codesCrossed (b .floors) (b .ceilings) (b .days) (b .lowest) (b .highest)) where
+module _ (b : Box) {days x : Bool} (told : days ≡ ltb (firstCrossed (at (b .floors)) (at (b .ceilings)) (b .days)) (b .days)) (asked : x ≡ (days || ltb (b .highest) (b .lowest))) where
+  judged : x ≡ codesCrossed (b .floors) (b .ceilings) (b .days) (b .lowest) (b .highest)
+  judged = crossed-told (b .floors) (b .ceilings) (b .days) (b .lowest) (b .highest) told asked
+
   pub ranges-crossed : {r : OpenedRanges} → x ≡ true → r ≡ record { refusal = 6; lowest = 0; highest = 0 } → withArrays r (b .floors) (b .ceilings) ≡ rangesOpened b
   unfolding rangesOpened
-  ranges-crossed h n = rw (← asked, h) (no-ranges 6 (b .floors) (b .ceilings) n)
+  ranges-crossed h n = rw (← judged, h) (no-ranges 6 (b .floors) (b .ceilings) n)
 
   module _ (h : x ≡ false) {t : Tight} (e : t ≡ tightened b) where
     tight : rangesWith t ≡ rangesOpened b
     unfolding rangesOpened
-    tight = rw (← asked, h, e)
+    tight = rw (← judged, h, e)
 
     pub ranges-found : t .found ≡ true → record { refusal = 0; floors = t .floors; ceilings = t .ceilings; lowest = t .lowest; highest = t .highest } ≡ rangesOpened b
     ranges-found f = (rw f at tight)

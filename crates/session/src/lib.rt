@@ -1,13 +1,15 @@
 // A session: document 01's profile, opened, with its ranges, for one batch.
 ghost use mathlib.Core.Path.{_≡_};
-ghost use Prim.Native.Nat.{_≤_};
+ghost use mathlib.Core.Bool.{_||_};
+ghost use lib.Dec.{ltb};
 ghost use lib.ListN.{length};
-ghost use Rattle.limits.specs.Limits.{mostDays, lowestPoint, highestPoint, lowestRise, highestRise};
+ghost use Rattle.limits.specs.Limits.{lowestPoint, highestPoint, lowestRise, highestRise};
+ghost use Rattle.theory_lists.specs.Sum.{at};
 ghost use Rattle.theory_lists.specs.Lent.{lentList};
-ghost use Rattle.theory_method.specs.Filter.{InBounds};
+ghost use Rattle.theory_method.specs.Filter.{InBounds, firstCrossed};
 ghost use Rattle.tighten_filtering.specs.Boxed.{boxed};
 ghost use Rattle.session.specs.Opening.{opened, earlyOpening, refusedWith, profile};
-ghost use Rattle.session.specs.Stages.{lengthRefusal, lengthsOf, notCoded, codedWith, codedList, codedProfile, codesCrossed, rangesOpened, openedCodes};
+ghost use Rattle.session.specs.Stages.{lengthRefusal, lengthsOf, notCoded, codedWith, codedList, codedProfile, rangesOpened, openedCodes};
 ghost use Rattle.session.specs.Showing.{SessionInBounds, shown, listTooShort, floorOn, ceilingOn};
 use base_codes::Coded;
 use base_codes::CodedNumbers;
@@ -201,16 +203,11 @@ fn code_profile(
     code_numbers(numbers, bad_floor | bad_ceiling, bad_rise)
 }
 
-// 6: whether a floor is above its ceiling, of a day or the total.
-fn is_range_crossed(
-    floors: &[u16; MOST_DAYS],
-    ceilings: &[u16; MOST_DAYS],
-    numbers: CodedNumbers,
-) -> bool
-    requires { ⌜ numbers .days ≤ mostDays ⌝ }
-    ensures { λ r. ⌜ r ≡ codesCrossed (now (floors .entry)) (now (ceilings .entry)) (numbers .days) (numbers .lowest) (numbers .highest) ⌝ }
+// 6: whether a floor is above its ceiling, of a day, which the caller tells, or of the total.
+fn is_range_crossed(crossed: bool, numbers: CodedNumbers) -> bool
+    ensures { λ r. ⌜ r ≡ (crossed || ltb (numbers .highest) (numbers .lowest)) ⌝ }
 {
-    tighten_carry::is_crossed(floors, ceilings, numbers.days) | (numbers.highest < numbers.lowest)
+    crossed | (numbers.highest < numbers.lowest)
 }
 
 fn no_ranges(number: u8) -> OpenedRanges
@@ -223,17 +220,19 @@ fn no_ranges(number: u8) -> OpenedRanges
     }
 }
 
-// Opens ranges that have passed the checks on lengths and bounds: 6, which leaves them, then 8, which leaves them as `tighten` does.
+// Opens ranges that have passed the checks on lengths and bounds: 6, which leaves them, then 8, which leaves them as
+// `tighten` does. `crossed` is whether a day's floor is above its ceiling.
 pub fn open_ranges(
     floors: &mut [u16; MOST_DAYS],
     ceilings: &mut [u16; MOST_DAYS],
     rises: &[u16; MOST_DAYS],
     numbers: CodedNumbers,
+    crossed: bool,
 ) -> OpenedRanges
-    requires { ⌜ InBounds (boxed (now floors) (now ceilings) (now rises) numbers) ⌝ }
+    requires { ⌜ InBounds (boxed (now floors) (now ceilings) (now rises) numbers) × (crossed ≡ ltb (firstCrossed (at (now floors)) (at (now ceilings)) (numbers .days)) (numbers .days)) ⌝ }
     ensures { λ r. ⌜ record { refusal = r .refusal; floors = now (floors .exit); ceilings = now (ceilings .exit); lowest = r .lowest; highest = r .highest } ≡ rangesOpened (boxed (now (floors .entry)) (now (ceilings .entry)) (now (rises .entry)) numbers) ⌝ }
 {
-    if is_range_crossed(floors, ceilings, numbers) {
+    if is_range_crossed(crossed, numbers) {
         return no_ranges(6);
     }
     let t = tighten_filtering::tighten(floors, ceilings, rises, numbers);
@@ -259,7 +258,8 @@ fn open_codes(
 {
     let mut low = floors;
     let mut high = ceilings;
-    let opened = open_ranges(&mut low, &mut high, &rises, numbers);
+    let crossed = tighten_carry::is_crossed(&low, &high, numbers.days);
+    let opened = open_ranges(&mut low, &mut high, &rises, numbers, crossed);
     if opened.refusal != 0 {
         return refused(opened.refusal);
     }
@@ -300,7 +300,8 @@ pub fn early_refusal(numbers: Numbers, floors: &[i16], ceilings: &[i16], rises: 
     if coded.refusal != 0 {
         return coded.refusal;
     }
-    if is_range_crossed(&low, &high, coded.numbers) {
+    let crossed = tighten_carry::is_crossed(&low, &high, coded.numbers.days);
+    if is_range_crossed(crossed, coded.numbers) {
         return 6;
     }
     0

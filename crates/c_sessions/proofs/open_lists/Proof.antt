@@ -8,10 +8,10 @@ use Rattle.tighten_filtering.specs.Boxed.{boxed}
 use Rattle.session.specs.Opening.{fresh, opened}
 use Rattle.session.specs.declared.Opened.{Opened}
 use Rattle.session.specs.declared.Ranges.{Ranges}
-use Rattle.session.proofs.Checks.{CodedArrays, all-refused, in-bounds, all-opened}
+use Rattle.session.proofs.Checks.{CodedArrays, all-refused, days-kept, in-bounds, all-opened}
 use Rattle.session.proofs.Stages.{session-refused, session-fresh}
 use Rattle.c_lists.specs.Profiles.{ByteProfile, byteProfile, profileOf}
-use Rattle.c_sessions.proofs.Opening.{lists-coded, open-refused, open-stored, fresh-in-bounds}
+use Rattle.c_sessions.proofs.Opening.{lists-coded, lists-crossed, open-refused, open-stored, fresh-in-bounds}
 use Rattle.c_sessions.proofs.open_lists.Statement.{statement}
 use Rattle.c_sessions.proofs.open_lists.Tie as tie
 
@@ -24,7 +24,7 @@ abbrev from-coded : tie.After-code-lists → tie.Start
 from-coded c = at-start (c .before .before .before .before)
 
 abbrev at-coded : tie.Else1 → tie.After-code-lists
-at-coded c = c .before .before
+at-coded c = c .before .before .before
 
 abbrev at-passed : tie.After-open-ranges → tie.Else1
 at-passed c = c .before .before .before .before
@@ -48,19 +48,19 @@ steps c = c .code-lists .last .1 .1 .1 .1 .1 .1 .0
 
 coded : (c : tie.After-code-lists)
     → let l = c .code-lists .last .1 .1 .1 .1 in
-    CodedArrays (profileOf (handed (from-coded c))) (l .0) (l .1 .0) (steps c) (c .code-lists .result)
-coded c = let e = c .code-lists .ensures in lists-coded (handed (from-coded c)) (from-coded c .pre .1) (e .0) (e .1)
+    CodedArrays (profileOf (handed (from-coded c))) (l .0) (l .1 .0) (steps c) (c .code-lists .result .profile)
+coded c = let e = c .code-lists .ensures in lists-coded (handed (from-coded c)) (from-coded c .pre .1) (e .0) (e .1 .1)
 
 -- what is opened
 abbrev codes : tie.After-code-lists → Box
-codes c = let l = c .code-lists .last .1 .1 .1 .1 in boxed (l .0) (l .1 .0) (steps c) (c .code-lists .result .numbers)
+codes c = let l = c .code-lists .last .1 .1 .1 .1 in boxed (l .0) (l .1 .0) (steps c) (c .code-lists .result .profile .numbers)
 
 abbrev ranges : tie.After-open-ranges → Ranges
 ranges c = let o = c .open-ranges in record { floors = o .last .0; ceilings = o .last .1 .0; lowest = o .result .lowest; highest = o .result .highest }
 
 session-opened : (c : tie.Else2)
     → let k = at-coded (at-passed (at-opened c)) in
-    let s = fresh (k .code-lists .result .numbers .days) (steps k) (ranges (at-opened c)) in
+    let s = fresh (k .code-lists .result .profile .numbers .days) (steps k) (ranges (at-opened c)) in
     _≡_ {A = Opened} (record { refusal = 0; session = s }) (opened (profileOf (handed (from-coded k))))
 session-opened c =
     let o = at-opened c in
@@ -71,10 +71,14 @@ session-opened c =
 -- ---- the needs
 
 returns : tie.Need-returns
-returns c = let k = c .before .before in open-refused _ _ (from-coded k .pre .0) (from-coded k .pre .1) (c .if1 .taken) (all-refused (coded k) (c .if1 .taken))
+returns c = let k = c .before .before .before in open-refused _ _ (from-coded k .pre .0) (from-coded k .pre .1) (c .if1 .taken) (all-refused (coded k) (c .if1 .taken))
 
 open-ranges-requires : tie.Need-open-ranges-requires
-open-ranges-requires c κs = let p = c .before .before .before in in-bounds (coded (at-coded p)) (p .if1 .left)
+open-ranges-requires c κs =
+    let p = c .before .before .before in
+    let k = at-coded p in
+    let e = k .code-lists .ensures in
+    (in-bounds (coded k) (p .if1 .left), lists-crossed (handed (from-coded k)) (from-coded k .pre .1) (days-kept (coded k) (p .if1 .left)) (e .1 .0) (e .1 .1 .0, e .1 .1 .1 .0))
 
 returns-2 : tie.Need-returns-2
 returns-2 c =

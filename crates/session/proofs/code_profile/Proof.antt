@@ -69,7 +69,7 @@ returns-2 c =
     let floors = list-coded p (right d) lowestPoint highestPoint (p .floors) (now (a .low)) (f .code-all .ensures .1 .0) in
     let ceilings = list-coded p (right d) lowestPoint highestPoint (p .ceilings) (now (a .high)) (h .code-all2 .ensures .1 .0) in
     let rises = list-coded p (right d) lowestRise highestRise (p .rises) (now (a .steps)) (r .code-all3 .ensures .1 .0) in
-    (lists-told p (right d) (c .code-numbers .ensures) (f .code-all .ensures .0, h .code-all2 .ensures .0, r .code-all3 .ensures .0), (floors, (ceilings, rises)))
+    (lists-told p (right d) (c .code-numbers .ensures) (cc (f .code-all .ensures .0, h .code-all2 .ensures .0)) (r .code-all3 .ensures .0), (floors, (ceilings, rises)))
 
 pub code-profile-spec : {M : Type 1} → statement M
 code-profile-spec =

@@ -22,7 +22,7 @@ coded : (c : tie.After-code-profile)
 coded c = let e = c .code-profile .ensures in record { answer = e .0; floors = e .1 .0; ceilings = e .1 .1 .0; rises = e .1 .1 .1 }
 
 -- the codes of a profile that 1 to 5 let pass
-abbrev at-passed : tie.After-is-range-crossed → tie.Else1
+abbrev at-passed : tie.After-is-crossed → tie.Else1
 at-passed c = c .before .before .before
 
 abbrev at-coded : tie.Else1 → tie.After-code-profile
@@ -33,14 +33,20 @@ at-coded c = c .before .before
 returns : tie.Need-returns
 returns c = early-refused (coded (c .before .before)) (c .if1 .taken)
 
-is-range-crossed-requires : tie.Need-is-range-crossed-requires
-is-range-crossed-requires c κs = let e = c .before .before in in-bounds (coded (at-coded e)) (e .if1 .left) .most
+is-crossed-requires : tie.Need-is-crossed-requires
+is-crossed-requires c κs = let e = c .before .before in in-bounds (coded (at-coded e)) (e .if1 .left) .most
 
 returns-2 : tie.Need-returns-2
-returns-2 c = let e = at-passed (c .before) in early-crossed (coded (at-coded e)) (e .if1 .left) (c .before .is-range-crossed .ensures) (c .if2 .taken)
+returns-2 c =
+    let k = c .before .before in
+    let e = at-passed k in
+    early-crossed (coded (at-coded e)) (e .if1 .left) (k .is-crossed .ensures) (c .before .is-range-crossed .ensures) (c .if2 .taken)
 
 returns-3 : tie.Need-returns-3
-returns-3 c = let e = at-passed (c .before) in early-clear (coded (at-coded e)) (e .if1 .left) (c .before .is-range-crossed .ensures) (c .if2 .left)
+returns-3 c =
+    let k = c .before .before in
+    let e = at-passed k in
+    early-clear (coded (at-coded e)) (e .if1 .left) (k .is-crossed .ensures) (c .before .is-range-crossed .ensures) (c .if2 .left)
 
 pub early-refusal-spec : {M : Type 1} → statement M
-early-refusal-spec = tie.close (tie.spec (λ c. search needs) returns is-range-crossed-requires returns-2 returns-3)
+early-refusal-spec = tie.close (tie.spec (λ c. search needs) returns is-crossed-requires (λ c. search needs) returns-2 returns-3)

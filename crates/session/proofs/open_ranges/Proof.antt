@@ -8,7 +8,7 @@ use Rattle.session.proofs.open_ranges.Tie as tie
 
 -- the places on the way: 6 has been asked, and passed
 abbrev at-start : tie.After-is-range-crossed → tie.Start
-at-start c = c .before .before .before
+at-start c = c .before
 
 abbrev at-passed : tie.After-tighten → tie.Else1
 at-passed c = c .before .before .before
@@ -23,18 +23,20 @@ gave c =
     record { found = t .result .found; floors = t .last .0; ceilings = t .last .1 .0; lowest = t .result .lowest; highest = t .result .highest }
 
 returns : tie.Need-returns
-returns c = let q = c .before .before in ranges-crossed (handed q) (q .is-range-crossed .ensures) (c .before .if1 .taken) (c .no-ranges .ensures)
+returns c = let q = c .before .before in ranges-crossed (handed q) (at-start q .pre .1) (q .is-range-crossed .ensures) (c .before .if1 .taken) (c .no-ranges .ensures)
 
 returns-2 : tie.Need-returns-2
 returns-2 c =
     let p = at-passed (c .before) in
-    ranges-found (handed (p .before)) (p .before .is-range-crossed .ensures) (p .if1 .left) {t = gave (c .before)} (c .before .tighten .ensures) (c .if2 .taken)
+    let q = p .before in
+    ranges-found (handed q) (at-start q .pre .1) (q .is-range-crossed .ensures) (p .if1 .left) {t = gave (c .before)} (c .before .tighten .ensures) (c .if2 .taken)
 
 returns-3 : tie.Need-returns-3
 returns-3 c =
     let e = c .before in
     let p = at-passed (e .before) in
-    ranges-none (handed (p .before)) (p .before .is-range-crossed .ensures) (p .if1 .left) {t = gave (e .before)} (e .before .tighten .ensures) (e .if2 .left) (c .no-ranges2 .ensures)
+    let q = p .before in
+    ranges-none (handed q) (at-start q .pre .1) (q .is-range-crossed .ensures) (p .if1 .left) {t = gave (e .before)} (e .before .tighten .ensures) (e .if2 .left) (c .no-ranges2 .ensures)
 
 pub open-ranges-spec : {M : Type 1} → statement M
 open-ranges-spec =
