@@ -12,18 +12,24 @@ use limits::HIGHEST_LEVEL;
 use limits::LEVEL_OFFSET;
 use limits::MOST_DAYS;
 
-// The sum of the first n levels.
+fn word(x: u16) -> u32
+    ensures { λ r. ⌜ (r ≡ x) × (r < 65536) ⌝ }
+{
+    x as u32
+}
+
+// The sum of the first n levels. 32 bits hold it.
 pub fn sum(levels: &[u16; MOST_DAYS], n: usize) -> usize
     requires { ⌜ n ≤ mostDays ⌝ }
     ensures { λ r. ⌜ (r ≡ sum all n (at (now (levels .entry)))) × (r ≤ n * 65535) ⌝ }
 {
-    let mut total = 0;
+    let mut total = 0u32;
     let mut count = 0;
     while count < n {
-        total += wide(levels[count]);
+        total += word(levels[count]);
         count += 1;
     }
-    total
+    total as usize
 }
 
 // The sum of n days' levels, given, as a total is held.
