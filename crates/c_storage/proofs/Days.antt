@@ -1,20 +1,27 @@
--- The loop that lists days as bytes where a test holds: what holds at its head, what starts it, what a turn does, and its way out.
+-- The loop that lists days as bytes where a test holds, and the one that stores their ranges too: what holds at the head, what starts it, what a turn does,
+-- and the way out.
 use Prim.Native.Nat.{ℕ, zero, suc, _+_, _*_, _≤_, _<_}
-use mathlib.Core.Path.{_≡_, refl, ap, _∙_}
-use mathlib.Core.Bool.{Bool, true, false, cond}
+use mathlib.Core.Path.{_≡_, refl, sym, ap, _∙_}
+use mathlib.Core.Bool.{Bool, true, false, cond, not, _||_}
 use mathlib.Core.List.{List, [], _∷_, _++_}
 use native.Mathlib.Numerals.{add-one}
 use native.Mathlib.Omega.{arith}
+use lib.Dec.{eqb}
 use lib.ListN.{length, length-append, List·getD-append}
 use lib.Seq.{sets, length-sets, getD-at}
+use borrow.Author.Tests.{eqb-true, not-false}
+use Rattle.theory_lists.specs.Checks.{or-false}
 use Rattle.theory_lists.specs.Sum.{at}
 use Rattle.theory_lists.specs.Front.{inFront}
-use Rattle.theory_lists.specs.Rows.{rows, rows-add, rows-same, sets-append, front-sets}
-use Rattle.base_little_endian.specs.Fields.{u16Bytes}
+use Rattle.theory_lists.specs.Part.{stored-there, stores-apart}
+use Rattle.theory_lists.specs.Rows.{rows, rows-add, rows-same, sets-append, stored-after, front-sets}
+use Rattle.base_little_endian.specs.Fields.{Bytes, u16At, u16Bytes}
+use Rattle.base_little_endian.proofs.Laws.{u16-length, u16-part}
 use Rattle.session_changed.specs.Changes.{daysWhere}
 use Rattle.session_changed.proofs.Days.{days-few, days-more}
 use Rattle.c_lists.specs.Lists.{cellBytes}
-use Rattle.c_storage.specs.Layout.{dayCells}
+use Rattle.c_storage.specs.Layout.{cellsDiffer, dayCells}
+use Rattle.c_storage.proofs.Laws.{field-before, field-past}
 use Rattle.c_storage.proofs.Lengths.{cells-length}
 
 pub days-length : (ds : List ℕ) → length (dayCells ds) ≡ length ds * 2
@@ -92,3 +99,76 @@ module _ {test : ℕ → Bool} {n : ℕ} {l : List ℕ} where
       let q : day ≡ n = omega (arith, h .most) in
       let few = days-few test n in
       (rw q at (h .counted), rw q at (h .made) ∙ front-sets (dayCells (daysWhere test n)) l (omega (arith, days-length (daysWhere test n))))
+
+-- ---- the ranges of the days below this one are stored in b, and the days whose cells that changed are listed
+
+abbrev pub ranged : List ℕ → (ℕ → ℕ) → (ℕ → ℕ) → ℕ → List ℕ
+ranged b f g k = sets (sets b 3092 (cellBytes f k)) 4116 (cellBytes g k)
+
+pub record Ranged (b : List ℕ) (f g : ℕ → ℕ) (n day : ℕ) (l : List ℕ) (count : ℕ) (changed out : List ℕ) : Type 0 where
+  pub listed : Listed (λ k. cellsDiffer b k (f k) (g k)) n day l count changed
+  pub long : length out ≡ length b
+  pub stored : out ≡ ranged b f g day
+
+-- a turn stores the cells of its day where they differ from those that stand there
+pub record Put (b : List ℕ) (f g : ℕ → ℕ) (n day : ℕ) (l : List ℕ) (count : ℕ) (changed out : List ℕ) (count′ : ℕ) (changed′ out′ : List ℕ) : Type 0 where
+  pub head : Ranged b f g n day l count changed out
+  pub more : day < n
+  pub most : n ≤ 512
+  pub counted : count′ ≡ cond (cellsDiffer out day (f day) (g day)) (count + 1) count
+  pub noted : changed′ ≡ cond (cellsDiffer out day (f day) (g day)) (sets changed (count * 2) (u16Bytes day)) changed
+  pub put : out′ ≡ sets (sets out (3092 + day * 2) (u16Bytes (f day))) (4116 + day * 2) (u16Bytes (g day))
+
+module _ {b : List ℕ} {f g : ℕ → ℕ} {n : ℕ} {l : List ℕ} where
+  pub ranged-none : Ranged b f g n 0 l 0 l b
+  unfolding cellBytes rows
+  ranged-none = record { listed = listed-none; long = refl; stored = refl }
+
+  module _ {day count count′ : ℕ} {changed changed′ out out′ : List ℕ} (p : Put b f g n day l count changed out count′ changed′ out′) where
+    -- no turn has reached the cells of its day
+    low-left : u16At out (3092 + day * 2) ≡ u16At b (3092 + day * 2)
+    low-left =
+        let w = cells-length f day in
+        rw (p .head .stored) (field-before (cellBytes g day) (sets b 3092 (cellBytes f day)) 4116 (3092 + day * 2) (omega (arith, p .more, p .most)) ∙ field-past (cellBytes f day) b 3092 (3092 + day * 2) (omega arith))
+
+    high-left : u16At out (4116 + day * 2) ≡ u16At b (4116 + day * 2)
+    high-left =
+        let v = cells-length f day in
+        let w = cells-length g day in
+        rw (p .head .stored)
+        (field-past (cellBytes g day) (sets b 3092 (cellBytes f day)) 4116 (4116 + day * 2) (omega arith) ∙ field-past (cellBytes f day) b 3092 (4116 + day * 2) (omega (arith, p .more, p .most)))
+
+    same : cellsDiffer out day (f day) (g day) ≡ cellsDiffer b day (f day) (g day)
+    same = λ i. not (eqb (low-left i) (f day)) || not (eqb (high-left i) (g day))
+
+    row : (h : ℕ → ℕ) (m : List ℕ) (i : ℕ) → sets (sets m i (cellBytes h day)) (i + day * 2) (u16Bytes (h day)) ≡ sets m i (cellBytes h (day + 1))
+    unfolding cellBytes
+    row h m i = stored-after m i (day * 2) (cellBytes h day) (u16Bytes (h day)) (cells-length h day) refl refl ∙ ap (sets m i) (sym (rows-add (λ k. u16Bytes (h k)) day))
+
+    next : out′ ≡ ranged b f g (day + 1)
+    next =
+        let x : List ℕ = u16Bytes (f day) in
+        let apart : sets (ranged b f g day) (3092 + day * 2) x ≡ sets (sets (sets b 3092 (cellBytes f day)) (3092 + day * 2) x) 4116 (cellBytes g day) =
+        stores-apart x (cellBytes g day) (sets b 3092 (cellBytes f day)) (3092 + day * 2) 4116 (omega (arith, u16-length (f day), p .more, p .most)) in
+        p .put ∙ rw (p .head .stored, apart, row f b 3092) (row g (sets b 3092 (cellBytes f (day + 1))) 4116)
+
+    pub ranged-more : Ranged b f g n (day + 1) l count′ changed′ out′
+    ranged-more =
+        record {
+          listed = listed-more (record { head = p .head .listed; more = p .more; counted = rw same at (p .counted); listed = rw same at (p .noted) });
+          long = ap length (p .put) ∙ length-sets (sets out (3092 + day * 2) (u16Bytes (f day))) (4116 + day * 2) (u16Bytes (g day)) ∙ length-sets out (3092 + day * 2) (u16Bytes (f day)) ∙ p .head .long;
+          stored = next;
+        }
+
+  pub ranged-all : {day count : ℕ} {changed out : List ℕ} → Ranged b f g n day l count changed out → n ≤ day → out ≡ ranged b f g n
+  ranged-all {day} h u = let q : day ≡ n = omega (arith, h .listed .most) in rw q at (h .stored)
+
+-- cells that do not differ have those bytes
+pub cells-there : {b : List ℕ} → Bytes b → (k floor ceiling : ℕ) → cellsDiffer b k floor ceiling ≡ false → b ≡ sets (sets b (3092 + k * 2) (u16Bytes floor)) (4116 + k * 2) (u16Bytes ceiling)
+cells-there {b} bytes k floor ceiling e =
+    let low : ℕ = u16At b (3092 + k * 2) in
+    let high : ℕ = u16At b (4116 + k * 2) in
+    let both = or-false (not (eqb low floor)) (not (eqb high ceiling)) e in
+    let lower : low ≡ floor = eqb-true low floor (not-false (eqb low floor) (both .0)) in
+    let upper : high ≡ ceiling = eqb-true high ceiling (not-false (eqb high ceiling) (both .1)) in
+    rw (← lower, ← upper, stored-there (u16Bytes low) b (3092 + k * 2) (u16-part bytes (3092 + k * 2))) (sym (stored-there (u16Bytes high) b (4116 + k * 2) (u16-part bytes (4116 + k * 2))))

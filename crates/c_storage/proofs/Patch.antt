@@ -1,9 +1,10 @@
 -- What a cut makes of a session's bytes, store by store.
 use Prim.Native.Nat.{ℕ, _+_, _*_, _≤_, _<_, min}
 use mathlib.Core.Path.{_≡_, refl, ap, _∙_}
-use mathlib.Core.Bool.{Bool, true, cond}
+use mathlib.Core.Bool.{Bool, true, cond, not, _||_}
 use mathlib.Core.List.{List}
 use native.Mathlib.Omega.{arith}
+use lib.Dec.{eqb}
 use lib.Seq.{sets}
 use Rattle.theory_lists.specs.Sum.{at}
 use Rattle.theory_lists.specs.Rows.{rows-same}
@@ -11,7 +12,8 @@ use Rattle.base_little_endian.specs.Fields.{u16At, u16Bytes}
 use Rattle.base_little_endian.proofs.Laws.{u16-length}
 use Rattle.session.specs.declared.Ranges.{Ranges}
 use Rattle.c_lists.specs.Lists.{cellBytes}
-use Rattle.c_storage.specs.Layout.{totalBytes, decoding, patched}
+use Rattle.c_storage.specs.Layout.{totalBytes, decoding, patched, cellsDiffer, changedIn}
+use Rattle.c_storage.proofs.Days.{days-same}
 use Rattle.c_storage.proofs.Held.{days-few, opened-floor-held, opened-ceiling-held}
 use Rattle.c_storage.proofs.Laws.{field-before, field-past}
 use Rattle.c_storage.proofs.Lengths.{totals-length}
@@ -48,6 +50,17 @@ module _ {b out : List ℕ} {spent : Bool} {lowest highest : ℕ} (s : Summed b 
       rw (s .summed, s .marked)
       (field-past (totalBytes lowest highest) (sets b 2 (u16Bytes (cond spent 1 0))) 12 k (omega (arith, totals-length lowest highest))
       ∙ field-past (u16Bytes (cond spent 1 0)) b 2 k (omega (arith, u16-length (cond spent 1 0))))
+
+  -- and so the days whose cells change are those of b
+  pub summed-changed : (fs cs : List ℕ) (n : ℕ) → changedIn out fs cs n ≡ changedIn b fs cs n
+  unfolding changedIn
+  summed-changed fs cs n = days-same (λ k. cellsDiffer out k (at fs k) (at cs k)) (λ k. cellsDiffer b k (at fs k) (at cs k)) n same
+    where
+      same : (k : ℕ) → k < n → cellsDiffer out k (at fs k) (at cs k) ≡ cellsDiffer b k (at fs k) (at cs k)
+      same k h =
+          let low = summed-left (3092 + k * 2) (omega arith) in
+          let high = summed-left (4116 + k * 2) (omega arith) in
+          λ i. not (eqb (low i) (at fs k)) || not (eqb (high i) (at cs k))
 
 -- ---- spending: the cells as opened are read where nothing was stored
 

@@ -152,7 +152,7 @@ patched-encoding s h spent r = patched-encoded s (h .bounds .opened .most) spent
 
 pub changed-encoded : (s : Session) → s .days ≤ 512 → (fs cs : List ℕ) → changedIn (encoding s) fs cs (s .days) ≡ daysWhere (differs (s .present .floors) (s .present .ceilings) fs cs) (s .days)
 unfolding changedIn
-changed-encoded s few fs cs = days-same (cellsDiffer (encoding s) fs cs) (differs (s .present .floors) (s .present .ceilings) fs cs) (s .days) same
+changed-encoded s few fs cs = days-same (λ k. cellsDiffer (encoding s) k (at fs k) (at cs k)) (differs (s .present .floors) (s .present .ceilings) fs cs) (s .days) same
   where
     low : List ℕ
     low = blockBytes (s .present .floors) (s .days)
@@ -163,7 +163,7 @@ changed-encoded s few fs cs = days-same (cellsDiffer (encoding s) fs cs) (differ
     ranges : Part (encoding s) 3092 (low ++ high)
     ranges = laid s few (part-all (encoding s)) .at3092
 
-    same : (k : ℕ) → k < s .days → cellsDiffer (encoding s) fs cs k ≡ differs (s .present .floors) (s .present .ceilings) fs cs k
+    same : (k : ℕ) → k < s .days → cellsDiffer (encoding s) k (at fs k) (at cs k) ≡ differs (s .present .floors) (s .present .ceilings) fs cs k
     same k h =
         let wide = block-length (s .present .floors) (s .days) few in
         let f = cell-read (s .present .floors) (part-left low high wide ranges) k h in

@@ -115,13 +115,13 @@ patched b n spent r =
     sets floored (presentPlace + blockLength) (cellBytes (at (r .ceilings)) n)
 
 -- another floor or ceiling than this stands in the cells of day k
-abbrev pub cellsDiffer : List ℕ → List ℕ → List ℕ → ℕ → Bool
-cellsDiffer b floors ceilings k =
-    not (eqb (u16At b (presentPlace + k * cellLength)) (at floors k)) || not (eqb (u16At b (presentPlace + blockLength + k * cellLength)) (at ceilings k))
+abbrev pub cellsDiffer : List ℕ → ℕ → ℕ → ℕ → Bool
+cellsDiffer b k floor ceiling =
+    not (eqb (u16At b (presentPlace + k * cellLength)) floor) || not (eqb (u16At b (presentPlace + blockLength + k * cellLength)) ceiling)
 
 -- the days of which that holds, in their order
 unfoldable pub changedIn : List ℕ → List ℕ → List ℕ → ℕ → List ℕ
-changedIn b floors ceilings n = daysWhere (cellsDiffer b floors ceilings) n
+changedIn b floors ceilings n = daysWhere (λ k. cellsDiffer b k (at floors k) (at ceilings k)) n
 
 -- days as the list for changed days has them
 unfoldable pub dayCells : List ℕ → List ℕ

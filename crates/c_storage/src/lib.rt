@@ -17,7 +17,7 @@ ghost use Rattle.session.specs.Opening.{fresh};
 ghost use Rattle.session.specs.Showing.{floorOn, ceilingOn};
 ghost use Rattle.c_lists.specs.Lists.{pointBytes, cellBytes};
 ghost use Rattle.c_storage.specs.Layout.{cellLength, totalLength, totalsLength, blockLength, rangesLength, sessionBytes, totalBytes, blockBytes, encoding, totalAt, decoding};
-ghost use Rattle.c_storage.specs.Layout.{patched, changedIn, dayCells};
+ghost use Rattle.c_storage.specs.Layout.{presentPlace, patched, cellsDiffer, changedIn, dayCells};
 use base_codes::Coded;
 use base_codes::CodedNumbers;
 use base_codes::decode_short;
@@ -261,38 +261,49 @@ pub fn store_fresh(
 
 // ---- what a cut changes
 
-// Writes a changed day behind the days that the list has, and gives their number.
-fn note(list: &mut [u8], count: usize, day: usize, differs: bool) -> usize
-    requires { ⌜ (day < mostDays) × ((count + 1) * cellLength ≤ length (now list)) ⌝ }
-    ensures { λ r. ⌜ r ≡ cond differs (count + 1) count ⌝ }
-    ensures { λ r. ⌜ now (list .exit) ≡ cond differs (sets (now (list .entry)) (count * cellLength) (u16Bytes day)) (now (list .entry)) ⌝ }
+// Stores the range of a day, and notes the day behind `count` others, where another range stands there; gives how many are
+// noted.
+fn store_day(
+    out: &mut [u8],
+    changed: &mut [u8],
+    count: usize,
+    day: usize,
+    floor: u16,
+    ceiling: u16,
+) -> usize
+    requires { ⌜ (length (now out) ≡ sessionBytes) × (day < mostDays) × ((count + 1) * cellLength ≤ length (now changed)) ⌝ }
+    ensures { λ r. ⌜ r ≡ cond (cellsDiffer (now (out .entry)) day floor ceiling) (count + 1) count ⌝ }
+    ensures { λ r. ⌜ now (changed .exit) ≡ cond (cellsDiffer (now (out .entry)) day floor ceiling) (sets (now (changed .entry)) (count * cellLength) (u16Bytes day)) (now (changed .entry)) ⌝ }
+    ensures { λ r. ⌜ now (out .exit) ≡ sets (sets (now (out .entry)) (presentPlace + day * cellLength) (u16Bytes floor)) (presentPlace + blockLength + day * cellLength) (u16Bytes ceiling) ⌝ }
 {
-    if differs {
-        put_u16(list, count * CELL_BYTES, day as u16);
+    let low = PRESENT_AT + day * CELL_BYTES;
+    let high = PRESENT_AT + BLOCK_BYTES + day * CELL_BYTES;
+    if (u16_at(out, low) != floor) | (u16_at(out, high) != ceiling) {
+        put_u16(out, low, floor);
+        put_u16(out, high, ceiling);
+        put_u16(changed, count * CELL_BYTES, day as u16);
         return count + 1;
     }
     count
 }
 
-// Lists the days whose cells differ from these, and gives their number.
-fn list_changes(
-    bytes: &[u8],
+// Stores the ranges of n days as the present ones, and lists the days whose bytes that changes; gives their number.
+fn store_days(
     floors: &[u16; MOST_DAYS],
     ceilings: &[u16; MOST_DAYS],
     n: usize,
+    out: &mut [u8],
     changed: &mut [u8],
 ) -> usize
-    requires { ⌜ (length (now bytes) ≡ sessionBytes) × (n ≤ mostDays) × (n * cellLength ≤ length (now changed)) ⌝ }
-    ensures { λ r. ⌜ r ≡ length (changedIn (now (bytes .entry)) (now (floors .entry)) (now (ceilings .entry)) n) ⌝ }
-    ensures { λ r. ⌜ now (changed .exit) ≡ inFront (dayCells (changedIn (now (bytes .entry)) (now (floors .entry)) (now (ceilings .entry)) n)) (now (changed .entry)) ⌝ }
+    requires { ⌜ (length (now out) ≡ sessionBytes) × (n ≤ mostDays) × (n * cellLength ≤ length (now changed)) ⌝ }
+    ensures { λ r. ⌜ r ≡ length (changedIn (now (out .entry)) (now (floors .entry)) (now (ceilings .entry)) n) ⌝ }
+    ensures { λ r. ⌜ now (changed .exit) ≡ inFront (dayCells (changedIn (now (out .entry)) (now (floors .entry)) (now (ceilings .entry)) n)) (now (changed .entry)) ⌝ }
+    ensures { λ r. ⌜ now (out .exit) ≡ sets (sets (now (out .entry)) presentPlace (cellBytes (at (now (floors .entry))) n)) (presentPlace + blockLength) (cellBytes (at (now (ceilings .entry))) n) ⌝ }
 {
     let mut count = 0;
     let mut day = 0;
     while day < n {
-        let at = day * CELL_BYTES;
-        let differs = (u16_at(bytes, PRESENT_AT + at) != floors[day])
-            | (u16_at(bytes, PRESENT_AT + BLOCK_BYTES + at) != ceilings[day]);
-        count = note(changed, count, day, differs);
+        count = store_day(out, changed, count, day, floors[day], ceilings[day]);
         day += 1;
     }
     count
@@ -314,12 +325,9 @@ pub fn store_cut(
     let n = numbers.days;
     let lowest = numbers.lowest;
     let highest = numbers.highest;
-    let count = list_changes(out, floors, ceilings, n, changed);
     put_u16(out, MARK_AT, mark(false));
     put_totals(lowest, highest, PRESENT_TOTALS_AT, out);
-    put_cells(floors, n, PRESENT_AT, out);
-    put_cells(ceilings, n, PRESENT_AT + BLOCK_BYTES, out);
-    count
+    store_days(floors, ceilings, n, out, changed)
 }
 
 // Stores n levels from one place at a place behind them.

@@ -1,11 +1,11 @@
 -- The part of a list that begins at a place.
 use Prim.Native.Nat.{ℕ, zero, suc, _+_, _-_, _*_, _≤_, _<_}
-use mathlib.Core.Path.{_≡_, refl, sym, _∙_}
+use mathlib.Core.Path.{_≡_, refl, sym, ap, _∙_}
 use mathlib.Core.List.{List, [], _∷_, _++_}
 use native.Mathlib.Omega.{arith}
 use native.Mathlib.Decide.{decLt}
 use lib.ListN.{length, set, length-set, length-append, List·getD-append}
-use lib.Seq.{sets, getD-set-same, getD-set-other, getD-append-add, ext-getD}
+use lib.Seq.{sets, set-getD, set-comm, getD-set-same, getD-set-other, getD-append-add, ext-getD}
 use Rattle.theory_lists.specs.Sum.{at}
 use Rattle.theory_lists.specs.Rows.{rows, length-rows}
 
@@ -92,3 +92,21 @@ module _ (l : List ℕ) (i : ℕ) (xs : List ℕ) where
 
   pub part-past : {k : ℕ} (ys : List ℕ) → i + length xs ≤ k → Part l k ys → Part (sets l i xs) k ys
   part-past {k} ys h p = record { has = λ j u. stored-past xs l i (k + j) (omega arith) ∙ p .has j u }
+
+-- storing what is there changes nothing
+pub stored-there : (xs l : List ℕ) (i : ℕ) → Part l i xs → sets l i xs ≡ l
+stored-there [] l i p = refl
+stored-there (x ∷ xs) l i p =
+    let z : i + 0 ≡ i = omega arith in
+    let first : at l i ≡ x = rw z at (p .has 0 (omega arith)) in
+    let same : set l i x ≡ l = rw first at (set-getD l i 0) in
+    rw same (stored-there xs l (suc i) (record { has = λ j h. let e : suc i + j ≡ i + suc j = omega arith in rw e (p .has (suc j) (omega arith)) }))
+
+-- stores at places apart, in either order
+store-apart : (xs l : List ℕ) (i j y : ℕ) → i + length xs ≤ j → sets (set l j y) i xs ≡ set (sets l i xs) j y
+store-apart [] l i j y h = refl
+store-apart (x ∷ xs) l i j y h = rw (set-comm l j i y x (λ e. absurd (omega arith))) (store-apart xs (set l i x) (suc i) j y (omega arith))
+
+pub stores-apart : (xs ys l : List ℕ) (i j : ℕ) → i + length xs ≤ j → sets (sets l j ys) i xs ≡ sets (sets l i xs) j ys
+stores-apart xs [] l i j h = refl
+stores-apart xs (y ∷ ys) l i j h = stores-apart xs ys (set l j y) i (suc j) (omega arith) ∙ ap (λ m. sets m (suc j) ys) (store-apart xs l i j y h)
