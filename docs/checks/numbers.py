@@ -14,7 +14,7 @@ BYTES = re.compile(r'b"(?:[^"\\]|\\.)*"')
 CONSTANT = re.compile(r"^ *(?:pub(?:\(crate\))? )?const \w+: .*;$", re.M)
 
 # The pages that define them, and tables of examples.
-PAGES = ["limits/*/*", "file_format/specs/Format.antt", "file_format/src/*", "c_storage/specs/Layout.antt"]
+PAGES = ["limits/*/*", "file_format/specs/Format.antt", "file_format/src/*", "c_layout/specs/Layout.antt"]
 EXAMPLES = ["program_*/*/*", "promises/specs/Starred.antt", "promises/specs/Example.antt", "file_format/specs/Example.antt"]
 
 

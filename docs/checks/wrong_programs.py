@@ -11,6 +11,7 @@ CLAUSE = re.compile(r"^ *(?:ensures|requires) \{.*$", re.M)
 STATED = re.compile(r"(\w+)/specs/(\w+)\.([^\s.]+)")
 # A constant of code.
 CONSTANT = re.compile(r"\b[A-Z]{2}[A-Z0-9_]*\b")
+OF_A_CRATE = re.compile(r"\b[a-z_]\w*::[A-Z]\w*\b")
 
 HEAD = """# Wrong programs
 
@@ -143,6 +144,11 @@ def faults_of_edits():
             yield f"{edit} names a trap that document 01 does not have"
 
 
+def constants(text):
+    """Those that a text names without their crate."""
+    return set(CONSTANT.findall(OF_A_CRATE.sub("", text)))
+
+
 def faults_of_texts():
     """An edit's old text stands once in its file, and its new one names no constant that the file has not."""
     for edit in edits():
@@ -153,7 +159,7 @@ def faults_of_texts():
                 source = (edit.path.parent.parent / text).read_text()
             elif word == "old" and source.count(text) != 1:
                 yield f"{edit} quotes a text that stands {source.count(text)} times in its file: {text.strip()}"
-            elif word == "new" and (missing := set(CONSTANT.findall(text)) - set(CONSTANT.findall(source))):
+            elif word == "new" and (missing := constants(text) - constants(source)):
                 yield f"{edit} names what its file does not: {', '.join(sorted(missing))}"
 
 

@@ -31,8 +31,8 @@ use Rattle.schedule_inspection.proofs.Stages.{spent-refused, unspent-judged}
 use Rattle.schedule_inspection.proofs.Bridge.{setpoint-codes, judged-codes}
 use Rattle.c_lists.specs.Lists.{isLong, pointAt, pointsIn, pointBytes, lentPoints}
 use Rattle.c_lists.proofs.Laws.{points-left, points-front, points-filled}
-use Rattle.c_storage.specs.Layout.{sessionBytes, decoding}
-use Rattle.c_storage.proofs.Inverse.{decoding-in-bounds}
+use Rattle.c_layout.specs.Layout.{sessionBytes, decoding}
+use Rattle.c_layout.proofs.Inverse.{decoding-in-bounds}
 use Rattle.c_sessions.specs.Sessions.{isSession}
 use Rattle.c_schedules.specs.Schedules.{refusalFor, setpointFor, writeRefusal, inspectedOver}
 use Rattle.c_schedules.specs.Stages.{checkedFor, CodeFits, levelsFor}

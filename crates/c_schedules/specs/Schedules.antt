@@ -9,7 +9,7 @@ use Rattle.session.specs.declared.Session.{Session}
 use Rattle.schedule_writing.specs.Writing.{dayWriteRefusal, totalWriteRefusal, dayLevels, totalLevels}
 use Rattle.schedule_inspection.specs.Inspecting.{Finding, refused, inspected}
 use Rattle.c_lists.specs.Lists.{isLong, pointsIn}
-use Rattle.c_storage.specs.Layout.{decoding}
+use Rattle.c_layout.specs.Layout.{decoding}
 use Rattle.c_sessions.specs.Sessions.{isSession}
 use Rattle.c_schedules.specs.declared.Subject.{Subject}
 use Rattle.c_schedules.specs.declared.Subject.the-variants.{Day, Total}

@@ -25,8 +25,8 @@ use Rattle.session_cutting.proofs.Laws.{clipped-in-bounds}
 use Rattle.session_cutting.proofs.Stages.{again-found, again-none}
 use Rattle.session_cutting.specs.declared.AfterCut.{AfterCut}
 use Rattle.session_cutting.specs.declared.CutAnswer.{CutAnswer}
-use Rattle.c_storage.specs.Layout.{sessionBytes, decoding, patched, changedIn, dayCells}
-use Rattle.c_storage.proofs.Inverse.{decoding-in-bounds}
+use Rattle.c_layout.specs.Layout.{sessionBytes, decoding, patched, changedIn, dayCells}
+use Rattle.c_layout.proofs.Inverse.{decoding-in-bounds}
 use Rattle.c_sessions.specs.Sessions.{answerFor, bytesFor, listFor, cutAnswer, bytesCut, changedBytes}
 use Rattle.c_sessions.specs.Stages.{madeOf}
 

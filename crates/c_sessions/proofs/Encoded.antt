@@ -17,11 +17,11 @@ use Rattle.session_cutting.specs.Cutting.{earlyCutting, clipped, retightened, c
 use Rattle.session_cutting.specs.declared.AfterCut.{AfterCut}
 use Rattle.session_cutting.proofs.Laws.{accepted, refused-same, numbered-accepted}
 use Rattle.c_lists.specs.Lists.{cellBytes}
-use Rattle.c_storage.specs.Layout.{sessionBytes, encoding, patched, dayCells}
-use Rattle.c_storage.specs.Storing.{Storable}
-use Rattle.c_storage.proofs.Lengths.{encoding-length}
-use Rattle.c_storage.proofs.Inverse.{decoding-encoding}
-use Rattle.c_storage.proofs.Patching.{patched-encoding, changed-encoded}
+use Rattle.c_layout.specs.Layout.{sessionBytes, encoding, patched, dayCells}
+use Rattle.c_layout.specs.Storing.{Storable}
+use Rattle.c_layout.proofs.Lengths.{encoding-length}
+use Rattle.c_layout.proofs.Inverse.{decoding-encoding}
+use Rattle.c_layout.proofs.Patching.{patched-encoding, changed-encoded}
 use Rattle.c_sessions.specs.Sessions.{isSession, changedBy, answerFor, bytesFor, listFor, cutAnswer, bytesCut, changedBytes}
 
 pub encoded : (s : Session) → Storable s → isSession (encoding s) ≡ true

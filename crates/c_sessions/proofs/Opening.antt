@@ -27,7 +27,7 @@ use Rattle.session.proofs.SessionBounds.{opened-in-bounds}
 use Rattle.c_lists.specs.Lists.{pointAt, pointsIn, levelAt, levelsCrossed}
 use Rattle.c_lists.specs.Profiles.{ByteProfile, byteLengthRefusal, profileOf}
 use Rattle.c_lists.proofs.Laws.{long}
-use Rattle.c_storage.specs.Layout.{sessionBytes, encoding}
+use Rattle.c_layout.specs.Layout.{sessionBytes, encoding}
 use Rattle.c_sessions.specs.Sessions.{openRefusal, bytesOpened}
 
 -- ---- the lists coded

@@ -11,7 +11,7 @@ use Rattle.session.specs.declared.Shown.{Shown}
 use Rattle.session.proofs.Shows.{first-short, second-short, both-long}
 use Rattle.c_lists.specs.Lists.{pointBytes, lentPoints}
 use Rattle.c_lists.proofs.Laws.{points-left, points-filled}
-use Rattle.c_storage.specs.Layout.{sessionBytes, decoding}
+use Rattle.c_layout.specs.Layout.{sessionBytes, decoding}
 use Rattle.c_sessions.specs.Sessions.{shownOver}
 
 module _ (b fs cs : List ℕ) where

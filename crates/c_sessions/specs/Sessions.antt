@@ -17,7 +17,7 @@ use Rattle.session_cutting.specs.Cutting.{afterNumbered}
 use Rattle.session_cutting.specs.declared.AfterCut.{AfterCut}
 use Rattle.session_cutting.specs.declared.CutAnswer.{CutAnswer}
 use Rattle.c_lists.specs.Profiles.{ByteProfile, byteLengthRefusal, profileOf}
-use Rattle.c_storage.specs.Layout.{sessionBytes, encoding, decoding, patched, changedIn, dayCells}
+use Rattle.c_layout.specs.Layout.{sessionBytes, encoding, decoding, patched, changedIn, dayCells}
 
 abbrev pub isSession : List ℕ → Bool
 isSession b = eqb (length b) sessionBytes

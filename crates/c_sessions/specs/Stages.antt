@@ -9,7 +9,7 @@ use Rattle.session_cuts.specs.declared.Cut.{Cut}
 use Rattle.session_cutting.specs.Cutting.{malformed, clipped, retightened, tightenedTo}
 use Rattle.session_cutting.specs.Stages.{Clips}
 use Rattle.session_cutting.specs.declared.AfterCut.{AfterCut}
-use Rattle.c_storage.specs.Layout.{cellLength, sessionBytes, decoding}
+use Rattle.c_layout.specs.Layout.{cellLength, sessionBytes, decoding}
 
 -- no check before 8 refuses: b are a session's bytes, the cut is well-formed, v is its value, the list l is long enough, and the session is not spent
 pub record Cuttable (b : List ℕ) (c : Cut) (v : ℕ) (l : List ℕ) : Type 0 where

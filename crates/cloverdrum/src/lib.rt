@@ -10,14 +10,14 @@ ghost use Rattle.session.specs.Showing.{floorOn, ceilingOn};
 ghost use Rattle.file_format.specs.Format.{dayCount, floorAt, ceilingAt, riseAt};
 ghost use Rattle.c_lists.specs.Lists.{lentPoints};
 ghost use Rattle.c_lists.specs.Profiles.{byteProfile};
-ghost use Rattle.c_storage.specs.Layout.{sessionBytes, decoding};
+ghost use Rattle.c_layout.specs.Layout.{sessionBytes, decoding};
 ghost use Rattle.c_files.specs.Reading.{readInto, cutsLent};
 ghost use Rattle.c_files.specs.Writing.{writeOver, outputOver};
 ghost use Rattle.c_sessions.specs.Sessions.{openRefusal, bytesOpened, cutAnswer, bytesCut, changedBytes, shownOver, marked};
 ghost use Rattle.c_schedules.specs.Schedules.{setpointFor, writeRefusal, inspectedOver};
 ghost use Rattle.c_schedules.specs.declared.Subject.the-variants.{Day, Total};
+use c_layout::SESSION_BYTES;
 use c_schedules::Subject;
-use c_storage::SESSION_BYTES;
 use session::Numbers;
 
 // How many bytes a session has.

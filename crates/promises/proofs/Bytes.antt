@@ -13,9 +13,9 @@ use Rattle.session_cuts.specs.declared.Numbered.{Numbered}
 use Rattle.session_cutting.specs.Cutting.{afterNumbered}
 use Rattle.promises.specs.Cuts.{after}
 use Rattle.c_lists.specs.Profiles.{ByteProfile, byteLengthRefusal, profileOf}
-use Rattle.c_storage.specs.Layout.{encoding, decoding}
-use Rattle.c_storage.specs.Storing.{Storable}
-use Rattle.c_storage.proofs.Inverse.{decoding-encoding}
+use Rattle.c_layout.specs.Layout.{encoding, decoding}
+use Rattle.c_layout.specs.Storing.{Storable}
+use Rattle.c_layout.proofs.Inverse.{decoding-encoding}
 use Rattle.c_sessions.specs.Sessions.{isSession, openRefusal, bytesOpened, bytesCut}
 use Rattle.c_sessions.proofs.Encoded.{encoded, cut-encoded}
 use Rattle.promises.specs.InBytes.{ByteCutCall, byValue, bytesAfter, CameFrom, SessionsInBytes}

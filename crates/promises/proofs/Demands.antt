@@ -39,8 +39,8 @@ use Rattle.base_little_endian.specs.Fields.{u16At}
 use Rattle.c_lists.specs.Lists.{cellBytes}
 use Rattle.c_lists.specs.Profiles.{haveLengths, byteCountsRefusal, byteLengthRefusal, profileOf}
 use Rattle.c_lists.proofs.Laws.{points-left}
-use Rattle.c_storage.specs.Layout.{encoding, decoding}
-use Rattle.c_storage.proofs.Lengths.{cells-length}
+use Rattle.c_layout.specs.Layout.{encoding, decoding}
+use Rattle.c_layout.proofs.Lengths.{cells-length}
 use Rattle.c_sessions.specs.Sessions.{isSession, openRefusal, bytesOpened, answerFor, bytesFor, listFor, cutAnswer, bytesCut, changedBytes, shownOver}
 use Rattle.c_sessions.proofs.Encoded.{answer-encoded, list-encoded}
 use Rattle.promises.specs.InBytes.{ByteCutCall, byValue, CameFrom}

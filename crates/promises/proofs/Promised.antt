@@ -1,8 +1,8 @@
 -- All promises are kept: each field of `Promises` by the proof that carries its name.
 use Rattle.schedule_inspection.proofs.Answers.{finding-one}
 use Rattle.file_printing.proofs.Longer.{printed-long}
-use Rattle.c_storage.proofs.Inverse.{decoding-in-bounds, decoding-encoding}
-use Rattle.c_storage.proofs.Patching.{patched-encoding}
+use Rattle.c_layout.proofs.Inverse.{decoding-in-bounds, decoding-encoding}
+use Rattle.c_layout.proofs.Patching.{patched-encoding}
 use Rattle.promises.specs.Promises.{Promises}
 use Rattle.promises.specs.Starred.{starred}
 use Rattle.promises.proofs.Demand1.{demand-1}

@@ -29,7 +29,7 @@ use Rattle.promises.proofs.Reached.{present-schedules}
 use Rattle.promises.proofs.Written.{writing}
 use Rattle.c_lists.specs.Lists.{isLong, pointsIn, lentPoints}
 use Rattle.c_lists.proofs.Laws.{points-left}
-use Rattle.c_storage.specs.Layout.{decoding}
+use Rattle.c_layout.specs.Layout.{decoding}
 use Rattle.c_sessions.specs.Sessions.{isSession}
 use Rattle.c_schedules.specs.Schedules.{refusalFor, writeRefusal, inspectedOver}
 use Rattle.c_schedules.specs.declared.Subject.{Subject}

@@ -26,7 +26,7 @@ use Rattle.session_cutting.proofs.Laws.{passed, accepted, refused-same, clipped
 use Rattle.promises.proofs.Clip.{well-formed, clipped-past}
 use Rattle.promises.proofs.Demand2.{unrefused}
 use Rattle.promises.specs.Schedules.{presentProfile}
-use Rattle.c_storage.specs.Storing.{Padded, Storable}
+use Rattle.c_layout.specs.Storing.{Padded, Storable}
 
 codes-padded : (low : ℤ) (zs : List ℤ) (m n : ℕ) → m ≤ n → Padded n (codes low zs m)
 codes-padded low zs m n h k u l = written-past (λ j. code low (on zs j)) 0 m zeros k (omega arith) ∙ getD-replicate {A = ℕ} 512 k 0 0 l

@@ -22,7 +22,7 @@ use Rattle.promises.specs.Demands.{Exact}
 use Rattle.base_little_endian.specs.Fields.{u16At}
 use Rattle.c_lists.specs.Lists.{pointAt, lentPoints}
 use Rattle.c_lists.specs.Profiles.{ByteProfile, byteLengthRefusal, profileOf}
-use Rattle.c_storage.specs.Layout.{encoding, decoding}
+use Rattle.c_layout.specs.Layout.{encoding, decoding}
 use Rattle.c_sessions.specs.Sessions.{isSession, openRefusal, bytesOpened, cutAnswer, bytesCut, changedBytes, shownOver}
 use Rattle.promises.specs.InBytes.{ByteCutCall, byValue, CameFrom}
 

@@ -7,7 +7,7 @@ use Rattle.session.specs.Opening.{opened}
 use Rattle.session_cuts.specs.declared.Numbered.{Numbered}
 use Rattle.promises.specs.Cuts.{CutCall, after}
 use Rattle.c_lists.specs.Profiles.{ByteProfile, profileOf}
-use Rattle.c_storage.specs.Layout.{encoding, decoding}
+use Rattle.c_layout.specs.Layout.{encoding, decoding}
 use Rattle.c_sessions.specs.Sessions.{openRefusal, bytesOpened, bytesCut}
 
 -- a cut as it is handed over in C: the list lent for changed days has that many bytes

@@ -3,7 +3,7 @@ use mathlib.Core.List.{List}
 use Prim.Native.Nat.{ℕ}
 use Rattle.schedule_inspection.specs.Inspecting.{FindingOne}
 use Rattle.file_printing.specs.Printing.{PrintedLong}
-use Rattle.c_storage.specs.Storing.{DecodingInBounds, DecodingEncoding, PatchedEncoding}
+use Rattle.c_layout.specs.Storing.{DecodingInBounds, DecodingEncoding, PatchedEncoding}
 use Rattle.promises.specs.Demands.{Demand1, Demand2, Demand3, LooserCuts, NoneAtCut, SessionsInBounds}
 use Rattle.promises.specs.Schedules.{Writing, Inspection, PresentSchedules}
 use Rattle.promises.specs.RoundTrips.{RoundTrips}

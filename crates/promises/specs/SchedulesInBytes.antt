@@ -13,7 +13,7 @@ use Rattle.schedule_inspection.specs.Inspecting.{refused, kept}
 use Rattle.promises.specs.Cuts.{Kept}
 use Rattle.promises.specs.Schedules.{ScheduleFor, Ranged, Inspects}
 use Rattle.c_lists.specs.Lists.{isLong, pointsIn, lentPoints}
-use Rattle.c_storage.specs.Layout.{decoding}
+use Rattle.c_layout.specs.Layout.{decoding}
 use Rattle.c_sessions.specs.Sessions.{isSession}
 use Rattle.c_schedules.specs.Schedules.{setpointFor, writeRefusal, inspectedOver}
 use Rattle.c_schedules.specs.declared.Subject.{Subject}

@@ -4,8 +4,8 @@ use mir.Facts.{toZ-ofZ}
 use native.Mathlib.Omega.{arith}
 use borrow.Author.Needs.{needs}
 use Rattle.session.specs.declared.Session.{Session}
-use Rattle.c_storage.specs.Layout.{decoding}
-use Rattle.c_storage.proofs.Inverse.{decoding-in-bounds}
+use Rattle.c_layout.specs.Layout.{decoding}
+use Rattle.c_layout.proofs.Inverse.{decoding-in-bounds}
 use Rattle.c_schedules.proofs.Laws.{day-missing, day-read}
 use Rattle.c_schedules.proofs.check_day.Statement.{statement}
 use Rattle.c_schedules.proofs.check_day.Tie as tie

@@ -2,8 +2,8 @@
 use mir.Facts.{toZ-ofZ}
 use native.Mathlib.Omega.{arith}
 use borrow.Author.Needs.{needs}
-use Rattle.c_storage.specs.Layout.{decoding}
-use Rattle.c_storage.proofs.Inverse.{decoding-in-bounds}
+use Rattle.c_layout.specs.Layout.{decoding}
+use Rattle.c_layout.proofs.Inverse.{decoding-in-bounds}
 use Rattle.c_schedules.proofs.Laws.{total-read}
 use Rattle.c_schedules.proofs.check_total.Statement.{statement}
 use Rattle.c_schedules.proofs.check_total.Tie as tie

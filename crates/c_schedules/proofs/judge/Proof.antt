@@ -5,7 +5,7 @@ use mathlib.Core.List.{List}
 use Prim.Native.Nat.{ℕ}
 use native.Mathlib.Omega.{arith}
 use borrow.Author.Needs.{needs}
-use Rattle.c_storage.proofs.Inverse.{decoding-in-bounds}
+use Rattle.c_layout.proofs.Inverse.{decoding-in-bounds}
 use Rattle.c_schedules.proofs.Laws.{both, no-session, no-list, session-and-list, inspect-unread, inspect-spent, inspect-judged}
 use Rattle.c_schedules.proofs.judge.Statement.{statement}
 use Rattle.c_schedules.proofs.judge.Tie as tie

@@ -1,7 +1,7 @@
 -- `judge_points` meets its contract: what is loaded is the session's (`Loaded`), and the codes are those of the list's points (`points-judged`).
 use native.Mathlib.Omega.{arith}
 use borrow.Author.Needs.{needs}
-use Rattle.c_storage.specs.Layout.{decoding}
+use Rattle.c_layout.specs.Layout.{decoding}
 use Rattle.c_schedules.proofs.Laws.{Loaded, loads, points-judged}
 use Rattle.c_schedules.proofs.judge_points.Statement.{statement}
 use Rattle.c_schedules.proofs.judge_points.Tie as tie

@@ -1,6 +1,6 @@
 -- `load_levels` meets its contract: what is loaded is the session's (`Loaded`), and each arm knows its subject.
 use borrow.Author.Needs.{needs}
-use Rattle.c_storage.specs.Layout.{decoding}
+use Rattle.c_layout.specs.Layout.{decoding}
 use Rattle.c_schedules.proofs.Laws.{Loaded, loads, day-loaded, day-levels, total-loaded, total-levels}
 use Rattle.c_schedules.proofs.load_levels.Statement.{statement}
 use Rattle.c_schedules.proofs.load_levels.Tie as tie

@@ -13,8 +13,8 @@ use Rattle.theory_lists.specs.Sum.{at}
 use Rattle.base_codes.specs.Code.{decoded}
 use Rattle.session.specs.declared.Session.{Session}
 use Rattle.c_lists.specs.Lists.{pointBytes}
-use Rattle.c_storage.specs.Layout.{decoding}
-use Rattle.c_storage.proofs.Inverse.{decoding-in-bounds}
+use Rattle.c_layout.specs.Layout.{decoding}
+use Rattle.c_layout.proofs.Inverse.{decoding-in-bounds}
 use Rattle.c_schedules.specs.Schedules.{setpointFor}
 use Rattle.c_schedules.specs.Stages.{checkedFor}
 use Rattle.c_schedules.proofs.Laws.{both, no-session, no-list, session-and-list, Taken, code-fits, PointsStanding, points-standing, write-unread, write-refused, write-all}

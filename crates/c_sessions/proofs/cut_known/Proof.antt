@@ -8,8 +8,8 @@ use lib.ListN.{length}
 use borrow.Author.Needs.{needs}
 use Rattle.session_cutting.specs.Cutting.{malformed}
 use Rattle.session_cutting.proofs.Stages.{checked-refusal, checked-clips, cut-malformed, cut-short, cut-spent, cut-taken}
-use Rattle.c_storage.specs.Layout.{decoding}
-use Rattle.c_storage.proofs.Held.{days-few}
+use Rattle.c_layout.specs.Layout.{decoding}
+use Rattle.c_layout.proofs.Held.{days-few}
 use Rattle.c_sessions.specs.Stages.{madeOf}
 use Rattle.c_sessions.proofs.Cutting.{cuts-same, cuts-refused, malformed-not-eight}
 use Rattle.c_sessions.proofs.cut_known.Statement.{statement}

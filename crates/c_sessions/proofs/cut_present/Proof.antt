@@ -10,8 +10,8 @@ use Rattle.base_codes.specs.declared.CodedNumbers.{CodedNumbers}
 use Rattle.theory_method.specs.Filter.{Tight}
 use Rattle.session_cuts.specs.declared.Cut.{Cut}
 use Rattle.session_cutting.specs.Cutting.{clipped, retightened}
-use Rattle.c_storage.specs.Layout.{decoding}
-use Rattle.c_storage.proofs.Held.{days-few}
+use Rattle.c_layout.specs.Layout.{decoding}
+use Rattle.c_layout.proofs.Held.{days-few}
 use Rattle.c_sessions.proofs.Cutting.{Loaded, loaded-bounds, loaded-tight, made-none, made-found, made-bounds}
 use Rattle.c_sessions.proofs.cut_present.Statement.{statement}
 use Rattle.c_sessions.proofs.cut_present.Tie as tie

@@ -7,8 +7,8 @@ use borrow.Author.Needs.{needs}
 use Rattle.limits.specs.Limits.{lowestTotal}
 use Rattle.base_codes.specs.Code.{decoded}
 use Rattle.session.proofs.Shows.{total-seen}
-use Rattle.c_storage.specs.Layout.{decoding}
-use Rattle.c_storage.proofs.Inverse.{decoding-in-bounds}
+use Rattle.c_layout.specs.Layout.{decoding}
+use Rattle.c_layout.proofs.Inverse.{decoding-in-bounds}
 use Rattle.c_sessions.proofs.Showing.{show-unread, show-first, show-second, show-all}
 use Rattle.c_sessions.proofs.show.Statement.{statement}
 use Rattle.c_sessions.proofs.show.Tie as tie

@@ -1,0 +1,4 @@
+pub mod Inverse
+pub mod Lengths
+pub mod Held
+pub mod Patching
