@@ -141,7 +141,7 @@ module _ (s : Session) (few : s .days ≤ 512) (spent : Bool) (r : Ranges) where
         at3092 = part-both (blockBytes (r .floors) n) (blockBytes (r .ceilings) n) (block-length (r .floors) n few) block-floors block-ceilings;
       }
 
-  pub patched-encoded : patched (encoding s) n spent r ≡ encoding t
+  patched-encoded : patched (encoding s) n spent r ≡ encoding t
   unfolding patched
   patched-encoded = sym (part-same (encoding t) (encoding-length t few ∙ sym (lengths .4)) (joined t few now-laid))
 

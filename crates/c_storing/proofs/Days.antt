@@ -1,5 +1,5 @@
--- The loop that lists days as bytes where a test holds, and the one that stores their ranges too: what holds at the head, what starts it, what a turn does,
--- and the way out.
+-- The loop that stores the ranges of days and lists, as bytes, those whose cells that changes: what holds at its head, what starts it, what a turn does, and
+-- its way out; first of the list alone, then of both.
 use Prim.Native.Nat.{ℕ, _+_, _*_, _≤_, _<_}
 use mathlib.Core.Path.{_≡_, refl, sym, ap, _∙_}
 use mathlib.Core.Bool.{Bool, true, false, cond, not, _||_}
@@ -24,7 +24,7 @@ use Rattle.c_layout.specs.Layout.{cellsDiffer, dayCells}
 use Rattle.c_layout.proofs.Lengths.{cells-length}
 use Rattle.c_storing.proofs.Laws.{field-before, field-past}
 
-pub days-length : (ds : List ℕ) → length (dayCells ds) ≡ length ds * 2
+days-length : (ds : List ℕ) → length (dayCells ds) ≡ length ds * 2
 unfolding dayCells
 days-length ds = cells-length (at ds) (length ds)
 

@@ -45,7 +45,7 @@ celled-patched {n = n} {f = f} {g = g} r c low high =
 
 -- a field past the present total is as it was
 module _ {b out : List ℕ} {spent : Bool} {lowest highest : ℕ} (s : Summed b spent lowest highest out) where
-  pub summed-left : (k : ℕ) → 20 ≤ k → u16At out k ≡ u16At b k
+  summed-left : (k : ℕ) → 20 ≤ k → u16At out k ≡ u16At b k
   summed-left k h =
       rw (s .summed, s .marked)
       (field-past (totalBytes lowest highest) (sets b 2 (u16Bytes (cond spent 1 0))) 12 k (omega (arith, totals-length lowest highest))
