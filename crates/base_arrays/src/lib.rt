@@ -8,15 +8,10 @@ ghost use Rattle.theory_chains.specs.Sum.{sum, all};
 ghost use Rattle.theory_method.specs.Filter.{mirrored, reversed, held};
 use base_numbers::narrow;
 use base_numbers::wide;
+use base_numbers::word;
 use limits::HIGHEST_LEVEL;
 use limits::LEVEL_OFFSET;
 use limits::MOST_DAYS;
-
-fn word(x: u16) -> u32
-    ensures { λ r. ⌜ (r ≡ x) × (r < 65536) ⌝ }
-{
-    x as u32
-}
 
 // The sum of the first n levels. 32 bits hold it.
 pub fn sum(levels: &[u16; MOST_DAYS], n: usize) -> usize

@@ -1,4 +1,4 @@
-// Casts between a level's 16 bits and a local, the smaller and the larger of two numbers.
+// Casts between a level's 16 bits and a local of the machine's or of 32 bits, the smaller and the larger of two numbers.
 ghost use mathlib.Core.Path.{_≡_};
 ghost use Prim.Native.Nat.{_≤_, _<_, min, max};
 ghost use Rattle.limits.specs.Limits.{highestLevel};
@@ -7,6 +7,12 @@ pub fn wide(x: u16) -> usize
     ensures { λ r. ⌜ (r ≡ x) × (r < 65536) ⌝ }
 {
     x as usize
+}
+
+pub fn word(x: u16) -> u32
+    ensures { λ r. ⌜ (r ≡ x) × (r < 65536) ⌝ }
+{
+    x as u32
 }
 
 pub fn narrow(x: usize) -> u16

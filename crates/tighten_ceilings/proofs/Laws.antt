@@ -15,7 +15,7 @@ use Rattle.theory_method.specs.Filter.{shifted, overload, loweredFrom, lowered}
 use Rattle.tighten_ceilings.specs.Round.{over, window, step, rounded}
 use Rattle.tighten_ceilings.proofs.Window.{rounded-is, window-under, window-past, window-is}
 use Rattle.theory_method.specs.Stages.{Ready}
-use Rattle.tighten_ceilings.specs.Pass.{Carried, Found, Rounded, Lowest, DaysIn, FoundIn, RoundedIn, LowestIn, Overloaded, Entering}
+use Rattle.tighten_ceilings.specs.Pass.{highestShifted, highestSum, Carried, Found, Rounded, Lowest, DaysIn, FoundIn, RoundedIn, LowestIn, Overloaded, Entering}
 
 -- ---- shifted floors
 
@@ -30,7 +30,7 @@ module _ {fs rs : List ℕ} {n : ℕ} (g : Carried fs rs n) where
   pub shift-least : (k : ℕ) → 0 < k → k ≤ n → 2000 ≤ shift (at rs) n k
   shift-least k h u = omega (arith, shift-low (at rs) n (g .most) (g .rise) (n - k) (omega arith), g .most)
 
-  pub shifted-most : (k : ℕ) → k < n → shifted fs rs n k ≤ 16777216
+  pub shifted-most : (k : ℕ) → k < n → shifted fs rs n k ≤ highestShifted
   shifted-most k h = omega (arith, shift-most k (omega arith), g .floor k h)
 
   -- the floors rise
@@ -186,7 +186,7 @@ module _ {fs rs : List ℕ} {n i margin v j s e : ℕ} (p : Overloaded fs rs n i
   round-based : Based (shifted fs rs n) (shift (at rs) n) n i v j s e
   round-based = record { up = rises (p .carried); found = p .found; base = round-base }
 
-  pub round-overload : (i ≤ j) × (j ≤ 512) × (v ≤ 16777216) × (s ≤ (j - i) * v)
+  pub round-overload : (i ≤ j) × (j ≤ 512) × (v ≤ highestShifted) × (s ≤ (j - i) * v)
   round-overload =
       (omega (arith, p .found .run .some), omega (arith, p .found .run .inside, p .carried .most), p .low, omega (arith, found-over round-based))
 
@@ -196,8 +196,8 @@ module _ {fs rs : List ℕ} {n i margin v j s e : ℕ} (p : Overloaded fs rs n i
   pub round-room : {x : ℕ} → x ≡ at fs (j - 1) → x + e < v
   round-room q = omega (arith, p .found .run .last, found-active round-based (p .more))
 
-  pub round-excess : {o : ℕ} → o + s ≡ (j - i) * v → o ≤ 8589934592
-  round-excess q = omega (arith, mul-le-mul {n₁ = j - i} {m₁ = v} {n₂ = 512} {m₂ = 16777216} (omega (arith, round-overload .1)) (p .low))
+  pub round-excess : {o : ℕ} → o + s ≡ (j - i) * v → o ≤ highestSum
+  round-excess q = omega (arith, mul-le-mul {n₁ = j - i} {m₁ = v} {n₂ = 512} {m₂ = highestShifted} (omega (arith, round-overload .1)) (p .low))
 
   pub round-days : (r : ℕ) → DaysIn fs rs n i (v - r) j s e
   round-days r =
@@ -239,7 +239,7 @@ module _ {a z : ℕ → ℕ} {n i margin cap v j s e : ℕ} (up : Rising a n) (t
   stand-based : Based a z n i v j s e
   stand-based = record { up = up; found = t .found; base = t .base }
 
-  pub stand-overload : n ≤ 512 → cap ≤ 16777216 → (i ≤ j) × (j ≤ 512) × (v ≤ 16777216) × (s ≤ (j - i) * v)
+  pub stand-overload : n ≤ 512 → cap ≤ highestShifted → (i ≤ j) × (j ≤ 512) × (v ≤ highestShifted) × (s ≤ (j - i) * v)
   stand-overload m h =
       (omega (arith, t .found .run .some), omega (arith, t .found .run .inside), omega (arith, t .fits), omega (arith, found-over stand-based))
 
@@ -289,7 +289,7 @@ module _ {a z : ℕ → ℕ} {n i margin cap v j s e : ℕ} (up : Rising a n) (t
 -- ---- lower_day: with the cap that it hands on, and day i's floor x
 
 pub enters : {fs rs : List ℕ} {n i ceiling here v j s e cap x : ℕ} → Entering fs rs n i ceiling here v j s e → cap ≡ min v (ceiling + here) → x ≡ at fs i
-    → DaysIn fs rs n i cap j (s + (x + here)) e × ((cap ≤ 16777216) × (shifted fs rs n i ≤ cap))
+    → DaysIn fs rs n i cap j (s + (x + here)) e × ((cap ≤ highestShifted) × (shifted fs rs n i ≤ cap))
 enters p qc qx = rw (qc, qx) (p .days, (p .low, p .base))
 
 -- ---- lower_ceilings
@@ -318,7 +318,7 @@ pub record Pass (fs cs rs : List ℕ) (n margin : ℕ) (out : List ℕ) (here e 
   pub made : out ≡ lastWritten (shown fs cs rs n margin) n (n - i) cs
   pub level : v ≡ loweredFrom fs cs rs n margin (n - i)
   pub shift-here : here ≡ shift (at rs) n i
-  pub low : v ≤ 16777216
+  pub low : v ≤ highestShifted
   pub under : i ≤ j
   pub inside : j ≤ n
   pub total : s ≡ sumFor (shifted fs rs n) i (j - i)
@@ -362,14 +362,14 @@ module _ {fs cs rs : List ℕ} {n margin : ℕ} (g : Ready fs cs rs n) where
       (rw z at (p .made)) ∙ last-all (shown fs cs rs n margin) (lowered fs cs rs n margin) n cs (λ k u. refl)
 
   module _ {out : List ℕ} {here e v j s i : ℕ} (p : Pass fs cs rs n margin out here e v j s i) where
-    pub pass-small : s ≤ 8589934592
+    pub pass-small : s ≤ highestSum
     pass-small =
         omega (
           arith,
           p .total,
           p .inside,
-          mul-le-mul-left 16777216 few,
-          sum-most (shifted fs rs n) i (j - i) 16777216 (λ k h u. shifted-most (floors-carried g) k (omega (arith, p .inside))),
+          mul-le-mul-left highestShifted few,
+          sum-most (shifted fs rs n) i (j - i) highestShifted (λ k h u. shifted-most (floors-carried g) k (omega (arith, p .inside))),
         )
       where
         few : j - i ≤ 512

@@ -1,5 +1,5 @@
 -- What the ceilings' pass takes, and what its functions hand on. a are the shifted floors of n days, z their shifts.
-use Prim.Native.Nat.{ℕ, _+_, _-_, _≤_, _<_, min}
+use Prim.Native.Nat.{ℕ, _+_, _-_, _*_, _≤_, _<_, min}
 use mathlib.Core.Path.{_≡_}
 use mathlib.Core.List.{List}
 use Rattle.limits.specs.Limits.{mostDays, highestLevel, riseOffset, highestRiseCode, highestShift}
@@ -8,6 +8,13 @@ use Rattle.theory_chains.specs.Fit.{Fitted}
 use Rattle.theory_method.specs.Shift.{shift}
 use Rattle.theory_method.specs.Filter.{shifted}
 use Rattle.tighten_ceilings.specs.Round.{over, window, rounded}
+
+-- no shifted level is above this, nor a sum of a window's shifted levels above the next: 32 bits hold both
+abbrev pub highestShifted : ℕ
+highestShifted = highestShift + highestLevel
+
+abbrev pub highestSum : ℕ
+highestSum = mostDays * highestShifted
 
 -- n days of floors, carried forward
 pub record Carried (fs rs : List ℕ) (n : ℕ) : Type 0 where
@@ -60,15 +67,15 @@ LowestIn fs rs n = Lowest (shifted fs rs n) (shift (at rs) n) n
 pub record Overloaded (fs rs : List ℕ) (n i margin v j s e : ℕ) : Type 0 where
   pub carried : Carried fs rs n
   pub found : FoundIn fs rs n i v j s e
-  pub low : v ≤ 16777216
+  pub low : v ≤ highestShifted
   pub more : margin < over (shifted fs rs n) n i v
 
 -- what is handed on to day i, whose shift is `here`, with the next day at v: the window of the next day and day i itself
 pub record Entering (fs rs : List ℕ) (n i ceiling here v j s e : ℕ) : Type 0 where
   pub inside : i < n
   pub days : DaysIn fs rs n i (min v (ceiling + here)) j (s + (at fs i + here)) e
-  pub low : min v (ceiling + here) ≤ 16777216
+  pub low : min v (ceiling + here) ≤ highestShifted
   pub base : shifted fs rs n i ≤ min v (ceiling + here)
   pub shift-most : here ≤ highestShift
   pub level : ceiling < 65536
-  pub small : s ≤ 8589934592
+  pub small : s ≤ highestSum

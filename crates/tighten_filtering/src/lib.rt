@@ -29,7 +29,7 @@ fn raise_floors(
     ceilings: &[u16; MOST_DAYS],
     rises: &[u16; MOST_DAYS],
     n: usize,
-    margin: usize,
+    margin: u32,
 )
     requires { ⌜ FloorsReady (now floors) (now ceilings) (now rises) n ⌝ }
     ensures { λ _. ⌜ now (floors .exit) ≡ raised (now (floors .entry)) (now (ceilings .entry)) (now (rises .entry)) n margin ⌝ }
@@ -74,14 +74,14 @@ pub fn tighten(
     if highest < bottom {
         return none();
     }
-    lower_ceilings(floors, ceilings, rises, n, highest - bottom);
+    lower_ceilings(floors, ceilings, rises, n, (highest - bottom) as u32);
     let top = held_total(ceilings, n);
     let low = max(numbers.lowest, bottom);
     let high = min(highest, top);
     if high < low {
         return none();
     }
-    raise_floors(floors, ceilings, rises, n, top - low);
+    raise_floors(floors, ceilings, rises, n, (top - low) as u32);
     Totals {
         found: true,
         lowest: low,

@@ -6,19 +6,19 @@ use Rattle.tighten_ceilings.proofs.lower_day.Tie as tie
 
 -- ---- the places on the way: the cap is known, the day's floor is read
 
-abbrev at-cap : tie.After-wide → tie.After-min
+abbrev at-cap : tie.After-word → tie.After-smaller
 at-cap c = c .before .before
 
-abbrev at-floor : tie.After-struct-known → tie.After-wide
+abbrev at-floor : tie.After-struct-known → tie.After-word
 at-floor c = c .before
 
 lower-requires : tie.Need-lower-requires
 lower-requires c κs =
     let p = at-cap (at-floor c) .before .pre in
-    (p .0, enters (p .1) (at-cap (at-floor c) .min .ensures) (at-floor c .wide .ensures .0))
+    (p .0, enters (p .1) (at-cap (at-floor c) .smaller .ensures) (at-floor c .word .ensures .0))
 
 returns : tie.Need-returns
-returns c = rw (at-cap (at-floor (c .before)) .min .ensures) at (c .lower .ensures)
+returns c = rw (at-cap (at-floor (c .before)) .smaller .ensures) at (c .lower .ensures)
 
 pub lower-day-spec : {M : Type 1} → statement M
 lower-day-spec =

@@ -11,10 +11,10 @@ use Rattle.tighten_ceilings.proofs.round.Tie as tie
 abbrev at-start : tie.After-overload-of → tie.Start
 at-start c = c .before
 
-abbrev at-overload : tie.After-wide → tie.After-overload-of
+abbrev at-overload : tie.After-word → tie.After-overload-of
 at-overload c = c .before .before
 
-abbrev at-floor : tie.After-struct-known2 → tie.After-wide
+abbrev at-floor : tie.After-struct-known2 → tie.After-word
 at-floor c = c .before .before
 
 abbrev at-step : tie.After-settle → tie.After-step-of
@@ -26,7 +26,7 @@ stepping : (c : tie.After-settle)
     let a = at-start o .args in
     let d = a .day in
     let r = c .settle .result in
-    Stepping (a .floors .now) (a .rises .now) (a .n) (a .i) (a .margin) (d .v) (d .past) (d .sum) (d .end) (o .overload-of .result) (f .wide .result) (at-step c .step-of .result)
+    Stepping (a .floors .now) (a .rises .now) (a .n) (a .i) (a .margin) (d .v) (d .past) (d .sum) (d .end) (o .overload-of .result) (f .word .result) (at-step c .step-of .result)
     (r .v) (r .past) (r .sum) (r .end)
 stepping c =
     let f = at-floor (at-step c .before) in
@@ -34,7 +34,7 @@ stepping c =
     record {
       overloaded = at-start o .pre;
       overload = o .overload-of .ensures;
-      floor = f .wide .ensures .0;
+      floor = f .word .ensures .0;
       step = at-step c .step-of .ensures;
       found = c .settle .ensures;
     }
@@ -46,14 +46,17 @@ sub-excess : tie.Need-sub-excess
 sub-excess c = omega (arith, round-over (at-start c .pre) (c .overload-of .ensures))
 
 -- the last day is below the level
-room : (c : tie.After-wide) → let s = at-start (at-overload c) in c .wide .result + s .args .day .end < s .args .day .v
-room c = round-room (at-start (at-overload c) .pre) (c .wide .ensures .0)
+room : (c : tie.After-word) → let s = at-start (at-overload c) in c .word .result + s .args .day .end < s .args .day .v
+room c = round-room (at-start (at-overload c) .pre) (c .word .ensures .0)
 
 add-room : tie.Need-add-room
 add-room c = omega (arith, room (c .before))
 
 sub-room : tie.Need-sub-room
 sub-room c = omega (arith, room (at-floor c))
+
+cast-step-of : tie.Need-cast-step-of
+cast-step-of c = record { fits = omega (arith, round-overload (at-start (at-overload (at-floor c)) .pre) .1) }
 
 step-of-requires : tie.Need-step-of-requires
 step-of-requires c κs =
@@ -82,6 +85,7 @@ round-spec =
     add-room
     sub-room
     (λ c. search needs)
+    cast-step-of
     step-of-requires
     (λ c. search needs)
     settle-requires

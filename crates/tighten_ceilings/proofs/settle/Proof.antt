@@ -18,17 +18,17 @@ loop-holds c = c .pre .1
 
 -- ---- the places of a turn: it begins, the last day is not below v
 
-abbrev at-turn : tie.After-wide Inv-loop μ-loop → tie.In-loop Inv-loop μ-loop
+abbrev at-turn : tie.After-word Inv-loop μ-loop → tie.In-loop Inv-loop μ-loop
 at-turn c = c .before .before
 
-abbrev at-high : tie.After-wide2 Inv-loop μ-loop → tie.Else1 Inv-loop μ-loop
+abbrev at-high : tie.After-word2 Inv-loop μ-loop → tie.Else1 Inv-loop μ-loop
 at-high c = c .before .before
 
 dropping : (c : tie.After-shift-before Inv-loop μ-loop)
     → let w = at-high (c .before) .before in
     let h = at-turn w .before in
     let a = h .before .args in
-    Dropping (a .floors .now) (a .rises .now) (a .n) (a .i) (a .v) (h .loop .j) (h .loop .s) (h .loop .e) (w .wide .result) (c .before .wide2 .result) (c .shift-before .result)
+    Dropping (a .floors .now) (a .rises .now) (a .n) (a .i) (a .v) (h .loop .j) (h .loop .s) (h .loop .e) (w .word .result) (c .before .word2 .result) (c .shift-before .result)
 dropping c =
     let u = at-high (c .before) in
     let t = at-turn (u .before) in
@@ -36,9 +36,9 @@ dropping c =
       carried = t .before .before .pre .0;
       days = t .before .loop .inv;
       more = t .loop-test .taken;
-      floor = u .before .wide .ensures .0;
+      floor = u .before .word .ensures .0;
       high = u .if1 .left;
-      rise = c .before .wide2 .ensures .0;
+      rise = c .before .word2 .ensures .0;
       shift = c .shift-before .ensures;
     }
 
@@ -48,19 +48,19 @@ add-top c = let h = at-turn c .before in omega (arith, end-most (h .before .pre 
 returns : tie.Need-returns Inv-loop μ-loop
 returns c =
     let h = at-turn (c .before) .before in
-    (refl, days-found (h .before .pre .0) (h .loop .inv) (c .before .wide .ensures .0) (omega (arith, c .if1 .taken)))
+    (refl, days-found (h .before .pre .0) (h .loop .inv) (c .before .word .ensures .0) (omega (arith, c .if1 .taken)))
 
 sub-s : tie.Need-sub-s Inv-loop μ-loop
 sub-s c =
     let h = at-turn (c .before) .before in
-    omega (arith, days-last (h .before .pre .0) (h .loop .inv), h .loop .inv .run .last, c .before .wide .ensures .0)
+    omega (arith, days-last (h .before .pre .0) (h .loop .inv), h .loop .inv .run .last, c .before .word .ensures .0)
 
 shift-before-requires : tie.Need-shift-before-requires Inv-loop μ-loop
 shift-before-requires c κs =
     let t = at-turn (at-high c .before) in
     let g = t .before .before .pre .0 in
     let d = t .before .loop .inv in
-    (end-most g d, c .wide2 .ensures .1, omega (arith, end-least g d (t .loop-test .taken)))
+    (end-most g d, c .word2 .ensures .1, omega (arith, end-least g d (t .loop-test .taken)))
 
 loop-again : tie.Need-loop-again Inv-loop μ-loop
 loop-again c = days-drop (dropping c)

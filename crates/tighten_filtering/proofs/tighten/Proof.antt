@@ -6,6 +6,7 @@ use Rattle.theory_method.specs.Filter.{held}
 use Rattle.tighten_filtering.specs.Boxed.{boxed}
 use Rattle.tighten_filtering.proofs.Stage.{Carried, Lowered, Narrowed, carries, carried-small, carried-held, tight-crossed, carried-ready, tight-over, lowered-raisable, tight-apart, tight-found}
 use borrow.Author.Needs.{needs}
+use native.Mathlib.Omega.{arith}
 use Rattle.tighten_filtering.proofs.tighten.Statement.{statement}
 use Rattle.tighten_filtering.proofs.tighten.Tie as tie
 
@@ -75,11 +76,18 @@ held-sum-requires c κs = let d = at-clear c in let e = d .carry .ensures in car
 returns-2 : tie.Need-returns-2
 returns-2 c = let b = c .before .before in rw (c .none2 .ensures) (tight-over (carried (b .before)) (bottom b) (c .before .if2 .taken))
 
+-- margins are below 2 ^ 32, since totals are
+cast-lower-ceilings : tie.Need-cast-lower-ceilings
+cast-lower-ceilings c = record { fits = omega (arith, at-start (at-clear (at-under c .before .before)) .pre .highest) }
+
 lower-ceilings-requires : tie.Need-lower-ceilings-requires
 lower-ceilings-requires c κs = carried-ready (carried (at-under c .before .before))
 
 returns-3 : tie.Need-returns-3
 returns-3 c = rw (c .none3 .ensures) (tight-apart (narrowed (c .before .before)) (c .before .if3 .taken))
+
+cast-raise-floors : tie.Need-cast-raise-floors
+cast-raise-floors c = record { fits = omega (arith, at-top (at-narrowed c .before) .held-total .ensures .1) }
 
 raise-floors-requires : tie.Need-raise-floors-requires
 raise-floors-requires c κs = lowered-raisable (lowered (at-lowered (at-top (at-narrowed c .before))))
@@ -97,6 +105,7 @@ tighten-spec =
     held-sum-requires
     (λ c. search needs)
     returns-2
+    cast-lower-ceilings
     lower-ceilings-requires
     (λ c. search needs)
     (λ c. search needs)
@@ -104,5 +113,6 @@ tighten-spec =
     (λ c. search needs)
     returns-3
     (λ c. search needs)
+    cast-raise-floors
     raise-floors-requires
     returns-4)
