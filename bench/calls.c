@@ -40,7 +40,7 @@ static struct cut cut;
 static size_t floors_bytes;
 static int32_t point, total;
 static int answers[SIDES];
-static size_t rule;
+static cloverdrum_size rule;
 static uint8_t floors[CLOVERDRUM_LIST_BYTES], ceilings[CLOVERDRUM_LIST_BYTES], rises[CLOVERDRUM_LIST_BYTES], schedule[CLOVERDRUM_LIST_BYTES];
 static uint8_t cuts[CLOVERDRUM_CUTS_BYTES], file[CLOVERDRUM_FILE_BYTES];
 
@@ -106,7 +106,8 @@ void prepare(const struct call *call)
 /* The file has a cut for each day. */
 static int make_file_entry(bool writes)
 {
-    size_t days, found, n = (size_t)profile.days, length = POINT_BYTES * n, cuts_length = CUT_BYTES * n;
+    size_t n = (size_t)profile.days, length = POINT_BYTES * n, cuts_length = CUT_BYTES * n;
+    cloverdrum_size days, found;
     int32_t least, most;
     if (writes)
         return cloverdrum_write_file(n, (const uint8_t *)profile.floors, length, (const uint8_t *)profile.ceilings, length,
@@ -118,7 +119,8 @@ static int make_file_entry(bool writes)
 
 static int answer_of(enum side side, const struct call *call)
 {
-    size_t place, length = POINT_BYTES * (size_t)profile.days;
+    size_t length = POINT_BYTES * (size_t)profile.days;
+    cloverdrum_size place;
     int32_t least, most;
     uint8_t spent;
     switch (call->entry) {

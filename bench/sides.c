@@ -27,7 +27,7 @@ static struct ranges opened;
 
 static uint8_t changed[CLOVERDRUM_LIST_BYTES];
 static uint16_t plain_changed[SIDES][DAYS];
-static size_t count;
+static cloverdrum_size count;
 static int32_t plain_count[SIDES];
 
 void fail(const char *text)

@@ -22,7 +22,7 @@ struct input {
 
 /* What a file says. */
 struct profile {
-    size_t days, cuts_count;
+    cloverdrum_size days, cuts_count;
     int32_t total_floor, total_ceiling;
     uint8_t floors[CLOVERDRUM_LIST_BYTES], ceilings[CLOVERDRUM_LIST_BYTES], rises[CLOVERDRUM_LIST_BYTES], cuts[CLOVERDRUM_CUTS_BYTES];
 };
@@ -81,7 +81,7 @@ static unsigned open_session(const struct profile *profile, uint8_t *session)
 static unsigned make_cuts(const struct profile *profile, uint8_t *session)
 {
     static uint8_t changed[CLOVERDRUM_LIST_BYTES];
-    size_t i, changed_days;
+    cloverdrum_size i, changed_days;
     for (i = 0; i < profile->cuts_count; i++) {
         const uint8_t *cut = profile->cuts + CUT_BYTES * i;
         unsigned refusal = cloverdrum_cut(session, CLOVERDRUM_SESSION_BYTES, unsigned_at(cut + CUT_KIND), unsigned_at(cut + CUT_DAY),

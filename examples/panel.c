@@ -2,7 +2,9 @@
  * ranges: the total's floor and ceiling, then each day's number, floor and ceiling, in points. A refusal is printed as its number, with what was asked.
  *
  *     rt staticlib cloverdrum
- *     gcc -Iinclude -o target/panel examples/panel.c target/staticlib/libcloverdrum.a && target/panel */
+ *     gcc -Iinclude -o target/panel examples/panel.c target/staticlib/libcloverdrum.a && target/panel
+ *
+ * docs/BOARD.md has it for a board. */
 #include "cloverdrum.h"
 
 #include <stdio.h>
@@ -53,7 +55,7 @@ static int open_profile(uint8_t *session)
 static int cut(uint8_t *session, size_t kind, size_t day, int32_t value)
 {
     uint8_t changed[2 * DAYS];
-    size_t count, i;
+    cloverdrum_size count, i;
     if (refused("cut", cloverdrum_cut(session, CLOVERDRUM_SESSION_BYTES, kind, day, value, changed, sizeof changed, &count)))
         return 1;
     fprintf(stderr, "%u changed:", (unsigned)count);

@@ -13,17 +13,38 @@
  * signed, days are unsigned. A list of cuts has 8 bytes for each cut, as in a profile file: kind (2 bytes), day (2), value (4, signed).
  *     "n long"         exactly 2n bytes
  *     "shorter than n" under 2n bytes; an odd last byte counts for nothing
+ * On a little-endian machine, as x86-64 and Arm are, an array of int16_t is a list of points or rises, and one of uint16_t a list of days: its address as a
+ * uint8_t *, its sizeof.
  * n is the profile's day count. What lies past the elements that an entry writes is left as it is. An address may be anything where its count is 0, else it
  * must not be null; nor may the address of a number that an entry stores. No two of the byte strings and numbers of one call may overlap, unless the call
  * only reads both.
+ *
+ * Numbers. A length, a count, a day and a kind have 8 bytes on every machine (cloverdrum_size), also where size_t has 4. A size_t may be passed for one; where
+ * an entry stores one through a pointer, it has to be a cloverdrum_size.
  *
  * Results. An entry returns 0, or the number of the first refusal that applies, in the order in which the entry names them; enum cloverdrum_refusal has the
  * causes, and the entry says in brackets what more there is to say. A session of another length is one whose session_length is not CLOVERDRUM_SESSION_BYTES.
  * Other results are stored through pointers; beside a refusal they are 0. A refusal changes no list and no session, but for 8 at a cut, which marks the
  * session spent.
  *
- * No entry allocates, keeps anything between calls, or calls anything outside itself but memcpy and memset. Two threads may call at once on
- * different sessions. docs/PERFORMANCE.md has the stack that each entry takes.
+ * No entry allocates or keeps anything between calls. Two threads may call at once on different sessions. What an entry calls outside itself, a C library or
+ * its compiler's runtime has:
+ *     on x86-64       memcpy, memset
+ *     on Cortex-M     __aeabi_memclr, __aeabi_memclr4, and on Cortex-M0+ __aeabi_lmul, __aeabi_uidiv
+ *     on ARMv7 Linux  memset
+ * The archive for x86-64 is that of the kit, the others are those of board/build; docs/BOARD.md says what is proved of them and what is tested.
+ *
+ * Stack. An entry takes at most so many bytes, with the arguments that are passed on the stack, on x86-64 and on Cortex-M4. Nothing stops it on a stack that
+ * is shorter, where no guard page lies below.
+ *     cloverdrum_open           6,656   6,912
+ *     cloverdrum_cut            6,656   6,912
+ *     cloverdrum_read             256     256
+ *     cloverdrum_write_day      3,328   3,328
+ *     cloverdrum_write_total    3,328   3,328
+ *     cloverdrum_inspect        4,352   4,352
+ *     cloverdrum_write_file     5,376   5,376
+ *     cloverdrum_read_file      3,328   3,328
+ *     cloverdrum_session_bytes    256     256
  */
 #ifndef CLOVERDRUM_H
 #define CLOVERDRUM_H
@@ -31,13 +52,22 @@
 #include <stddef.h>
 #include <stdint.h>
 
+/* A length, a count, a day or a kind: 8 bytes on every machine, also where size_t has 4. On x86-64 Linux it is the type size_t. */
+typedef uint64_t cloverdrum_size;
+
+/* Where size_t has 4 bytes, a size_t * for a number that an entry stores would have 8 written through it. C++ refuses it; from here on C compilers do too that
+ * would only warn. */
+#if defined(__GNUC__) && !defined(__cplusplus) && SIZE_MAX < UINT64_MAX
+#pragma GCC diagnostic error "-Wincompatible-pointer-types"
+#endif
+
 #ifdef __cplusplus
 extern "C" {
 #endif
 
 /* The version, 100 for 1.00. The hundreds change where a session's bytes, the profile file or the parameters of an entry do, else the last two digits:
  * versions with the same hundreds take each other's sessions and files. CHANGELOG.md has an entry for each. */
-#define CLOVERDRUM_VERSION 101
+#define CLOVERDRUM_VERSION 102
 
 /* Bounds of an entry. */
 #define CLOVERDRUM_MOST_DAYS 512
@@ -89,14 +119,15 @@ enum cloverdrum_rule {
 };
 
 /* CLOVERDRUM_SESSION_BYTES, as the library has it. */
-size_t cloverdrum_session_bytes(void);
+cloverdrum_size cloverdrum_session_bytes(void);
 
 /* Opens a profile: on 0 all bytes of the session are written, with every range tightened. `rises` has the least rise from day i to day i + 1 at place i.
  * Refusals, in order: 2 (a session of another length); 1 (days is 0 or over 512); 2 (floors or ceilings not n long, rises not n - 1); 3 (a floor or a
  * ceiling); 4; 5 (total_floor or total_ceiling); 6; 8.
  * A refusal leaves every byte of the session. */
-uint8_t cloverdrum_open(uint8_t *session, size_t session_length, size_t days, const uint8_t *floors, size_t floors_length, const uint8_t *ceilings,
-                        size_t ceilings_length, const uint8_t *rises, size_t rises_length, int32_t total_floor, int32_t total_ceiling);
+uint8_t cloverdrum_open(uint8_t *session, cloverdrum_size session_length, cloverdrum_size days, const uint8_t *floors, cloverdrum_size floors_length,
+                        const uint8_t *ceilings, cloverdrum_size ceilings_length, const uint8_t *rises, cloverdrum_size rises_length, int32_t total_floor,
+                        int32_t total_ceiling);
 
 /* Cuts one range of a session, and tightens every other: the day's setpoint, or the total, is to be at least (floors) or at most (ceilings) the value.
  * `day` is 0 for the total's kinds. A cut that is looser than the present range is accepted and changes nothing. On 0 *changed_days is the number of days
@@ -105,39 +136,41 @@ uint8_t cloverdrum_open(uint8_t *session, size_t session_length, size_t days, co
  * Refusals, in order: 2 (a session of another length); 12 (an unknown kind, or a total's cut whose day is not 0); 7 (of a day's cut); 3 (a day's value);
  * 5 (a total's value); 2 (the list for changed days shorter than n); 9; 8 (the session is now spent, and shows the ranges that it had when opened).
  * A refusal leaves the list, and all but 8 leave every byte of the session. */
-uint8_t cloverdrum_cut(uint8_t *session, size_t session_length, size_t kind, size_t day, int32_t value, uint8_t *changed, size_t changed_length,
-                       size_t *changed_days);
+uint8_t cloverdrum_cut(uint8_t *session, cloverdrum_size session_length, cloverdrum_size kind, cloverdrum_size day, int32_t value, uint8_t *changed,
+                       cloverdrum_size changed_length, cloverdrum_size *changed_days);
 
 /* Reads the ranges of a session: the floor and the ceiling of each day into the lists, those of the total, and whether the session is spent (1) or not (0).
  * A spent session shows the ranges that it had when opened.
  * Refusals, in order: 2 (a session of another length); 2 (a list shorter than n).
  * A refusal leaves both lists. */
-uint8_t cloverdrum_read(const uint8_t *session, size_t session_length, uint8_t *floors, size_t floors_length, uint8_t *ceilings, size_t ceilings_length,
-                        int32_t *total_floor, int32_t *total_ceiling, uint8_t *spent);
+uint8_t cloverdrum_read(const uint8_t *session, cloverdrum_size session_length, uint8_t *floors, cloverdrum_size floors_length, uint8_t *ceilings,
+                        cloverdrum_size ceilings_length, int32_t *total_floor, int32_t *total_ceiling, uint8_t *spent);
 
 /* Writes a schedule that keeps every range and rise of the session and has this value on this day. Which one it is, is not said.
  * Refusals, in order: 2 (a session of another length); 2 (the list not n long); 7; 9; 10.
  * A refusal leaves the list. */
-uint8_t cloverdrum_write_day(const uint8_t *session, size_t session_length, size_t day, int32_t value, uint8_t *schedule, size_t schedule_length);
+uint8_t cloverdrum_write_day(const uint8_t *session, cloverdrum_size session_length, cloverdrum_size day, int32_t value, uint8_t *schedule,
+                             cloverdrum_size schedule_length);
 
 /* Writes a schedule that keeps every range and rise of the session and has this sum.
  * Refusals, in order: 2 (a session of another length); 2 (the list not n long); 9; 10.
  * A refusal leaves the list. */
-uint8_t cloverdrum_write_total(const uint8_t *session, size_t session_length, int32_t value, uint8_t *schedule, size_t schedule_length);
+uint8_t cloverdrum_write_total(const uint8_t *session, cloverdrum_size session_length, int32_t value, uint8_t *schedule, cloverdrum_size schedule_length);
 
 /* Inspects a schedule that somebody wrote. On 0 *rule, a cloverdrum_rule, says whether it is kept or which rule it breaks first: days in order, then rises in
  * order, then the total; *place is the number of the day, or of the rise (from day *place to the next), and else 0. Days and the total are judged by the
  * session's present ranges. Setpoints may be any numbers of 2 bytes.
  * Refusals, in order: 2 (a session of another length); 2 (the list not n long); 9. */
-uint8_t cloverdrum_inspect(const uint8_t *session, size_t session_length, const uint8_t *schedule, size_t schedule_length, size_t *rule, size_t *place);
+uint8_t cloverdrum_inspect(const uint8_t *session, cloverdrum_size session_length, const uint8_t *schedule, cloverdrum_size schedule_length,
+                           cloverdrum_size *rule, cloverdrum_size *place);
 
 /* Reads a profile file into lists that cloverdrum_open and cloverdrum_cut take: n = *days floors and ceilings, n - 1 rises, and *cuts_count cuts of 8 bytes.
  * Values are not judged: opening and cutting do that.
  * Refusals, in order: 11 (under 16 bytes); 1; 11 (offsets, length); 12; 2 (a list too short for what it would hold).
  * A refusal leaves all lists. */
-uint8_t cloverdrum_read_file(const uint8_t *file, size_t file_length, uint8_t *floors, size_t floors_length, uint8_t *ceilings, size_t ceilings_length,
-                             uint8_t *rises, size_t rises_length, uint8_t *cuts, size_t cuts_length, size_t *days, size_t *cuts_count,
-                             int32_t *total_floor, int32_t *total_ceiling);
+uint8_t cloverdrum_read_file(const uint8_t *file, cloverdrum_size file_length, uint8_t *floors, cloverdrum_size floors_length, uint8_t *ceilings,
+                             cloverdrum_size ceilings_length, uint8_t *rises, cloverdrum_size rises_length, uint8_t *cuts, cloverdrum_size cuts_length,
+                             cloverdrum_size *days, cloverdrum_size *cuts_count, int32_t *total_floor, int32_t *total_ceiling);
 
 /* Writes a profile and its cuts as a profile file. On 0 *file_bytes is the file's length. The profile's lists are those of cloverdrum_open; `cuts` has 8 bytes
  * for each cut, and a length that is no multiple of 8 is 2 with the profile's lists. Whether a schedule exists is not judged.
@@ -145,9 +178,9 @@ uint8_t cloverdrum_read_file(const uint8_t *file, size_t file_length, uint8_t *f
  * total_ceiling); 6; of each cut in order 12 (an unknown kind, or a total's cut whose day is not 0); 7 (of a day's cut); 3 (a day's value); 5 (a total's
  * value); 2 (the output too short).
  * A refusal leaves every byte of the file. */
-uint8_t cloverdrum_write_file(size_t days, const uint8_t *floors, size_t floors_length, const uint8_t *ceilings, size_t ceilings_length,
-                              const uint8_t *rises, size_t rises_length, int32_t total_floor, int32_t total_ceiling, const uint8_t *cuts,
-                              size_t cuts_length, uint8_t *file, size_t file_length, size_t *file_bytes);
+uint8_t cloverdrum_write_file(cloverdrum_size days, const uint8_t *floors, cloverdrum_size floors_length, const uint8_t *ceilings,
+                              cloverdrum_size ceilings_length, const uint8_t *rises, cloverdrum_size rises_length, int32_t total_floor, int32_t total_ceiling,
+                              const uint8_t *cuts, cloverdrum_size cuts_length, uint8_t *file, cloverdrum_size file_length, cloverdrum_size *file_bytes);
 
 #ifdef __cplusplus
 }

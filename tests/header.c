@@ -98,7 +98,7 @@ static unsigned open_total(long total_floor, long total_ceiling)
 
 static unsigned cut_room(size_t kind, size_t day, long value, size_t room)
 {
-    size_t count;
+    cloverdrum_size count;
     return cloverdrum_cut(session, sizeof session, kind, day, (int32_t)value, changed, room, &count);
 }
 
@@ -113,7 +113,7 @@ static unsigned write_day(size_t days, size_t day, long value)
     return cloverdrum_write_day(session, sizeof session, day, (int32_t)value, schedule, POINT_BYTES * days);
 }
 
-static unsigned write_file(size_t days, size_t cuts_length, size_t file_length, size_t *file_bytes)
+static unsigned write_file(size_t days, size_t cuts_length, size_t file_length, cloverdrum_size *file_bytes)
 {
     return cloverdrum_write_file(days, floors, POINT_BYTES * days, ceilings, POINT_BYTES * days, rises, POINT_BYTES * (days - 1), CLOVERDRUM_LOWEST_TOTAL,
                                  CLOVERDRUM_HIGHEST_TOTAL, cuts, cuts_length, file, file_length, file_bytes);
@@ -121,7 +121,7 @@ static unsigned write_file(size_t days, size_t cuts_length, size_t file_length, 
 
 static unsigned read_file(size_t file_length, size_t list_length, size_t cuts_length)
 {
-    size_t days, count;
+    cloverdrum_size days, count;
     int32_t total_floor, total_ceiling;
     return cloverdrum_read_file(file, file_length, floors, list_length, ceilings, list_length, rises, list_length, cuts, cuts_length, &days, &count,
                                 &total_floor, &total_ceiling);
@@ -174,7 +174,7 @@ static void try_lists(void)
 
 static void try_written_file(void)
 {
-    size_t bytes;
+    cloverdrum_size bytes;
     put_days(CLOVERDRUM_MOST_DAYS, CLOVERDRUM_LOWEST_POINT, CLOVERDRUM_HIGHEST_POINT, 0);
     put_cuts();
     REFUSED(write_file(CLOVERDRUM_MOST_DAYS + 1, 0, sizeof file, &bytes), CLOVERDRUM_BAD_COUNT, CLOVERDRUM_MOST_DAYS);
@@ -231,10 +231,10 @@ static void try_kinds(void)
     same("CLOVERDRUM_TOTAL_CEILING", total_ceiling, 15);
 }
 
-static size_t broken_rule(long first, long second)
+static cloverdrum_size broken_rule(long first, long second)
 {
     uint8_t schedule[2 * POINT_BYTES];
-    size_t rule, place;
+    cloverdrum_size rule, place;
     put_point(schedule, 0, first);
     put_point(schedule, 1, second);
     SAME(cloverdrum_inspect(session, sizeof session, schedule, sizeof schedule, &rule, &place), CLOVERDRUM_OK);
