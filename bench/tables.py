@@ -23,9 +23,9 @@ ENTRIES = {
     "a cut answered 8": ["cut_8"],
 } | {f"`cloverdrum_{name}`": [name] for name in ["read", "write_day", "write_total", "inspect", "write_file", "read_file", "session_bytes"]}
 
-# The header's bytes of stack for an entry: on x86-64, on Cortex-M4.
+# The header's bytes of stack for an entry: on x86-64, on Cortex-M.
 STACK = re.compile(r"^ \* {5}(cloverdrum_\w+) +([\d,]+) +([\d,]+)$", re.M)
-X86_64, CORTEX_M4 = 0, 1
+X86_64, CORTEX_M = 0, 1
 
 over = []
 
@@ -41,11 +41,11 @@ def end():
         sys.exit("\n".join(over))
 
 
-def limit_stacks(machine, stacks):
-    """No entry, by name, takes more stack than the header says."""
+def limit_stacks(machine, column, stacks):
+    """No entry, by name, takes more stack on the machine than the header says in the column."""
     said = {name: [int(figure.replace(",", "")) for figure in figures] for name, *figures in STACK.findall(HEADER.read_text())}
     for entry, stack in stacks.items():
-        limit(f"{entry}, bytes of stack, by the header", stack, said[entry][machine])
+        limit(f"{machine}, {entry}, bytes of stack, by the header", stack, said[entry][column])
 
 
 def entry_of(row):

@@ -4,7 +4,7 @@
 
 #include <stdio.h>
 
-/* The core's timer counts down from 2^24 - 1, 25 million times a second: 128 counts are 5 instructions. */
+/* The core's timer counts down from 2^24 - 1, 25 million times a second: 128 counts are 5 instructions, and a call may take 655,000. */
 #define TIMER_CONTROL (*(volatile uint32_t *)0xe000e010)
 #define TIMER_RELOAD (*(volatile uint32_t *)0xe000e014)
 #define TIMER (*(volatile uint32_t *)0xe000e018)
@@ -33,12 +33,12 @@ static void count_sides(const struct call *call, uint32_t nothing)
     check(call);
 }
 
-/* A loop of a million turns, two instructions each. */
+/* A loop of two instructions. */
 static void calibrate(void)
 {
     enum { TURNS = 100000, OTHERS = 16 };
     uint32_t start = TIMER, turns = TURNS, counted;
-    __asm__ volatile("1: subs %0, #1\n bne 1b" : "+l"(turns)::"cc");
+    __asm__ volatile(".syntax unified\n1: subs %0, #1\n bne 1b" : "+l"(turns)::"cc");
     counted = counted_since(start);
     if (counted < 2 * TURNS || counted > 2 * TURNS + OTHERS)
         fail("the timer does not count instructions");

@@ -13,8 +13,8 @@
  * signed, days are unsigned. A list of cuts has 8 bytes for each cut, as in a profile file: kind (2 bytes), day (2), value (4, signed).
  *     "n long"         exactly 2n bytes
  *     "shorter than n" under 2n bytes; an odd last byte counts for nothing
- * On a little-endian machine, as x86-64 and Arm are, an array of int16_t is a list of points or rises, and one of uint16_t a list of days: its address as a
- * uint8_t *, its sizeof.
+ * On a little-endian machine, as all are that there is an archive for, an array of int16_t is a list of points or rises, and one of uint16_t a list of days:
+ * its address as a uint8_t *, its sizeof.
  * n is the profile's day count. What lies past the elements that an entry writes is left as it is. An address may be anything where its count is 0, else it
  * must not be null; nor may the address of a number that an entry stores. No two of the byte strings and numbers of one call may overlap, unless the call
  * only reads both.
@@ -34,16 +34,16 @@
  *     on ARMv7 Linux  memset
  * The archive for x86-64 is that of the kit, the others are those of board/build; docs/BOARD.md says what is proved of them and what is tested.
  *
- * Stack. An entry takes at most so many bytes, with the arguments that are passed on the stack, on x86-64 and on Cortex-M4. Nothing stops it on a stack that
- * is shorter, where no guard page lies below.
+ * Stack. An entry takes at most so many bytes, with the arguments that are passed on the stack, on x86-64 and on Cortex-M. Nothing stops it on a stack that is
+ * shorter, where no guard page lies below.
  *     cloverdrum_open           6,656   6,912
  *     cloverdrum_cut            6,656   6,912
  *     cloverdrum_read             256     256
- *     cloverdrum_write_day      3,328   3,328
- *     cloverdrum_write_total    3,328   3,328
+ *     cloverdrum_write_day      3,328   3,584
+ *     cloverdrum_write_total    3,328   3,584
  *     cloverdrum_inspect        4,352   4,352
- *     cloverdrum_write_file     5,376   5,376
- *     cloverdrum_read_file      3,328   3,328
+ *     cloverdrum_write_file     5,376   5,632
+ *     cloverdrum_read_file      3,328   3,584
  *     cloverdrum_session_bytes    256     256
  */
 #ifndef CLOVERDRUM_H
