@@ -1,6 +1,6 @@
 // Document 01's pass over the ceilings, on levels as shown. A shifted level is a level plus its day's shift.
 ghost use mathlib.Core.Path.{_≡_};
-ghost use Prim.Native.Nat.{_+_, _-_, _*_, _/_, _≤_, _<_, min};
+ghost use Prim.Native.Nat.{_+_, _-_, _*_, _≤_, _<_, min};
 ghost use Rattle.limits.specs.Limits.{mostDays, highestLevel, riseOffset, highestShift};
 ghost use Rattle.theory_lists.specs.Written.{written};
 ghost use Rattle.theory_method.specs.Filter.{shifted, lowered};
