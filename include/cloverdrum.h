@@ -36,8 +36,8 @@
  *
  * Stack. An entry takes at most so many bytes, with the arguments that are passed on the stack, on x86-64 and on Cortex-M. Nothing stops it on a stack that is
  * shorter, where no guard page lies below.
- *     cloverdrum_open           6,656   6,912
- *     cloverdrum_cut            6,656   6,912
+ *     cloverdrum_open           3,584   3,840
+ *     cloverdrum_cut            3,584   3,840
  *     cloverdrum_read             256     256
  *     cloverdrum_write_day      3,328   3,584
  *     cloverdrum_write_total    3,328   3,584
@@ -67,7 +67,7 @@ extern "C" {
 
 /* The version, 100 for 1.00. The hundreds change where a session's bytes, the profile file or the parameters of an entry do, else the last two digits:
  * versions with the same hundreds take each other's sessions and files. CHANGELOG.md has an entry for each. */
-#define CLOVERDRUM_VERSION 102
+#define CLOVERDRUM_VERSION 103
 
 /* Bounds of an entry. */
 #define CLOVERDRUM_MOST_DAYS 512

@@ -47,12 +47,14 @@ pub fn code_points(bytes: &[u8], n: usize, low: i32, high: i32, out: &mut [u16; 
     ensures { λ r. ⌜ every (within lowestSetpoint highestSetpoint) (pointsIn (now (bytes .entry)) n) ≡ true ⌝ }
 {
     let mut outside = false;
-    let mut k = 0;
-    while k < n {
+    let mut j = 0u32;
+    let end = n as u32;
+    while j < end {
+        let k = j as usize;
         let cell = code_cell(i16_at(bytes, k * 2), low, high);
         out[k] = cell.code;
         outside = outside | cell.outside;
-        k += 1;
+        j += 1;
     }
     outside
 }
@@ -73,15 +75,17 @@ pub fn code_ranges(
 {
     let mut outside = false;
     let mut crossed = false;
-    let mut k = 0;
-    while k < n {
+    let mut j = 0u32;
+    let end = n as u32;
+    while j < end {
+        let k = j as usize;
         let floor = code_cell(i16_at(floors, k * 2), LOWEST_POINT, HIGHEST_POINT);
         let ceiling = code_cell(i16_at(ceilings, k * 2), LOWEST_POINT, HIGHEST_POINT);
         low[k] = floor.code;
         high[k] = ceiling.code;
         outside = outside | (floor.outside | ceiling.outside);
         crossed = crossed | (ceiling.code < floor.code);
-        k += 1;
+        j += 1;
     }
     CodedRanges { outside, crossed }
 }
@@ -115,10 +119,12 @@ pub fn put_cells(cells: &[u16; MOST_DAYS], n: usize, place: usize, out: &mut [u8
     requires { ⌜ (n ≤ mostDays) × (place + n * 2 ≤ length (now out)) ⌝ }
     ensures { λ r. ⌜ now (out .exit) ≡ sets (now (out .entry)) place (cellBytes (at (now (cells .entry))) n) ⌝ }
 {
-    let mut k = 0;
-    while k < n {
+    let mut j = 0u32;
+    let end = n as u32;
+    while j < end {
+        let k = j as usize;
         put_u16(out, place + k * 2, cells[k]);
-        k += 1;
+        j += 1;
     }
 }
 

@@ -14,7 +14,7 @@ use Rattle.base_codes.specs.Code.{code}
 use Rattle.theory_chains.specs.Fit.{fitFrom}
 use Rattle.theory_method.specs.Shift.{shiftFrom}
 use Rattle.theory_method.specs.Filter.{tightened, tightCeilings, tightFloors, raised, loweredFrom, carried, forwarded, shifted, held}
-use Rattle.tighten_ceilings.specs.Round.{over, rounded, below}
+use Rattle.tighten_passes.specs.Round.{over, rounded, below}
 use Rattle.session.specs.Profile.{Profile}
 use Rattle.session.specs.Showing.{floorOn, ceilingOn, totalFloor, totalCeiling}
 use Rattle.session.specs.Opening.{numbersWith, profile, opened, earlyOpening, codes}

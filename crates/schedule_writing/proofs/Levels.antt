@@ -11,7 +11,6 @@ use Rattle.theory_lists.specs.Written.{written, length-written, written-below, 
 use Rattle.theory_method.specs.Filter.{box, InBounds, carried, firstCrossed, forwarded}
 use Rattle.theory_method.specs.Levels.{refit, refit-day}
 use Rattle.theory_method.specs.Stages.{crossing}
-use Rattle.tighten_carry.specs.Carriable.{Carriable}
 use Rattle.schedule_raising.specs.Raising.{raisedTo}
 use Rattle.schedule_raising.proofs.Laws.{raised-stands, raised-small}
 use Rattle.schedule_writing.specs.Writing.{levelsThrough}
@@ -39,9 +38,6 @@ module _ {fs cs rs : List ℕ} {n lowest day level : ℕ} {gs ds : List ℕ} whe
   module _ (d : LevelSet fs cs rs n lowest day level gs ds) where
     set-bounds : InBounds (box gs ds rs n 0 lowest)
     set-bounds = rw (d .floors, d .ceilings) (refit-day (d .bounds) day level (d .known) (d .small))
-
-    pub through-carriable : Carriable ds rs n
-    through-carriable = record { most = set-bounds .most; ceiling = set-bounds .ceiling; rise = set-bounds .rise }
 
   module _ {r : ℕ} {hs : List ℕ} (d : LevelCarried fs cs rs n lowest day level gs ds r hs) where
     b : InBounds (box gs ds rs n 0 lowest)

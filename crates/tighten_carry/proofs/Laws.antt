@@ -1,6 +1,6 @@
 -- The loop of `carry` over plain lists and numbers: a record of what holds at the loop's head, what starts it, what a turn does, and each way out.
 use Prim.Native.Nat.{ℕ, _+_, _-_, _*_, _≤_, _<_, max}
-use mathlib.Core.Path.{_≡_, ap, _∙_}
+use mathlib.Core.Path.{_≡_, ap}
 use mathlib.Core.Bool.{true}
 use mathlib.Core.List.{List}
 use native.Mathlib.Numerals.{add-one}
@@ -32,11 +32,10 @@ pub record Turn (fs cs rs : List ℕ) (n i up s : ℕ) (out : List ℕ) (x y v :
   pub floor : v ≡ max (x + 2000) up - 2000
   pub ceiling : (y ≡ at cs i) × (y < 65536)
 
--- where v is not above y it stores w and reads the rise z
-pub record Kept (fs cs rs : List ℕ) (n i up s : ℕ) (out : List ℕ) (x y v w z : ℕ) : Type 0 where
+-- where v is not above y it is stored, and the rise z read
+pub record Kept (fs cs rs : List ℕ) (n i up s : ℕ) (out : List ℕ) (x y v z : ℕ) : Type 0 where
   pub turn : Turn fs cs rs n i up s out x y v
   pub under : v ≤ y
-  pub stored : w ≡ v
   pub rise : z ≡ at rs i
 
 -- what is left: r days carried, the first crossed day or all n, and their sum s
@@ -64,13 +63,13 @@ module _ {fs cs rs : List ℕ} {n : ℕ} where
         let crossed : ltb (at cs i) (carried fs rs i) ≡ true = lt-ltb (at cs i) (carried fs rs i) (omega (arith, floor, t .ceiling)) in
         (nowhere-here (h .under) (t .more) crossed, (h .floors .made, (h .sums .made, h .sums .fits)))
 
-  pub upto-more : {i up s : ℕ} {out : List ℕ} {x y v w z : ℕ} → Kept fs cs rs n i up s out x y v w z → Upto fs cs rs n (i + 1) (v + z) (s + v) (set out i w)
+  pub upto-more : {i up s : ℕ} {out : List ℕ} {x y v z : ℕ} → Kept fs cs rs n i up s out x y v z → Upto fs cs rs n (i + 1) (v + z) (s + v) (set out i v)
   unfolding carried
   upto-more {i} k =
       let t = k .turn in
       record {
         under = nowhere-more (t .head .under) (t .more) (le-ltb (at cs i) (carried fs rs i) (omega (arith, floor t, t .ceiling, k .under)));
-        floors = filled-more (t .head .floors) (t .more) (k .stored ∙ floor t);
+        floors = filled-more (t .head .floors) (t .more) (floor t);
         sums = summed-more (t .head .sums) (t .more) (floor t, omega (arith, t .ceiling, k .under));
         next = rw add-one (omega (arith, floor t, k .rise));
       }

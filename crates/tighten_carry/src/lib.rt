@@ -1,16 +1,13 @@
 // Floors carried forward, and whether a floor is above its ceiling.
 ghost use mathlib.Core.Path.{_≡_};
-ghost use Prim.Native.Nat.{_*_, _≤_};
+ghost use Prim.Native.Nat.{_*_, _≤_, max};
 ghost use lib.Dec.{ltb};
 ghost use Rattle.limits.specs.Limits.{mostDays};
 ghost use Rattle.theory_lists.specs.Sum.{at};
 ghost use Rattle.theory_lists.specs.Written.{written};
 ghost use Rattle.theory_chains.specs.Sum.{sum, all};
 ghost use Rattle.theory_method.specs.Filter.{carried, firstCrossed};
-ghost use Rattle.tighten_carry.specs.Carriable.{Carriable};
-use base_numbers::max;
-use base_numbers::narrow;
-use base_numbers::wide;
+use base_numbers::word;
 use limits::MOST_DAYS;
 use limits::RISE_OFFSET;
 
@@ -18,6 +15,12 @@ use limits::RISE_OFFSET;
 pub struct Carried {
     pub days: usize,
     pub sum: usize,
+}
+
+fn larger(x: u32, y: u32) -> u32
+    ensures { λ r. ⌜ r ≡ max x y ⌝ }
+{
+    if x < y { y } else { x }
 }
 
 // Carries the floors forward, up to the first day whose carried floor is above its ceiling, or all n. `up` is the least
@@ -28,25 +31,33 @@ pub fn carry(
     rises: &[u16; MOST_DAYS],
     n: usize,
 ) -> Carried
-    requires { ⌜ Carriable (now ceilings) (now rises) n ⌝ }
+    requires { ⌜ n ≤ mostDays ⌝ }
     ensures { λ r. ⌜ r .days ≡ firstCrossed (carried (now (floors .entry)) (now (rises .entry))) (at (now (ceilings .entry))) n ⌝ }
     ensures { λ r. ⌜ now (floors .exit) ≡ written (carried (now (floors .entry)) (now (rises .entry))) (r .days) (now (floors .entry)) ⌝ }
     ensures { λ r. ⌜ (r .sum ≡ sum all (r .days) (carried (now (floors .entry)) (now (rises .entry)))) × (r .sum ≤ r .days * 65535) ⌝ }
 {
-    let mut up = 0;
-    let mut sum = 0;
-    let mut i = 0;
-    while i < n {
-        let floor = max(wide(floors[i]) + RISE_OFFSET, up) - RISE_OFFSET;
-        if wide(ceilings[i]) < floor {
-            return Carried { days: i, sum };
+    let mut up = 0u32;
+    let mut sum = 0u32;
+    let mut i = 0u32;
+    let end = n as u32;
+    while i < end {
+        let k = i as usize;
+        let floor = larger(word(floors[k]) + RISE_OFFSET as u32, up) - RISE_OFFSET as u32;
+        if word(ceilings[k]) < floor {
+            return Carried {
+                days: k,
+                sum: sum as usize,
+            };
         }
-        floors[i] = narrow(floor);
+        floors[k] = floor as u16;
         sum += floor;
-        up = floor + wide(rises[i]);
+        up = floor + word(rises[k]);
         i += 1;
     }
-    Carried { days: n, sum }
+    Carried {
+        days: n,
+        sum: sum as usize,
+    }
 }
 
 // Whether the floor of one of the first n days is above its ceiling.

@@ -9,32 +9,9 @@ use borrow.Author.Tests.{lt-ltb, le-ltb}
 use Rattle.theory_lists.specs.Sum.{at}
 use Rattle.theory_lists.specs.Written.{written}
 use Rattle.theory_chains.specs.Sum.{sum, all, sum-eq}
-use Rattle.theory_method.specs.Filter.{Box, withFloors, withCeilings, InBounds, carried, firstCrossed, forwarded, lowered, mirrored, reversed, zeros, raised, held, none, tightFloors, tightCeilings, tightened}
-use Rattle.theory_method.specs.Stages.{Ready, ready, forwarded-at, crossing, lowered-ready, lowered-rising, mirrored-ready, raised-is}
-use Rattle.tighten_filtering.specs.FloorsReady.{FloorsReady}
-
--- ---- raise_floors
-
--- the mirrors that are lowered in place of raising
-pub record Mirrored (fs cs rs : List ℕ) (n : ℕ) (ls hs bs : List ℕ) : Type 0 where
-  pub raisable : FloorsReady fs cs rs n
-  pub low : ls ≡ written (mirrored cs n) n zeros
-  pub high : hs ≡ written (mirrored fs n) n zeros
-  pub back : bs ≡ written (reversed rs n) (n - 1) zeros
-
-pub floor-small : {fs cs rs : List ℕ} {n : ℕ} → FloorsReady fs cs rs n → (k : ℕ) → k < n → at fs k ≤ 5000
-floor-small h k l = omega (arith, h .ready .fits k l, h .ready .ceiling k l)
-
-module _ {fs cs rs : List ℕ} {n : ℕ} {low high back : List ℕ} (d : Mirrored fs cs rs n low high back) where
-  pub mirror-ready : Ready low high back n
-  mirror-ready = rw (d .low, d .high, d .back) (mirrored-ready (d .raisable .ready) (d .raisable .rising))
-
-  module _ (margin : ℕ) {new : List ℕ} (en : new ≡ written (lowered low high back n margin) n high) where
-    pub new-small : (k : ℕ) → k < n → at new k ≤ 5000
-    new-small = rw en (lowered-ready mirror-ready margin .ceiling)
-
-    pub new-raised : written (mirrored new n) n fs ≡ raised fs cs rs n margin
-    new-raised = rw (en, d .low, d .high, d .back) (sym (raised-is fs cs rs n margin))
+use Rattle.theory_method.specs.Filter.{Box, withFloors, withCeilings, InBounds, carried, firstCrossed, forwarded, lowered, raised, held, none, tightFloors, tightCeilings, tightened}
+use Rattle.theory_method.specs.Stages.{Ready, ready, forwarded-at, crossing, lowered-ready, lowered-rising}
+use Rattle.tighten_passes.specs.View.{FloorsReady}
 
 -- ---- tighten
 

@@ -1,46 +1,23 @@
 // Document 01's filtering, on levels as shown.
 ghost use mathlib.Core.Path.{_≡_};
 ghost use mathlib.Core.Bool.{false};
-ghost use Rattle.theory_method.specs.Filter.{InBounds, raised, tightened};
+ghost use Rattle.theory_method.specs.Filter.{InBounds, tightened};
 ghost use Rattle.tighten_filtering.specs.Boxed.{boxed};
-ghost use Rattle.tighten_filtering.specs.FloorsReady.{FloorsReady};
 use base_arrays::held_sum;
 use base_arrays::held_total;
-use base_arrays::mirror;
-use base_arrays::mirror_both;
-use base_arrays::reverse;
 use base_codes::CodedNumbers;
 use base_numbers::max;
 use base_numbers::min;
 use limits::MOST_DAYS;
 use tighten_carry::carry;
-use tighten_ceilings::lower_ceilings;
+use tighten_passes::lower_ceilings;
+use tighten_passes::raise_floors;
 
 // Whether there is a schedule, and the total's range.
 pub struct Totals {
     pub found: bool,
     pub lowest: usize,
     pub highest: usize,
-}
-
-// Raises the floors as the mirror of lowering the ceilings.
-fn raise_floors(
-    floors: &mut [u16; MOST_DAYS],
-    ceilings: &[u16; MOST_DAYS],
-    rises: &[u16; MOST_DAYS],
-    n: usize,
-    margin: u32,
-)
-    requires { ⌜ FloorsReady (now floors) (now ceilings) (now rises) n ⌝ }
-    ensures { λ _. ⌜ now (floors .exit) ≡ raised (now (floors .entry)) (now (ceilings .entry)) (now (rises .entry)) n margin ⌝ }
-{
-    let mut low = [0u16; MOST_DAYS];
-    let mut high = [0u16; MOST_DAYS];
-    let mut back = [0u16; MOST_DAYS];
-    mirror_both(floors, ceilings, n, &mut low, &mut high);
-    reverse(rises, n, &mut back);
-    lower_ceilings(&low, &mut high, &back, n, margin);
-    mirror(&high, n, floors);
 }
 
 // There is no schedule.

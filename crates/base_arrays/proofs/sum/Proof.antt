@@ -7,10 +7,10 @@ use Rattle.base_arrays.proofs.sum.Statement.{statement}
 use Rattle.base_arrays.proofs.sum.Tie as tie
 
 abbrev Inv-loop : tie.InvT-loop
-Inv-loop levels n total₀ count₀ total count = Summed (at levels) n count total
+Inv-loop levels n total₀ count₀ end total count = Summed (at levels) n count total
 
 abbrev μ-loop : tie.MeasureT-loop
-μ-loop levels n total₀ count₀ total count = n - count
+μ-loop levels n total₀ count₀ end total count = n - count
 
 loop-holds : tie.Need-loop-holds Inv-loop μ-loop
 loop-holds c = summed-none
@@ -27,7 +27,9 @@ sum-spec =
     (tie.spec
     Inv-loop
     μ-loop
+    (λ c. search needs)
     loop-holds
+    (λ c. search needs)
     (λ c. search needs)
     (λ c. search needs)
     (λ c. search needs)

@@ -1,4 +1,4 @@
--- `code_points` meets its contract: the first k points are coded, and the flag tells of them (`Coding`). The measure is the points left.
+-- `code_points` meets its contract: the first j points are coded, and the flag tells of them (`Coding`). The measure is the points left.
 use Prim.Native.Nat.{_-_}
 use lib.IntN.{pos}
 use mir.Syntax.{w16, w32}
@@ -12,10 +12,10 @@ use Rattle.c_lists.proofs.code_points.Statement.{statement}
 use Rattle.c_lists.proofs.code_points.Tie as tie
 
 abbrev Inv-loop : tie.InvT-loop
-Inv-loop bytes n low high out₀ outside₀ k₀ out outside k = Coding (toZ w32 low) (toZ w32 high) (pointAt bytes) n out₀ k out outside
+Inv-loop bytes n low high out₀ outside₀ j₀ end out outside j = Coding (toZ w32 low) (toZ w32 high) (pointAt bytes) n out₀ j out outside
 
 abbrev μ-loop : tie.MeasureT-loop
-μ-loop bytes n low high out₀ outside₀ k₀ out outside k = n - k
+μ-loop bytes n low high out₀ outside₀ j₀ end out outside j = n - j
 
 loop-holds : tie.Need-loop-holds Inv-loop μ-loop
 loop-holds c = coding-none
@@ -54,7 +54,9 @@ code-points-spec =
     (tie.spec
     Inv-loop
     μ-loop
+    (λ c. search needs)
     loop-holds
+    (λ c. search needs)
     (λ c. search needs)
     (λ c. search needs)
     code-cell-requires

@@ -1,4 +1,4 @@
--- `code_ranges` meets its contract: the floors and the ceilings of the first k days are coded, and the flags tell of them (`CodingRanges`). The measure is the
+-- `code_ranges` meets its contract: the floors and the ceilings of the first j days are coded, and the flags tell of them (`CodingRanges`). The measure is the
 -- days left.
 use Prim.Native.Nat.{_-_}
 use mir.Syntax.{w16}
@@ -8,10 +8,10 @@ use Rattle.c_lists.proofs.code_ranges.Statement.{statement}
 use Rattle.c_lists.proofs.code_ranges.Tie as tie
 
 abbrev Inv-loop : tie.InvT-loop
-Inv-loop floors ceilings n low₀ high₀ outside₀ crossed₀ k₀ low high outside crossed k = CodingRanges floors ceilings n low₀ high₀ k low high outside crossed
+Inv-loop floors ceilings n low₀ high₀ outside₀ crossed₀ j₀ end low high outside crossed j = CodingRanges floors ceilings n low₀ high₀ j low high outside crossed
 
 abbrev μ-loop : tie.MeasureT-loop
-μ-loop floors ceilings n low₀ high₀ outside₀ crossed₀ k₀ low high outside crossed k = n - k
+μ-loop floors ceilings n low₀ high₀ outside₀ crossed₀ j₀ end low high outside crossed j = n - j
 
 loop-holds : tie.Need-loop-holds Inv-loop μ-loop
 loop-holds c = ranges-none
@@ -46,7 +46,9 @@ code-ranges-spec =
     (tie.spec
     Inv-loop
     μ-loop
+    (λ c. search needs)
     loop-holds
+    (λ c. search needs)
     (λ c. search needs)
     (λ c. search needs)
     (λ c. search needs)

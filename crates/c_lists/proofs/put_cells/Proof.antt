@@ -1,4 +1,4 @@
--- `put_cells` meets its contract: k cells of 2 bytes each are stored from `place` on (`Stored`), and a turn stores the next one (`even-more`).
+-- `put_cells` meets its contract: j cells of 2 bytes each are stored from `place` on (`Stored`), and a turn stores the next one (`even-more`).
 -- The measure is the cells left.
 use Prim.Native.Nat.{_+_, _-_, _*_}
 use Rattle.base_little_endian.specs.Fields.{u16Bytes}
@@ -11,10 +11,10 @@ use Rattle.c_lists.proofs.put_cells.Statement.{statement}
 use Rattle.c_lists.proofs.put_cells.Tie as tie
 
 abbrev Inv-loop : tie.InvT-loop
-Inv-loop cells n place out₀ k₀ out k = Stored (λ j. u16Bytes (at cells j)) n place out₀ k (place + k * 2) out
+Inv-loop cells n place out₀ j₀ end out j = Stored (λ k. u16Bytes (at cells k)) n place out₀ j (place + j * 2) out
 
 abbrev μ-loop : tie.MeasureT-loop
-μ-loop cells n place out₀ k₀ out k = n - k
+μ-loop cells n place out₀ j₀ end out j = n - j
 
 -- the places of a turn: the cell is put, and the turn begins
 abbrev at-put : tie.After-slice-known2 Inv-loop μ-loop → tie.After-put-u16 Inv-loop μ-loop
@@ -30,7 +30,7 @@ loop-again : tie.Need-loop-again Inv-loop μ-loop
 loop-again c =
     let p = at-put c in
     let t = at-turn p in
-    even-more 2 (λ j. u16-length _) (t .before .loop .inv) (t .loop-test .taken) (p .put-u16 .ensures)
+    even-more 2 (λ k. u16-length _) (t .before .loop .inv) (t .loop-test .taken) (p .put-u16 .ensures)
 
 returns : tie.Need-returns Inv-loop μ-loop
 unfolding cellBytes
@@ -42,7 +42,9 @@ put-cells-spec =
     (tie.spec
     Inv-loop
     μ-loop
+    (λ c. search needs)
     loop-holds
+    (λ c. search needs)
     (λ c. search needs)
     (λ c. search needs)
     (λ c. search needs)

@@ -3,7 +3,7 @@
 use mathlib.Core.Path.{_≡_}
 use Rattle.theory_lists.specs.Written.{written}
 use Rattle.schedule_writing.specs.Writing.{levelsThrough}
-use Rattle.schedule_writing.proofs.Levels.{LevelSet, LevelCarried, through-carriable, through-bounds, through-raised}
+use Rattle.schedule_writing.proofs.Levels.{LevelSet, LevelCarried, through-bounds, through-raised}
 use borrow.Author.Needs.{needs}
 use Rattle.schedule_writing.proofs.write_through.Statement.{statement}
 use Rattle.schedule_writing.proofs.write_through.Tie as tie
@@ -42,7 +42,7 @@ levels : (c : tie.After-raise-to)
 levels c = through-raised (level-carried (at-carried (c .before))) (c .raise-to .ensures)
 
 carry-requires : tie.Need-carry-requires
-carry-requires c κs = through-carriable (level-set (at-ceiling c))
+carry-requires c κs = level-set (at-ceiling c) .bounds .most
 
 raise-to-requires : tie.Need-raise-to-requires
 raise-to-requires c κs = through-bounds (level-carried (at-carried c))

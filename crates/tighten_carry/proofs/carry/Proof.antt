@@ -4,71 +4,62 @@ use Prim.Native.Nat.{_-_}
 use mathlib.Core.Path.{ap}
 use Rattle.tighten_carry.proofs.Laws.{Upto, Turn, Kept, upto-none, upto-more, upto-crossed, upto-all}
 use borrow.Author.Needs.{needs}
-use native.Mathlib.Omega.{arith}
 use Rattle.tighten_carry.proofs.carry.Statement.{statement}
 use Rattle.tighten_carry.proofs.carry.Tie as tie
 
 abbrev Inv-loop : tie.InvT-loop
-Inv-loop floors₀ ceilings rises n up₀ sum₀ i₀ floors up sum i = Upto floors₀ ceilings rises n i up sum floors
+Inv-loop floors₀ ceilings rises n up₀ sum₀ i₀ end floors up sum i = Upto floors₀ ceilings rises n i up sum floors
 
 abbrev μ-loop : tie.MeasureT-loop
-μ-loop floors₀ ceilings rises n up₀ sum₀ i₀ floors up sum i = n - i
+μ-loop floors₀ ceilings rises n up₀ sum₀ i₀ end floors up sum i = n - i
 
 loop-holds : tie.Need-loop-holds Inv-loop μ-loop
 loop-holds c = upto-none
 
 -- ---- the places of a turn: it begins, the new floor is known, the ceiling is read, the floor is not above it
 
-abbrev at-turn : tie.After-wide Inv-loop μ-loop → tie.In-loop Inv-loop μ-loop
+abbrev at-turn : tie.After-word Inv-loop μ-loop → tie.In-loop Inv-loop μ-loop
 at-turn c = c .before .before
 
-abbrev at-floor : tie.After-wide2 Inv-loop μ-loop → tie.After-max Inv-loop μ-loop
+abbrev at-floor : tie.After-word2 Inv-loop μ-loop → tie.After-larger Inv-loop μ-loop
 at-floor c = c .before .before
 
-abbrev at-kept : tie.After-wide3 Inv-loop μ-loop → tie.After-narrow Inv-loop μ-loop
+abbrev at-kept : tie.After-word3 Inv-loop μ-loop → tie.Else1 Inv-loop μ-loop
 at-kept c = c .before .before
 
-turn : (c : tie.After-wide2 Inv-loop μ-loop)
+turn : (c : tie.After-word2 Inv-loop μ-loop)
     → let f = at-floor c in
     let h = at-turn (f .before) .before in
     let a = h .before .args in
-    Turn (a .floors .now) (a .ceilings .now) (a .rises .now) (a .n) (h .loop .i) (h .loop .up) (h .loop .sum) (h .loop .floors) (f .before .wide .result) (c .wide2 .result) (f .max .result - 2000)
+    Turn (a .floors .now) (a .ceilings .now) (a .rises .now) (a .n) (h .loop .i) (h .loop .up) (h .loop .sum) (h .loop .floors) (f .before .word .result) (c .word2 .result) (f .larger .result - 2000)
 turn c =
     let f = at-floor c in
     let t = at-turn (f .before) in
     record {
       head = t .before .loop .inv;
       more = t .loop-test .taken;
-      read = f .before .wide .ensures .0;
-      floor = ap (λ m. m - 2000) (f .max .ensures);
-      ceiling = c .wide2 .ensures;
+      read = f .before .word .ensures .0;
+      floor = ap (λ m. m - 2000) (f .larger .ensures);
+      ceiling = c .word2 .ensures;
     }
 
-kept : (c : tie.After-wide3 Inv-loop μ-loop)
+kept : (c : tie.After-word3 Inv-loop μ-loop)
     → let k = at-kept c in
-    let d = k .before .before in
+    let d = k .before in
     let f = at-floor d in
     let h = at-turn (f .before) .before in
     let a = h .before .args in
-    Kept (a .floors .now) (a .ceilings .now) (a .rises .now) (a .n) (h .loop .i) (h .loop .up) (h .loop .sum) (h .loop .floors) (f .before .wide .result) (d .wide2 .result) (f .max .result - 2000)
-    (k .narrow .result) (c .wide3 .result)
+    Kept (a .floors .now) (a .ceilings .now) (a .rises .now) (a .n) (h .loop .i) (h .loop .up) (h .loop .sum) (h .loop .floors) (f .before .word .result) (d .word2 .result) (f .larger .result - 2000) (c .word3 .result)
 kept c =
     let k = at-kept c in
     record {
-      turn = turn (k .before .before);
-      under = k .before .if1 .left;
-      stored = k .narrow .ensures;
-      rise = c .wide3 .ensures .0;
+      turn = turn (k .before);
+      under = k .if1 .left;
+      rise = c .word3 .ensures .0;
     }
 
 returns : tie.Need-returns Inv-loop μ-loop
 returns c = upto-crossed (turn (c .before)) (c .if1 .taken)
-
-narrow-requires : tie.Need-narrow-requires Inv-loop μ-loop
-narrow-requires c κs =
-    let t = at-turn (at-floor (c .before) .before) in
-    let h = t .before in
-    omega (arith, h .before .pre .ceiling (h .loop .i) (t .loop-test .taken))
 
 loop-again : tie.Need-loop-again Inv-loop μ-loop
 loop-again c = upto-more (kept c)
@@ -82,6 +73,7 @@ carry-spec =
     (tie.spec
     Inv-loop
     μ-loop
+    (λ c. search needs)
     loop-holds
     (λ c. search needs)
     (λ c. search needs)
@@ -92,8 +84,12 @@ carry-spec =
     (λ c. search needs)
     (λ c. search needs)
     (λ c. search needs)
+    (λ c. search needs)
+    (λ c. search needs)
+    (λ c. search needs)
+    (λ c. search needs)
     returns
-    narrow-requires
+    (λ c. search needs)
     (λ c. search needs)
     (λ c. search needs)
     (λ c. search needs)
@@ -104,4 +100,5 @@ carry-spec =
     (λ c. search needs)
     (λ c. search needs)
     loop-again
+    (λ c. search needs)
     returns-2)

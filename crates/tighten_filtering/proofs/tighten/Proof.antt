@@ -81,7 +81,9 @@ cast-lower-ceilings : tie.Need-cast-lower-ceilings
 cast-lower-ceilings c = record { fits = omega (arith, at-start (at-clear (at-under c .before .before)) .pre .highest) }
 
 lower-ceilings-requires : tie.Need-lower-ceilings-requires
-lower-ceilings-requires c κs = carried-ready (carried (at-under c .before .before))
+lower-ceilings-requires c κs =
+    let d = at-under c .before .before in
+    (carried-ready (carried d), omega (arith, at-start (at-clear d) .pre .highest))
 
 returns-3 : tie.Need-returns-3
 returns-3 c = rw (c .none3 .ensures) (tight-apart (narrowed (c .before .before)) (c .before .if3 .taken))
@@ -90,7 +92,9 @@ cast-raise-floors : tie.Need-cast-raise-floors
 cast-raise-floors c = record { fits = omega (arith, at-top (at-narrowed c .before) .held-total .ensures .1) }
 
 raise-floors-requires : tie.Need-raise-floors-requires
-raise-floors-requires c κs = lowered-raisable (lowered (at-lowered (at-top (at-narrowed c .before))))
+raise-floors-requires c κs =
+    let t = at-top (at-narrowed c .before) in
+    (lowered-raisable (lowered (at-lowered t)), omega (arith, t .held-total .ensures .1))
 
 returns-4 : tie.Need-returns-4
 returns-4 c = let e = at-narrowed (c .before) in rw (c .raise-floors .ensures) (tight-found (narrowed (e .before)) (e .if3 .left))

@@ -1,2 +1,0 @@
-pub mod Round
-pub mod Pass

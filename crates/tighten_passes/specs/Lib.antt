@@ -1,0 +1,3 @@
+pub mod Round
+pub mod View
+pub mod Pass

@@ -1,0 +1,30 @@
+-- Lists of n days read as they are, or from the other end of the days and of the scale, and what a pass takes of them.
+use Prim.Native.Nat.{ℕ, _+_, _≤_, _<_}
+use mathlib.Core.Bool.{Bool, cond}
+use mathlib.Core.List.{List}
+use Rattle.limits.specs.Limits.{mostDays, highestLevel, riseOffset, highestRiseCode}
+use Rattle.theory_lists.specs.Sum.{at}
+use Rattle.theory_method.specs.Stages.{Ready, Rising, mirroredAll, reversedAll}
+
+abbrev pub viewed : Bool → List ℕ → ℕ → List ℕ
+viewed back l n = cond back (mirroredAll l n) l
+
+abbrev pub viewedRises : Bool → List ℕ → ℕ → List ℕ
+viewedRises back rs n = cond back (reversedAll rs n) rs
+
+-- n days of floors, carried forward
+pub record Carried (fs rs : List ℕ) (n : ℕ) : Type 0 where
+  pub most : n ≤ mostDays
+  pub floor : (k : ℕ) → k < n → at fs k ≤ highestLevel
+  pub rise : (k : ℕ) → k < n → at rs k ≤ highestRiseCode
+  pub climb : (k : ℕ) → k + 1 < n → at fs k + at rs k ≤ at fs (k + 1) + riseOffset
+
+-- levels that, so viewed, are floors carried forward
+pub record Sight (back : Bool) (fs rs : List ℕ) (n : ℕ) : Type 0 where
+  pub small : (k : ℕ) → k < n → at fs k ≤ highestLevel
+  pub carried : Carried (viewed back fs n) (viewedRises back rs n) n
+
+-- what raising floors takes: days on which lowering could run, with the ceilings carried too
+pub record FloorsReady (fs cs rs : List ℕ) (n : ℕ) : Type 0 where
+  pub ready : Ready fs cs rs n
+  pub rising : Rising cs rs n
