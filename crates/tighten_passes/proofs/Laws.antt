@@ -4,14 +4,14 @@ use mathlib.Core.Path.{_≡_, refl, ap, sym, _∙_}
 use mathlib.Core.Bool.{Bool, true, false}
 use mathlib.Core.List.{List}
 use native.Mathlib.Omega.{arith}
-use native.Mathlib.Decide.{decLe, decLt}
+use native.Mathlib.Decide.{decLt}
 use native.Mathlib.Nat.{mul-le-mul-left, div-mul-le-self, le-div-iff-mul-le}
 use native.Mathlib.Numerals.{add-one}
 use lib.ListN.{set}
 use Rattle.limits.specs.Limits.{mostDays, highestLevel, riseOffset, lastShift, highestShift}
 use Rattle.theory_lists.specs.Sum.{sumFor, at, above, sum-none, sum-front, sum-most, sum-last, sum-part, sum-zeros, excess-low, excess-exact}
 use Rattle.theory_lists.specs.Written.{written, lastWritten, written-none, written-more, written-past, last-none, last-more, last-before, last-all}
-use Rattle.theory_chains.specs.Fit.{Fitted, fit, fitted, fitted-one}
+use Rattle.theory_chains.specs.Fit.{fit, fitted, fitted-one}
 use Rattle.theory_method.specs.Shift.{shift, shiftFrom, shift-start, shift-low, shift-high, shift-step}
 use Rattle.theory_method.specs.Filter.{shifted, overload, loweredFrom, lowered, loweredAll, mirrored, raised}
 use Rattle.theory_method.specs.Stages.{Ready, mirroredAll, reversedAll, mirrored-at, reversed-at, reversed-last, mirrored-ready, lowered-at, raised-is}
@@ -153,9 +153,6 @@ shares c v x room hc hx e = go (decLt (q + p) v) (decLt v (q + p))
     go (no l) (no m) = omega arith
 
 module _ {fs rs : List ℕ} {n i margin v past c room top e : ℕ} (g : Carried fs rs n) (f : Found fs rs n i margin v past c room top e) where
-  pub found-inside : i < n
-  found-inside = omega (arith, f .found, f .span .ends, f .span .inside)
-
   pub found-some : 0 < c
   found-some = omega (arith, f .found)
 

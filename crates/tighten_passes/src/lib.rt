@@ -233,8 +233,8 @@ fn fits(w: Window) -> bool
     !is_over(w)
 }
 
-// Lowers the ceiling of day i after that of the next day. Most days fit as they are. It stands twice, once for each direction: so the compiler puts it into
-// the loops, and a call for each day would double the time on a small processor.
+// Lowers the ceiling of day i after that of the next day. Most days fit as they are. It stands twice, once for each end, so that the compiler puts it into
+// the loops: as one function with a flag it stays a call, which on a small processor doubles the time of a long profile.
 fn lower_ceiling(
     floors: &[u16; MOST_DAYS],
     rises: &[u16; MOST_DAYS],

@@ -4,7 +4,6 @@ use mathlib.Core.Path.{refl}
 use borrow.Author.Tests.{ltb-true, ltb-false}
 use Rattle.tighten_passes.specs.View.{viewed, viewedRises}
 use Rattle.tighten_passes.proofs.Laws.{Stand, found-few, stand-start, stand-done, stand-over, stand-less, stand-turn}
-use borrow.Author.Needs.{needs}
 use native.Mathlib.Omega.{arith}
 use Rattle.tighten_passes.proofs.lower.Statement.{statement}
 use Rattle.tighten_passes.proofs.lower.Tie as tie

@@ -1,10 +1,8 @@
 -- `settle` meets its contract. At its loop's head the level is as it was, and the days past the window are at it or above; the measure is the window's end.
-use Prim.Native.Nat.{_≤_, _<_}
 use mathlib.Core.Path.{_≡_, refl, _∙_}
 use Rattle.tighten_passes.specs.View.{viewed, viewedRises}
 use Rattle.tighten_passes.specs.Pass.{Open}
 use Rattle.tighten_passes.proofs.Laws.{settled}
-use borrow.Author.Needs.{needs}
 use native.Mathlib.Omega.{arith}
 use Rattle.tighten_passes.proofs.settle.Statement.{statement}
 use Rattle.tighten_passes.proofs.settle.Tie as tie
