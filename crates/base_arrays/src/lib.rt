@@ -1,7 +1,7 @@
 // Sums of the levels in an array, of which the first n elements are the days.
 ghost use mathlib.Core.Path.{_≡_};
 ghost use Prim.Native.Nat.{_+_, _-_, _*_, _≤_};
-ghost use Rattle.limits.specs.Limits.{mostDays, levelOffset};
+ghost use Rattle.limits.specs.Limits.{mostDays, levelOffset, highestHeld};
 ghost use Rattle.theory_lists.specs.Sum.{at};
 ghost use Rattle.theory_chains.specs.Sum.{sum, all};
 ghost use Rattle.theory_method.specs.Filter.{held};
@@ -35,7 +35,7 @@ pub fn held_sum(total: usize, n: usize) -> usize
 // The sum of n days' levels as a total is held.
 pub fn held_total(levels: &[u16; MOST_DAYS], n: usize) -> usize
     requires { ⌜ n ≤ mostDays ⌝ }
-    ensures { λ r. ⌜ (r ≡ held n (at (now (levels .entry)))) × (r ≤ 34066432) ⌝ }
+    ensures { λ r. ⌜ (r ≡ held n (at (now (levels .entry)))) × (r ≤ highestHeld) ⌝ }
 {
     held_sum(sum(levels, n), n)
 }

@@ -77,6 +77,10 @@ lastShift = mostDays * riseOffset
 abbrev pub highestShift : ℕ
 highestShift = lastShift + lastShift
 
+-- no held total of levels of 16 bits is above this
+abbrev pub highestHeld : ℕ
+highestHeld = mostDays * 65_536 + totalOffset
+
 -- a level past the last day that limits no day before it
 abbrev pub freeLevel : ℕ
 freeLevel = highestLevel + riseOffset

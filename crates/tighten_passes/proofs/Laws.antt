@@ -8,7 +8,7 @@ use native.Mathlib.Decide.{decLt}
 use native.Mathlib.Nat.{mul-le-mul-left, div-mul-le-self, le-div-iff-mul-le}
 use native.Mathlib.Numerals.{add-one}
 use lib.ListN.{set}
-use Rattle.limits.specs.Limits.{mostDays, highestLevel, riseOffset, lastShift, highestShift}
+use Rattle.limits.specs.Limits.{mostDays, highestLevel, riseOffset, lastShift, highestShift, highestHeld}
 use Rattle.theory_lists.specs.Sum.{sumFor, at, above, sum-none, sum-front, sum-most, sum-last, sum-part, sum-zeros, excess-low, excess-exact}
 use Rattle.theory_lists.specs.Written.{written, lastWritten, written-none, written-more, written-past, last-none, last-more, last-before, last-all}
 use Rattle.theory_chains.specs.Fit.{fit, fitted, fitted-one}
@@ -18,7 +18,7 @@ use Rattle.theory_method.specs.Stages.{Ready, mirroredAll, reversedAll, mirrore
 use Rattle.tighten_passes.specs.Round.{over, window, rounded}
 use Rattle.tighten_passes.proofs.WindowLaws.{rounded-is, window-under, window-past, window-is}
 use Rattle.tighten_passes.specs.View.{viewed, viewedRises, Carried, Sight, FloorsReady}
-use Rattle.tighten_passes.specs.Pass.{highestShifted, highestMargin, highestRoom, Span, Open, Sticking, Found, Overloaded, Rounded, Lowest, Entering}
+use Rattle.tighten_passes.specs.Pass.{highestShifted, highestRoom, Span, Open, Sticking, Found, Overloaded, Rounded, Lowest, Entering}
 
 -- ---- shifted floors
 
@@ -83,8 +83,8 @@ module _ {fs rs : List ℕ} {n i margin v past c room top e : ℕ} (g : Carried 
       let at-last : i + c - 1 ≡ past - 1 = omega (arith, t .window .span .ends) in
       omega (arith, t .window .span .total, t .window .span .high, rw at-last at (sum-last (shifted fs rs n) i c (t .window .some)))
 
-  pub drop-fits : (1 ≤ c) × (top ≤ room)
-  drop-fits = (omega (arith, t .window .some), omega (arith, less))
+  pub top-fits : top ≤ room
+  top-fits = omega (arith, less)
 
   -- the day before the last, with floor x and shift e′, which follows from the rise w between them
   pub dropped : {w x e′ : ℕ} → w ≡ at rs (past - 1 - 1) → e′ ≡ e + w - riseOffset → x ≡ at fs (past - 1 - 1)
@@ -218,7 +218,7 @@ module _ {fs rs : List ℕ} {n i margin v past c room top e : ℕ} (g : Carried 
           omega (arith, r, both, found-active)
 
       less-is : max (room / c) top < v
-      less-is = omega (arith, found-active, round-is, half)
+      less-is = omega (arith, found-active, half)
         where
           half : room / c < v
           half = pick (decLt (room / c) v)
@@ -397,7 +397,7 @@ module _ {fs cs rs : List ℕ} {n margin : ℕ} (g : Ready fs cs rs n) where
           let total : sumFor (shifted fs rs n) k (c + 1) ≡ shifted fs rs n k + sumFor (shifted fs rs n) i c = rw (← q) at (sum-front (shifted fs rs n) k c) in
           omega (arith, low, total, p .span .total)
 
-      entered-small : margin ≤ highestMargin → room + (x + here) ≤ highestRoom
+      entered-small : margin ≤ highestHeld → room + (x + here) ≤ highestRoom
       entered-small small =
           let few : c + 1 ≤ mostDays = omega (arith, p .span .ends, p .span .inside, g .most) in
           omega (
@@ -407,7 +407,7 @@ module _ {fs cs rs : List ℕ} {n margin : ℕ} (g : Ready fs cs rs n) where
             sum-most (shifted fs rs n) k (c + 1) highestShifted (λ j h u. shifted-most (floors-carried g) j (omega (arith, p .span .ends, p .span .inside))),
           )
 
-      pass-enters : margin ≤ highestMargin → Entering fs rs n k margin (y + here) (x + here) v past c room top e
+      pass-enters : margin ≤ highestHeld → Entering fs rs n k margin (y + here) (x + here) v past c room top e
       pass-enters small =
           record {
             window = record {
@@ -503,7 +503,7 @@ module _ {fs cs rs : List ℕ} {n margin : ℕ} {out : List ℕ} {here v past c 
   lowering-least h = omega (arith, t .shift-here, shift-least (floors-carried g) i h (omega (arith, t .inside)))
 
   module _ {y x : ℕ} (qy : y ≡ at out i) (qx : x ≡ at fs i) where
-    pub lowering-enters : margin ≤ highestMargin → Entering fs rs n i margin (y + here) (x + here) v past c room top e
+    pub lowering-enters : margin ≤ highestHeld → Entering fs rs n i margin (y + here) (x + here) v past c room top e
     lowering-enters small = pass-enters g (t .pass) i refl (t .shift-here) (lowering-old qy) qx small
 
     module _ {v′ past′ c′ room′ top′ e′ : ℕ} (l : Lowest fs rs n i margin (min v (y + here)) v′ past′ c′ room′ top′ e′) where
@@ -597,7 +597,7 @@ module _ {fs cs rs : List ℕ} {n margin : ℕ} (h : FloorsReady fs cs rs n) whe
       ceiling-is : x ≡ at (mirroredAll cs n) (n - (i + 1))
       ceiling-is = seen cs n i (h .ready .most) (t .inside) qx
 
-      pub raising-enters : margin ≤ highestMargin → Entering (mirroredAll cs n) (reversedAll rs n) n (n - (i + 1)) margin (y + here) (x + here) v past c room top e
+      pub raising-enters : margin ≤ highestHeld → Entering (mirroredAll cs n) (reversedAll rs n) n (n - (i + 1)) margin (y + here) (x + here) v past c room top e
       raising-enters small = pass-enters (back-ready h) (t .pass) (n - (i + 1)) next-is (t .shift-here) floor-is ceiling-is small
 
       module _ {v′ past′ c′ room′ top′ e′ : ℕ} (l : Lowest (mirroredAll cs n) (reversedAll rs n) n (n - (i + 1)) margin (min v (y + here)) v′ past′ c′ room′ top′ e′) where

@@ -2,22 +2,19 @@
 use Prim.Native.Nat.{ℕ, _+_, _-_, _*_, _≤_, _<_, min}
 use mathlib.Core.Path.{_≡_}
 use mathlib.Core.List.{List}
-use Rattle.limits.specs.Limits.{mostDays, highestLevel, highestShift}
+use Rattle.limits.specs.Limits.{mostDays, highestLevel, highestShift, highestHeld}
 use Rattle.theory_lists.specs.Sum.{sumFor, at}
 use Rattle.theory_chains.specs.Fit.{Fitted}
 use Rattle.theory_method.specs.Shift.{shift}
 use Rattle.theory_method.specs.Filter.{shifted}
 use Rattle.tighten_passes.specs.Round.{over, window, rounded}
 
--- no shifted level is above this, and no held total of 16-bit levels, and so no margin, above the next: 32 bits hold a margin and the levels of all days
+-- no shifted level is above this, and no margin with the levels of all days above the next: 32 bits hold both
 abbrev pub highestShifted : ℕ
 highestShifted = highestShift + highestLevel
 
-abbrev pub highestMargin : ℕ
-highestMargin = 34_066_432
-
 abbrev pub highestRoom : ℕ
-highestRoom = highestMargin + mostDays * highestShifted
+highestRoom = highestHeld + mostDays * highestShifted
 
 -- the c days from day i on, which end before `past`: the margin plus the sum of their floors, the floor of the last and its shift
 pub record Span (fs rs : List ℕ) (n i margin past c room top e : ℕ) : Type 0 where

@@ -4,13 +4,13 @@ ghost use mathlib.Core.Path.{_≡_};
 ghost use mathlib.Core.Bool.{true, false};
 ghost use Prim.Native.Nat.{ℕ, _+_, _-_, _*_, _≤_, _<_, min};
 ghost use lib.Dec.{ltb};
-ghost use Rattle.limits.specs.Limits.{mostDays, highestLevel, riseOffset, highestShift};
+ghost use Rattle.limits.specs.Limits.{mostDays, highestLevel, riseOffset, highestShift, highestHeld};
 ghost use Rattle.theory_lists.specs.Sum.{at};
 ghost use Rattle.theory_lists.specs.Written.{written};
 ghost use Rattle.theory_method.specs.Filter.{shifted, lowered, raised};
 ghost use Rattle.theory_method.specs.Stages.{Ready};
 ghost use Rattle.tighten_passes.specs.View.{viewed, viewedRises, Sight, FloorsReady};
-ghost use Rattle.tighten_passes.specs.Pass.{highestShifted, highestMargin, highestRoom, Open, Sticking, Found, Overloaded, Rounded, Lowest, Entering};
+ghost use Rattle.tighten_passes.specs.Pass.{highestShifted, highestRoom, Open, Sticking, Found, Overloaded, Rounded, Lowest, Entering};
 use base_numbers::word;
 use limits::HIGHEST_LEVEL;
 use limits::LAST_SHIFT;
@@ -311,7 +311,7 @@ pub fn lower_ceilings(
     n: usize,
     margin: u32,
 )
-    requires { ⌜ Ready (now floors) (now ceilings) (now rises) n × (margin ≤ highestMargin) ⌝ }
+    requires { ⌜ Ready (now floors) (now ceilings) (now rises) n × (margin ≤ highestHeld) ⌝ }
     ensures { λ _. ⌜ now (ceilings .exit) ≡ written (lowered (now (floors .entry)) (now (ceilings .entry)) (now (rises .entry)) n margin) n (now (ceilings .entry)) ⌝ }
 {
     let days = n as u32;
@@ -346,7 +346,7 @@ pub fn raise_floors(
     n: usize,
     margin: u32,
 )
-    requires { ⌜ FloorsReady (now floors) (now ceilings) (now rises) n × (margin ≤ highestMargin) ⌝ }
+    requires { ⌜ FloorsReady (now floors) (now ceilings) (now rises) n × (margin ≤ highestHeld) ⌝ }
     ensures { λ _. ⌜ now (floors .exit) ≡ raised (now (floors .entry)) (now (ceilings .entry)) (now (rises .entry)) n margin ⌝ }
 {
     let days = n as u32;

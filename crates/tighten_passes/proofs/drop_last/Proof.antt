@@ -1,6 +1,6 @@
 -- `drop_last` meets its contract: what it reads is the day before the last.
 use mathlib.Core.Path.{refl}
-use Rattle.tighten_passes.proofs.Laws.{drop-fits, dropped, end-most, end-least}
+use Rattle.tighten_passes.proofs.Laws.{top-fits, dropped, end-most, end-least}
 use borrow.Author.Needs.{needs}
 use native.Mathlib.Omega.{arith}
 use Rattle.tighten_passes.proofs.drop_last.Statement.{statement}
@@ -32,7 +32,7 @@ add-top c =
     omega (arith, end-most (p .0 .carried) (p .1), c .level .ensures .1, c .before .shift-before .ensures, r .rise .ensures .1)
 
 sub-t14 : tie.Need-sub-t14
-sub-t14 c = let p = at-start (at-rise (at-floor c)) .pre in drop-fits (p .0 .carried) (p .1) .1
+sub-t14 c = let p = at-start (at-rise (at-floor c)) .pre in top-fits (p .0 .carried) (p .1)
 
 returns : tie.Need-returns
 returns c =
