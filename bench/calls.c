@@ -26,13 +26,14 @@ const struct call calls[CALLS] = {
     {"open_4", OPEN, 0, CLOVERDRUM_BAD_RISE},
     {"open_5", OPEN, 0, CLOVERDRUM_BAD_TOTAL},
     {"open_6", OPEN, 0, CLOVERDRUM_BAD_RANGE},
+    {"open_13", OPEN, 0, CLOVERDRUM_BAD_FIRST_DAY},
     {"open_8", OPEN, 0, CLOVERDRUM_NO_SCHEDULE},
     {"nothing", NOTHING, 0, CLOVERDRUM_OK},
 };
 
 const int32_t sizes[SIZES] = {16, 64, 256, 512};
 
-enum { UNKNOWN_KIND = CLOVERDRUM_TOTAL_CEILING + 1, POINT_BYTES = 2, CUT_BYTES = 8, HEADER_BYTES = 16, DAY_BYTES = 6 };
+enum { UNKNOWN_KIND = CLOVERDRUM_TOTAL_CEILING + 1, POINT_BYTES = 2, CUT_BYTES = 8, DAYS_OFFSET = 18, DAY_BYTES = 6 };
 
 /* The arguments of the next call, and what came back. */
 static struct profile given;
@@ -59,6 +60,7 @@ static void prepare_opening(int answer)
     case CLOVERDRUM_BAD_RISE: given.rises[last - 1] = CLOVERDRUM_HIGHEST_RISE + 1; break;
     case CLOVERDRUM_BAD_TOTAL: given.highest = CLOVERDRUM_HIGHEST_TOTAL + 1; break;
     case CLOVERDRUM_BAD_RANGE: given.ceilings[last] = (int16_t)(given.floors[last] - 1); break;
+    case CLOVERDRUM_BAD_FIRST_DAY: given.first = given.days; break;
     default: given.lowest = given.highest = CLOVERDRUM_HIGHEST_TOTAL; break;
     }
 }
@@ -107,14 +109,14 @@ void prepare(const struct call *call)
 static int make_file_entry(bool writes)
 {
     size_t n = (size_t)profile.days, length = POINT_BYTES * n, cuts_length = CUT_BYTES * n;
-    cloverdrum_size days, found;
+    cloverdrum_size days, found, first;
     int32_t least, most;
     if (writes)
         return cloverdrum_write_file(n, (const uint8_t *)profile.floors, length, (const uint8_t *)profile.ceilings, length,
-                                     (const uint8_t *)profile.rises, length - POINT_BYTES, profile.lowest, profile.highest, cuts, cuts_length, file,
-                                     sizeof file, &found);
-    return cloverdrum_read_file(file, HEADER_BYTES + (DAY_BYTES + CUT_BYTES) * n, floors, length, ceilings, length, rises, length - POINT_BYTES, cuts,
-                                cuts_length, &days, &found, &least, &most);
+                                     (const uint8_t *)profile.rises, length - POINT_BYTES, profile.lowest, profile.highest, (size_t)profile.first, cuts,
+                                     cuts_length, file, sizeof file, &found);
+    return cloverdrum_read_file(file, DAYS_OFFSET + (DAY_BYTES + CUT_BYTES) * n, floors, length, ceilings, length, rises, length - POINT_BYTES, cuts,
+                                cuts_length, &days, &found, &least, &most, &first);
 }
 
 static int answer_of(enum side side, const struct call *call)

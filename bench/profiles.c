@@ -128,13 +128,30 @@ static void fill_loose(struct profile *profile)
     profile->highest = CLOVERDRUM_HIGHEST_TOTAL;
 }
 
+/* ---- filling: the ramp, while the tank fills for the first eighth of its days, which do not count. At 512 days 84 rounds and 116 drops for the ceilings, 78
+ * and 410 for the floors, over the counted days. */
+
+enum { FILLING = 8 };
+
+static void fill_filling(struct profile *profile)
+{
+    int32_t sum = 0;
+    fill_ramp(profile);
+    profile->first = profile->days / FILLING;
+    for (int32_t i = profile->first; i < profile->days; i++)
+        sum += ferment(i, profile->days);
+    total_around(profile, sum, RAMP_REACH);
+}
+
 void fill_profile(struct profile *profile, size_t which, int32_t days)
 {
     static const struct {
         const char *name;
         void (*fill)(struct profile *);
-    } profiles[PROFILES] = {{"even", fill_even}, {"ramp", fill_ramp}, {"random", fill_random}, {"stairs", fill_stairs}, {"loose", fill_loose}};
+    } profiles[PROFILES] = {{"even", fill_even}, {"ramp", fill_ramp}, {"random", fill_random}, {"stairs", fill_stairs}, {"loose", fill_loose},
+                            {"filling", fill_filling}};
     profile->name = profiles[which].name;
     profile->days = days;
+    profile->first = 0;
     profiles[which].fill(profile);
 }

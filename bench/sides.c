@@ -40,11 +40,11 @@ int open_on(enum side side, const struct profile *given, size_t floors_bytes)
 {
     size_t n = 2 * (size_t)given->days;
     if (side == PLAIN)
-        return plain_open(&plain[side], given->days, given->floors, given->ceilings, given->rises, given->lowest, given->highest);
+        return plain_open(&plain[side], given->days, given->floors, given->ceilings, given->rises, given->lowest, given->highest, given->first);
     if (side == TUNED)
-        return tuned_open(&plain[side], given->days, given->floors, given->ceilings, given->rises, given->lowest, given->highest);
+        return tuned_open(&plain[side], given->days, given->floors, given->ceilings, given->rises, given->lowest, given->highest, given->first);
     return cloverdrum_open(session, sizeof session, (size_t)given->days, (const uint8_t *)given->floors, floors_bytes, (const uint8_t *)given->ceilings, n,
-                           (const uint8_t *)given->rises, n - 2, given->lowest, given->highest);
+                           (const uint8_t *)given->rises, n - 2, given->lowest, given->highest, (size_t)given->first);
 }
 
 int cut_on(enum side side, struct cut cut)

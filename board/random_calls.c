@@ -123,6 +123,7 @@ static int32_t point_at(const uint8_t *list, uint32_t place)
 /* ---- profiles */
 
 static int32_t floors[DAYS], ceilings[DAYS], rises[DAYS], lowest, highest;
+static uint32_t first_counted;
 
 static uint32_t some_days(void)
 {
@@ -145,18 +146,20 @@ static int32_t total(int32_t value)
     return within(value, CLOVERDRUM_LOWEST_TOTAL, CLOVERDRUM_HIGHEST_TOTAL);
 }
 
-/* A profile around a schedule: how wide its ranges are, how steep the schedule is, whether it falls, how far its least rises are below its steps. */
+/* A profile around a schedule: how wide its ranges are, how steep the schedule is, whether it falls, how far its least rises are below its steps, from which
+ * day on it counts. */
 static void lay_profile(uint32_t n)
 {
     static const int32_t steepest[] = {0, 60, 60, 1500}, widest[] = {8, 300, 3000, 3000};
     int32_t width = between(0, widest[below(4)]), step = between(0, steepest[below(4)]), fall = one_in(4) ? 0 : -step, slack = between(0, 40);
     int32_t value = between(-500, 3500), sum = 0, reach;
+    first_counted = one_in(2) ? 0 : below(n);
     for (uint32_t i = 0; i < n; i++) {
         int32_t next = point(value + between(fall, step));
         floors[i] = point(value - between(0, width));
         ceilings[i] = point(value + between(0, width));
         rises[i] = within(next - value - between(0, slack), CLOVERDRUM_LOWEST_RISE, CLOVERDRUM_HIGHEST_RISE);
-        sum += value;
+        sum += i < first_counted ? 0 : value;
         value = next;
     }
     reach = one_in(4) ? 0 : between(0, one_in(3) ? 100000 : 50 * (int32_t)n);
@@ -196,7 +199,7 @@ static void spoil_profile(uint32_t n)
 static struct {
     uint8_t *session, *lists[LISTS], *cuts, *file;
     uint32_t which, days;
-    cloverdrum_size first, second;
+    cloverdrum_size first, second, third;
     int32_t least, most;
     uint8_t spent;
 } lent;
@@ -229,7 +232,7 @@ static void lend(void)
         lent.lists[i] = bytes_of(SESSIONS + i) + some_offset();
     lent.cuts = bytes_of(CUTS_AREA) + some_offset();
     lent.file = bytes_of(FILE_AREA) + written.offset;
-    lent.first = lent.second = draw();
+    lent.first = lent.second = lent.third = draw();
     lent.least = lent.most = (int32_t)draw();
     lent.spent = (uint8_t)draw();
 }
@@ -248,6 +251,19 @@ static uint64_t told(uint64_t number)
     case 4: return draw();
     case 5: return 0;
     default: return number;
+    }
+}
+
+/* The profile's first counted day, now and then the last day of n, the first that is not there, or one that 2 bytes hold just so, or not. */
+static uint64_t told_first(uint32_t n)
+{
+    switch (below(40)) {
+    case 0: return n - 1;
+    case 1: return n;
+    case 2: return UINT16_MAX;
+    case 3: return UINT16_MAX + (uint64_t)1;
+    case 4: return UINT64_MAX;
+    default: return told(first_counted);
     }
 }
 
@@ -310,8 +326,8 @@ static void read_ranges(void)
 static unsigned call_open(void)
 {
     uint32_t n = put_profile();
-    uint64_t bytes = session_length(), days = told(n), low = list_length(n), high = list_length(n), steps = list_length(n - 1);
-    unsigned answer = cloverdrum_open(lent.session, bytes, days, lent.lists[0], low, lent.lists[1], high, lent.lists[2], steps, lowest, highest);
+    uint64_t bytes = session_length(), days = told(n), low = list_length(n), high = list_length(n), steps = list_length(n - 1), first = told_first(n);
+    unsigned answer = cloverdrum_open(lent.session, bytes, days, lent.lists[0], low, lent.lists[1], high, lent.lists[2], steps, lowest, highest, first);
     if (answer == CLOVERDRUM_OK) {
         sessions[lent.which].is_open = 1;
         sessions[lent.which].days = n;
@@ -418,10 +434,10 @@ static unsigned call_write_file(void)
     uint32_t n = put_profile(), cuts = one_in(12) ? below(CLOVERDRUM_MOST_CUTS + 1) : below(8), offset = some_offset();
     for (uint32_t i = 0; i < cuts; i++)
         put_cut(i, n);
-    uint64_t days = told(n), low = list_length(n), high = list_length(n), steps = list_length(n - 1);
+    uint64_t days = told(n), low = list_length(n), high = list_length(n), steps = list_length(n - 1), first = told_first(n);
     uint64_t cuts_bytes = length(CUT_BYTES * cuts, CLOVERDRUM_CUTS_BYTES), room = one_in(10) ? below(CLOVERDRUM_FILE_BYTES + 1) : CLOVERDRUM_FILE_BYTES;
-    unsigned answer = cloverdrum_write_file(days, lent.lists[0], low, lent.lists[1], high, lent.lists[2], steps, lowest, highest, lent.cuts, cuts_bytes,
-                                            bytes_of(FILE_AREA) + offset, room, &lent.first);
+    unsigned answer = cloverdrum_write_file(days, lent.lists[0], low, lent.lists[1], high, lent.lists[2], steps, lowest, highest, first, lent.cuts,
+                                            cuts_bytes, bytes_of(FILE_AREA) + offset, room, &lent.first);
     if (answer == CLOVERDRUM_OK) {
         written.offset = offset;
         written.bytes = (uint32_t)lent.first;
@@ -434,13 +450,13 @@ static unsigned call_write_file(void)
 /* Of the file that was written last, now and then truncated, longer, or with a byte changed: the first ones say what is where. */
 static unsigned call_read_file(void)
 {
-    uint32_t first = 20, n = written.days, bytes = one_in(8) ? below(CLOVERDRUM_FILE_BYTES + 1) : written.bytes;
+    uint32_t front = 20, n = written.days, bytes = one_in(8) ? below(CLOVERDRUM_FILE_BYTES + 1) : written.bytes;
     uint64_t low = one_in(2) ? LIST : list_length(n), high = one_in(2) ? LIST : list_length(n), steps = one_in(2) || n == 0 ? LIST : list_length(n - 1);
     uint64_t cuts = one_in(2) ? CLOVERDRUM_CUTS_BYTES : length(CUT_BYTES * written.cuts, CLOVERDRUM_CUTS_BYTES);
-    uint8_t *place = lent.file + below(one_in(2) || written.bytes < first ? first : written.bytes), change = one_in(2) ? (uint8_t)draw() : 0;
+    uint8_t *place = lent.file + below(one_in(2) || written.bytes < front ? front : written.bytes), change = one_in(2) ? (uint8_t)draw() : 0;
     *place ^= change;
     unsigned answer = cloverdrum_read_file(lent.file, bytes, lent.lists[0], low, lent.lists[1], high, lent.lists[2], steps, lent.cuts, cuts, &lent.first,
-                                           &lent.second, &lent.least, &lent.most);
+                                           &lent.second, &lent.least, &lent.most, &lent.third);
     *place ^= change;
     return answer;
 }
@@ -451,12 +467,16 @@ static unsigned call_session_bytes(void)
     return CLOVERDRUM_OK;
 }
 
+/* A session's last 2 bytes. */
+enum { FIRST_DAY = SESSION / POINT_BYTES - 1 };
+
 /* Bytes that no session has, or a session with some of its bytes changed; then its ranges are read. */
 static unsigned call_foreign(void)
 {
     if (one_in(2)) {
         scramble(lent.session, SESSION);
         put(lent.session, 0, between(0, 600));
+        put(lent.session, FIRST_DAY, one_in(2) ? between(0, 600) : (int32_t)draw());
     }
     for (uint32_t i = 0; i < 5; i++)
         lent.session[below(SESSION)] ^= (uint8_t)draw();
@@ -466,7 +486,7 @@ static unsigned call_foreign(void)
 /* ---- records */
 
 /* OTHER is for what no entry answers. */
-enum { ENTRIES = 10, OTHER = CLOVERDRUM_BAD_KIND + 1, ANSWERS, WEIGHTS = 80 };
+enum { ENTRIES = 10, OTHER = CLOVERDRUM_BAD_FIRST_DAY + 1, ANSWERS, WEIGHTS = 80 };
 
 static const struct {
     const char *name;
@@ -503,7 +523,8 @@ static uint16_t some_entry(void)
 static uint32_t hash_stored(uint32_t hash)
 {
     const uint32_t words[] = {(uint32_t)lent.first,  (uint32_t)(lent.first >> 32), (uint32_t)lent.second, (uint32_t)(lent.second >> 32),
-                              (uint32_t)lent.least, (uint32_t)lent.most,          lent.spent};
+                              (uint32_t)lent.third, (uint32_t)(lent.third >> 32), (uint32_t)lent.least,  (uint32_t)lent.most,
+                              lent.spent};
     for (uint32_t i = 0; i < sizeof words / sizeof *words; i++)
         hash = mix(hash, words[i]);
     return hash;

@@ -22,7 +22,7 @@ struct input {
 
 /* What a file says. */
 struct profile {
-    cloverdrum_size days, cuts_count;
+    cloverdrum_size days, first_counted_day, cuts_count;
     int32_t total_floor, total_ceiling;
     uint8_t floors[CLOVERDRUM_LIST_BYTES], ceilings[CLOVERDRUM_LIST_BYTES], rises[CLOVERDRUM_LIST_BYTES], cuts[CLOVERDRUM_CUTS_BYTES];
 };
@@ -68,14 +68,14 @@ static unsigned read_profile(const struct input *input, struct profile *profile)
 {
     return cloverdrum_read_file(input->bytes, input->length, profile->floors, sizeof profile->floors, profile->ceilings, sizeof profile->ceilings,
                                 profile->rises, sizeof profile->rises, profile->cuts, sizeof profile->cuts, &profile->days, &profile->cuts_count,
-                                &profile->total_floor, &profile->total_ceiling);
+                                &profile->total_floor, &profile->total_ceiling, &profile->first_counted_day);
 }
 
 static unsigned open_session(const struct profile *profile, uint8_t *session)
 {
     size_t list_bytes = 2 * profile->days;
     return cloverdrum_open(session, CLOVERDRUM_SESSION_BYTES, profile->days, profile->floors, list_bytes, profile->ceilings, list_bytes, profile->rises,
-                           list_bytes - 2, profile->total_floor, profile->total_ceiling);
+                           list_bytes - 2, profile->total_floor, profile->total_ceiling, profile->first_counted_day);
 }
 
 static unsigned make_cuts(const struct profile *profile, uint8_t *session)

@@ -1,5 +1,6 @@
-/* Opens document 01's profile A, whose small numbers are made for working by hand, cuts day 0 to at least 3 and the total to at most 11, and prints the
- * ranges: the total's floor and ceiling, then each day's number, floor and ceiling, in points. A refusal is printed as its number, with what was asked.
+/* Opens document 01's profile A, whose small numbers are made for working by hand, with every day counted, cuts day 0 to at least 3 and the total to at most
+ * 11, and prints the ranges: the total's floor and ceiling, then each day's number, floor and ceiling, in points. A refusal is printed as its number, with
+ * what was asked.
  *
  *     rt staticlib cloverdrum
  *     gcc -Iinclude -o target/panel examples/panel.c target/staticlib/libcloverdrum.a && target/panel
@@ -48,7 +49,7 @@ static int open_profile(uint8_t *session)
     }
     for (i = 0; i + 1 < DAYS; i++)
         put_point(steps, i, rises[i]);
-    return refused("open", cloverdrum_open(session, CLOVERDRUM_SESSION_BYTES, DAYS, low, sizeof low, high, sizeof high, steps, sizeof steps, 10, 12));
+    return refused("open", cloverdrum_open(session, CLOVERDRUM_SESSION_BYTES, DAYS, low, sizeof low, high, sizeof high, steps, sizeof steps, 10, 12, 0));
 }
 
 /* The changed days go to standard error, so that standard output has the ranges alone. */

@@ -1,13 +1,15 @@
 /* Cloverdrum: the ranges of a tank profile, for the panel's firmware.
  *
  * A profile has 1 to 512 days. Each day has a floor and a ceiling for its setpoint, in points (hundredths of a degree Celsius); from each day to the next
- * there is a least rise, which may be negative; and the sum of all setpoints, the total, has a floor and a ceiling. A schedule gives each day one setpoint
- * and keeps all of this. A session holds an opened profile; for each day and for the total it has the exact range of the values that some schedule takes.
- * Cuts narrow ranges, and after each cut every range is exact again.
+ * there is a least rise, which may be negative; and the total, the sum of the setpoints from the first counted day on, has a floor and a ceiling. The days
+ * before that one, on which the tank fills, keep their ranges and rises and do not count in the total; where every day counts, the first counted day is 0.
+ * A schedule gives each day one setpoint and keeps all of this. A session holds an opened profile; for each day and for the total it has the exact range of the
+ * values that some schedule takes. Cuts narrow ranges, and after each cut every range is exact again.
  *
  * Sessions. A session is a byte string of CLOVERDRUM_SESSION_BYTES bytes that the caller keeps, anywhere, at any alignment. Its bytes come from
  * cloverdrum_open and are changed by cloverdrum_cut alone. They may be copied, stored and compared: two sessions are equal exactly when their bytes are.
- * What is promised below is for such bytes. On other bytes of that length a call still ends and stays within its lists, and its answer means nothing.
+ * What is promised below is for such bytes. On other bytes of that length, whatever day count and first counted day they hold, a call still ends and stays
+ * within its lists, and its answer means nothing.
  *
  * Lists. A list is a byte string, given by its address and its count of bytes. Its elements have 2 bytes each, the low byte first: points and rises are
  * signed, days are unsigned. A list of cuts has 8 bytes for each cut, as in a profile file: kind (2 bytes), day (2), value (4, signed).
@@ -67,7 +69,7 @@ extern "C" {
 
 /* The version, 100 for 1.00. The hundreds change where a session's bytes, the profile file or the parameters of an entry do, else the last two digits:
  * versions with the same hundreds take each other's sessions and files. CHANGELOG.md has an entry for each. */
-#define CLOVERDRUM_VERSION 103
+#define CLOVERDRUM_VERSION 200
 
 /* Bounds of an entry. */
 #define CLOVERDRUM_MOST_DAYS 512
@@ -80,10 +82,10 @@ extern "C" {
 #define CLOVERDRUM_HIGHEST_TOTAL 2048000
 
 /* Bytes of a session, of a list for any profile, of a list for any file's cuts, and of the longest file. */
-#define CLOVERDRUM_SESSION_BYTES 5140
+#define CLOVERDRUM_SESSION_BYTES 5142
 #define CLOVERDRUM_LIST_BYTES (2 * CLOVERDRUM_MOST_DAYS)
 #define CLOVERDRUM_CUTS_BYTES (8 * CLOVERDRUM_MOST_CUTS)
-#define CLOVERDRUM_FILE_BYTES (16 + 6 * CLOVERDRUM_MOST_DAYS + 8 * CLOVERDRUM_MOST_CUTS)
+#define CLOVERDRUM_FILE_BYTES (18 + 6 * CLOVERDRUM_MOST_DAYS + 8 * CLOVERDRUM_MOST_CUTS)
 
 /* Refusals. */
 enum cloverdrum_refusal {
@@ -99,7 +101,8 @@ enum cloverdrum_refusal {
     CLOVERDRUM_SPENT = 9,             /* the session is spent: an earlier cut left no schedule */
     CLOVERDRUM_OUTSIDE_RANGE = 10,    /* the value is outside the present range of the day or the total */
     CLOVERDRUM_BAD_FILE = 11,         /* the file's length or an offset in it is wrong */
-    CLOVERDRUM_BAD_KIND = 12          /* an unknown kind of cut, a last rise in a file that is not 0, or a total cut whose day is not 0 */
+    CLOVERDRUM_BAD_KIND = 12,         /* an unknown kind of cut, a last rise in a file that is not 0, or a total cut whose day is not 0 */
+    CLOVERDRUM_BAD_FIRST_DAY = 13     /* the first counted day is not in the profile */
 };
 
 /* Kinds of cut. */
@@ -121,13 +124,14 @@ enum cloverdrum_rule {
 /* CLOVERDRUM_SESSION_BYTES, as the library has it. */
 cloverdrum_size cloverdrum_session_bytes(void);
 
-/* Opens a profile: on 0 all bytes of the session are written, with every range tightened. `rises` has the least rise from day i to day i + 1 at place i.
+/* Opens a profile: on 0 all bytes of the session are written, with every range tightened. `rises` has the least rise from day i to day i + 1 at place i; the
+ * days from first_counted_day on, 0 to n - 1, count in the total.
  * Refusals, in order: 2 (a session of another length); 1 (days is 0 or over 512); 2 (floors or ceilings not n long, rises not n - 1); 3 (a floor or a
- * ceiling); 4; 5 (total_floor or total_ceiling); 6; 8.
+ * ceiling); 4; 5 (total_floor or total_ceiling); 6; 13; 8.
  * A refusal leaves every byte of the session. */
 uint8_t cloverdrum_open(uint8_t *session, cloverdrum_size session_length, cloverdrum_size days, const uint8_t *floors, cloverdrum_size floors_length,
                         const uint8_t *ceilings, cloverdrum_size ceilings_length, const uint8_t *rises, cloverdrum_size rises_length, int32_t total_floor,
-                        int32_t total_ceiling);
+                        int32_t total_ceiling, cloverdrum_size first_counted_day);
 
 /* Cuts one range of a session, and tightens every other: the day's setpoint, or the total, is to be at least (floors) or at most (ceilings) the value.
  * `day` is 0 for the total's kinds. A cut that is looser than the present range is accepted and changes nothing. On 0 *changed_days is the number of days
@@ -152,7 +156,7 @@ uint8_t cloverdrum_read(const uint8_t *session, cloverdrum_size session_length, 
 uint8_t cloverdrum_write_day(const uint8_t *session, cloverdrum_size session_length, cloverdrum_size day, int32_t value, uint8_t *schedule,
                              cloverdrum_size schedule_length);
 
-/* Writes a schedule that keeps every range and rise of the session and has this sum.
+/* Writes a schedule that keeps every range and rise of the session and has this total.
  * Refusals, in order: 2 (a session of another length); 2 (the list not n long); 9; 10.
  * A refusal leaves the list. */
 uint8_t cloverdrum_write_total(const uint8_t *session, cloverdrum_size session_length, int32_t value, uint8_t *schedule, cloverdrum_size schedule_length);
@@ -165,22 +169,24 @@ uint8_t cloverdrum_inspect(const uint8_t *session, cloverdrum_size session_lengt
                            cloverdrum_size *rule, cloverdrum_size *place);
 
 /* Reads a profile file into lists that cloverdrum_open and cloverdrum_cut take: n = *days floors and ceilings, n - 1 rises, and *cuts_count cuts of 8 bytes.
- * Values are not judged: opening and cutting do that.
- * Refusals, in order: 11 (under 16 bytes); 1; 11 (offsets, length); 12; 2 (a list too short for what it would hold).
+ * Values, and whether *first_counted_day is in the profile, are not judged: opening and cutting do that.
+ * Refusals, in order: 11 (under 18 bytes); 1; 11 (offsets, length); 12; 2 (a list too short for what it would hold).
  * A refusal leaves all lists. */
 uint8_t cloverdrum_read_file(const uint8_t *file, cloverdrum_size file_length, uint8_t *floors, cloverdrum_size floors_length, uint8_t *ceilings,
                              cloverdrum_size ceilings_length, uint8_t *rises, cloverdrum_size rises_length, uint8_t *cuts, cloverdrum_size cuts_length,
-                             cloverdrum_size *days, cloverdrum_size *cuts_count, int32_t *total_floor, int32_t *total_ceiling);
+                             cloverdrum_size *days, cloverdrum_size *cuts_count, int32_t *total_floor, int32_t *total_ceiling,
+                             cloverdrum_size *first_counted_day);
 
 /* Writes a profile and its cuts as a profile file. On 0 *file_bytes is the file's length. The profile's lists are those of cloverdrum_open; `cuts` has 8 bytes
  * for each cut, and a length that is no multiple of 8 is 2 with the profile's lists. Whether a schedule exists is not judged.
  * Refusals, in order: 1 (days, or cuts_length / 8 rounded down, over 512, or days 0); 2 (the profile's lists); 3 (a floor or a ceiling); 4; 5 (total_floor or
- * total_ceiling); 6; of each cut in order 12 (an unknown kind, or a total's cut whose day is not 0); 7 (of a day's cut); 3 (a day's value); 5 (a total's
+ * total_ceiling); 6; 13; of each cut in order 12 (an unknown kind, or a total's cut whose day is not 0); 7 (of a day's cut); 3 (a day's value); 5 (a total's
  * value); 2 (the output too short).
  * A refusal leaves every byte of the file. */
 uint8_t cloverdrum_write_file(cloverdrum_size days, const uint8_t *floors, cloverdrum_size floors_length, const uint8_t *ceilings,
                               cloverdrum_size ceilings_length, const uint8_t *rises, cloverdrum_size rises_length, int32_t total_floor, int32_t total_ceiling,
-                              const uint8_t *cuts, cloverdrum_size cuts_length, uint8_t *file, cloverdrum_size file_length, cloverdrum_size *file_bytes);
+                              cloverdrum_size first_counted_day, const uint8_t *cuts, cloverdrum_size cuts_length, uint8_t *file, cloverdrum_size file_length,
+                              cloverdrum_size *file_bytes);
 
 #ifdef __cplusplus
 }

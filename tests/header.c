@@ -7,8 +7,8 @@
 #include <stdio.h>
 
 /* The version is no number of the library's: a caller compares it in the preprocessor. */
-#if CLOVERDRUM_VERSION / 100 != 1
-#error "this program is for the session's bytes, the file and the entries of 1.00"
+#if CLOVERDRUM_VERSION / 100 != 2
+#error "this program is for the session's bytes, the file and the entries of 2.00"
 #endif
 
 enum {
@@ -73,10 +73,15 @@ static void put_cuts(void)
 
 /* ---- calls */
 
-static unsigned open_lists(size_t days, long total_floor, long total_ceiling)
+static unsigned open_counted(size_t days, long total_floor, long total_ceiling, cloverdrum_size first)
 {
     return cloverdrum_open(session, sizeof session, days, floors, POINT_BYTES * days, ceilings, POINT_BYTES * days, rises, POINT_BYTES * (days - 1),
-                           (int32_t)total_floor, (int32_t)total_ceiling);
+                           (int32_t)total_floor, (int32_t)total_ceiling, first);
+}
+
+static unsigned open_lists(size_t days, long total_floor, long total_ceiling)
+{
+    return open_counted(days, total_floor, total_ceiling, 0);
 }
 
 static unsigned open_days(size_t days, long floor, long ceiling, long rise)
@@ -113,18 +118,29 @@ static unsigned write_day(size_t days, size_t day, long value)
     return cloverdrum_write_day(session, sizeof session, day, (int32_t)value, schedule, POINT_BYTES * days);
 }
 
-static unsigned write_file(size_t days, size_t cuts_length, size_t file_length, cloverdrum_size *file_bytes)
+static unsigned write_counted(size_t days, cloverdrum_size first, size_t cuts_length, size_t file_length, cloverdrum_size *file_bytes)
 {
     return cloverdrum_write_file(days, floors, POINT_BYTES * days, ceilings, POINT_BYTES * days, rises, POINT_BYTES * (days - 1), CLOVERDRUM_LOWEST_TOTAL,
-                                 CLOVERDRUM_HIGHEST_TOTAL, cuts, cuts_length, file, file_length, file_bytes);
+                                 CLOVERDRUM_HIGHEST_TOTAL, first, cuts, cuts_length, file, file_length, file_bytes);
 }
 
-static unsigned read_file(size_t file_length, size_t list_length, size_t cuts_length)
+static unsigned write_file(size_t days, size_t cuts_length, size_t file_length, cloverdrum_size *file_bytes)
+{
+    return write_counted(days, 0, cuts_length, file_length, file_bytes);
+}
+
+static unsigned read_counted(size_t file_length, size_t list_length, size_t cuts_length, cloverdrum_size *first)
 {
     cloverdrum_size days, count;
     int32_t total_floor, total_ceiling;
     return cloverdrum_read_file(file, file_length, floors, list_length, ceilings, list_length, rises, list_length, cuts, cuts_length, &days, &count,
-                                &total_floor, &total_ceiling);
+                                &total_floor, &total_ceiling, first);
+}
+
+static unsigned read_file(size_t file_length, size_t list_length, size_t cuts_length)
+{
+    cloverdrum_size first;
+    return read_counted(file_length, list_length, cuts_length, &first);
 }
 
 /* ---- bounds */
@@ -159,6 +175,24 @@ static void try_total(void)
     REFUSED(open_total(0, CLOVERDRUM_HIGHEST_TOTAL + 1), CLOVERDRUM_BAD_TOTAL, CLOVERDRUM_HIGHEST_TOTAL);
 }
 
+/* ---- the first counted day: 0 to n - 1, in an opening and in a file. Two days of 10 points count as one or as two. */
+
+static void try_first_day(void)
+{
+    cloverdrum_size bytes, first;
+    put_days(2, 10, 10, 0);
+    SAME(open_counted(2, 20, 20, 0), CLOVERDRUM_OK);
+    SAME(open_counted(2, 10, 10, 1), CLOVERDRUM_OK);
+    SAME(open_counted(2, 20, 20, 1), CLOVERDRUM_NO_SCHEDULE);
+    SAME(open_counted(2, 10, 10, 2), CLOVERDRUM_BAD_FIRST_DAY);
+    SAME(open_counted(2, 10, 10, UINT64_MAX), CLOVERDRUM_BAD_FIRST_DAY);
+    SAME(open_counted(2, 11, 10, 2), CLOVERDRUM_BAD_RANGE);
+    SAME(write_counted(2, 2, 0, sizeof file, &bytes), CLOVERDRUM_BAD_FIRST_DAY);
+    SAME(write_counted(2, 1, 0, sizeof file, &bytes), CLOVERDRUM_OK);
+    SAME(read_counted(bytes, CLOVERDRUM_LIST_BYTES, 0, &first), CLOVERDRUM_OK);
+    same("the first counted day of a file", (long)first, 1);
+}
+
 /* ---- lengths: the widest profile and the most cuts fill each list, and nothing shorter holds them */
 
 static void try_lists(void)
@@ -166,7 +200,7 @@ static void try_lists(void)
     SAME(cloverdrum_session_bytes(), CLOVERDRUM_SESSION_BYTES);
     put_days(CLOVERDRUM_MOST_DAYS, CLOVERDRUM_LOWEST_POINT, CLOVERDRUM_HIGHEST_POINT, 0);
     TAKEN(cloverdrum_open(session, sizeof session, CLOVERDRUM_MOST_DAYS, floors, CLOVERDRUM_LIST_BYTES, ceilings, CLOVERDRUM_LIST_BYTES, rises,
-                          CLOVERDRUM_LIST_BYTES - POINT_BYTES, CLOVERDRUM_LOWEST_TOTAL, CLOVERDRUM_HIGHEST_TOTAL),
+                          CLOVERDRUM_LIST_BYTES - POINT_BYTES, CLOVERDRUM_LOWEST_TOTAL, CLOVERDRUM_HIGHEST_TOTAL, 0),
           CLOVERDRUM_LIST_BYTES);
     TAKEN(cut_room(CLOVERDRUM_DAY_FLOOR, 0, 0, CLOVERDRUM_LIST_BYTES), CLOVERDRUM_LIST_BYTES);
     REFUSED(cut_room(CLOVERDRUM_DAY_FLOOR, 0, 0, CLOVERDRUM_LIST_BYTES - 1), CLOVERDRUM_BAD_LENGTH, CLOVERDRUM_LIST_BYTES);
@@ -257,6 +291,7 @@ int main(void)
     try_point();
     try_rise();
     try_total();
+    try_first_day();
     try_lists();
     try_written_file();
     try_read_file();

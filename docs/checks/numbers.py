@@ -4,10 +4,10 @@ import re
 
 from checks.tree import CRATES, relative
 
-BARE = {512, 511, 1000, 2000, 4000, 5000, 7000, 512000, 1024000, 2048000, 2560000, 5140, 7184, 7185, 10262}
+BARE = {512, 511, 1000, 2000, 4000, 5000, 7000, 512000, 1024000, 2048000, 2560000, 5140, 5142, 7186, 7187, 10262}
 NUMBER = re.compile(r"(?<![\w.])(\d[\d_]*)(?:[ui](?:8|16|32|64|size))?\b")
-# The offset of the cuts, 16 + 6n, spelt out.
-OFFSET = re.compile(r"\b16 \+ (?:6 \* [\w.]+|[\w. ()]+ \* 6)\b")
+# The offset of the cuts, 18 + 6n, spelt out.
+OFFSET = re.compile(r"\b18 \+ (?:6 \* [\w.]+|[\w. ()]+ \* 6)\b")
 COMMENT = re.compile(r"(?://|--(?= |$)).*", re.M)
 BYTES = re.compile(r'b"(?:[^"\\]|\\.)*"')
 # An item that gives a number its name.

@@ -17,6 +17,7 @@ extern "C" {
         rises_length: usize,
         total_floor: i32,
         total_ceiling: i32,
+        first_counted_day: usize,
     ) -> u8;
     fn cloverdrum_cut(
         session: *mut u8,
@@ -77,6 +78,7 @@ extern "C" {
         cuts_count: *mut usize,
         total_floor: *mut i32,
         total_ceiling: *mut i32,
+        first_counted_day: *mut usize,
     ) -> u8;
     fn cloverdrum_write_file(
         days: usize,
@@ -88,6 +90,7 @@ extern "C" {
         rises_length: usize,
         total_floor: i32,
         total_ceiling: i32,
+        first_counted_day: usize,
         cuts: *const u8,
         cuts_length: usize,
         file: *mut u8,
@@ -104,6 +107,7 @@ pub struct LentProfile {
     pub rises: Lent,
     pub total_floor: i32,
     pub total_ceiling: i32,
+    pub first: usize,
 }
 
 /// The numbers that reading a session stores.
@@ -127,6 +131,7 @@ pub struct FileNumbers {
     pub cuts: LentNumber<usize>,
     pub total_floor: LentNumber<i32>,
     pub total_ceiling: LentNumber<i32>,
+    pub first: LentNumber<usize>,
 }
 
 pub fn session_bytes() -> usize {
@@ -147,6 +152,7 @@ pub fn open(session: &mut Lent, profile: &mut LentProfile) -> u8 {
             profile.rises.len(),
             profile.total_floor,
             profile.total_ceiling,
+            profile.first,
         )
     }
 }
@@ -254,6 +260,7 @@ pub fn read_file(file: &mut Lent, lists: &mut FileLists, numbers: &mut FileNumbe
             numbers.cuts.address(),
             numbers.total_floor.address(),
             numbers.total_ceiling.address(),
+            numbers.first.address(),
         )
     }
 }
@@ -275,6 +282,7 @@ pub fn write_file(
             profile.rises.len(),
             profile.total_floor,
             profile.total_ceiling,
+            profile.first,
             cuts.address(),
             cuts.len(),
             file.address(),

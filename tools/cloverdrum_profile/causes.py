@@ -1,9 +1,9 @@
 """Why `ranges` refuses a file: the causes, judged in document 01's order."""
 
-from .file_format import cut_place, day_place, decode, total_place
+from .file_format import FIRST_PLACE, cut_place, day_place, decode, total_place
 from .model import Cut, Profile, degrees
 from .refusals import Checks, Fault, Place, Refusal, Refused, check
-from .rules import POINTS, RISES, TOTALS, crossed_fault, cut_day_fault, cut_value_fault
+from .rules import POINTS, RISES, TOTALS, crossed_fault, cut_day_fault, cut_value_fault, first_day_fault
 
 
 def first_refusal(data: bytes) -> Refusal | None:
@@ -28,6 +28,7 @@ def _opening(profile: Profile) -> Checks:
     for index, day in enumerate(profile.days):
         yield day_place(index, "floor"), crossed_fault(day)
     yield total_place("floor"), crossed_fault(profile.total)
+    yield FIRST_PLACE, first_day_fault(profile.first, len(profile.days))
     yield Place("at opening"), no_schedule_fault(profile)
 
 
@@ -55,8 +56,8 @@ def _clip(profile: Profile, cut: Cut) -> Profile:
 def no_schedule_fault(profile: Profile) -> Fault | None:
     """Why no schedule keeps the bounds of the profile, its cuts aside; None where one does.
 
-    Every total from the sum of the carried floors to the sum of the carried ceilings has a schedule (document 01,
-    "Ranges of the total"), so that one of these causes applies wherever there is none.
+    Every total from the sum of the carried floors to the sum of the carried ceilings, of the counted days, has a
+    schedule (document 01, "Ranges of the total"), so that one of these causes applies wherever there is none.
     """
     cause = _chain_cause(profile) or _total_cause(profile)
     return Fault(8, cause) if cause else None
@@ -87,13 +88,14 @@ def _chain_words(profile: Profile, source: int, day: int, carried: int) -> str:
 
 def _total_cause(profile: Profile) -> str | None:
     """A total's range that crosses itself or has no sum of days in it."""
-    total, least, greatest = profile.total, sum(_carried_floors(profile)), sum(_carried_ceilings(profile))
+    total, days = profile.total, f"the days from {profile.first} on" if profile.first else "the days"
+    least, greatest = sum(profile.counted(_carried_floors(profile))), sum(profile.counted(_carried_ceilings(profile)))
     if total.floor > total.ceiling:
         return f"the total's floor {degrees(total.floor)} is above its ceiling {degrees(total.ceiling)}"
     if greatest < total.floor:
-        return f"the days can sum to at most {degrees(greatest)}, and the total's floor is {degrees(total.floor)}"
+        return f"{days} can sum to at most {degrees(greatest)}, and the total's floor is {degrees(total.floor)}"
     if least > total.ceiling:
-        return f"the days sum to at least {degrees(least)}, and the total's ceiling is {degrees(total.ceiling)}"
+        return f"{days} sum to at least {degrees(least)}, and the total's ceiling is {degrees(total.ceiling)}"
     return None
 
 
@@ -106,8 +108,8 @@ def _carried_floors(profile: Profile) -> list[int]:
 
 
 def _carried_ceilings(profile: Profile) -> list[int]:
-    """The ceilings likewise, from the last day to the first."""
+    """The ceilings likewise, carried from the last day to the first."""
     ceilings = [profile.days[-1].ceiling]
     for day, rise in zip(profile.days[-2::-1], reversed(profile.rises)):
         ceilings.append(min(day.ceiling, ceilings[-1] - rise))
-    return ceilings
+    return ceilings[::-1]

@@ -18,7 +18,7 @@ INSET = 12
 BANDS = (("entered", "#dde1e6"), ("at opening", "#8fbfe0"), ("after the cuts", "#1b5a8f"))
 """Told apart by lightness alone, widest first; each lies on the one before."""
 THINNEST = 2.5
-MARK, INK, GRID = "#d55e00", "#333333", "#cccccc"
+MARK, INK, GRID, FILLING = "#d55e00", "#333333", "#cccccc", "#f4efe2"
 MARK_SIZE = 5
 STEPS = [digit * 10**zeros for zeros in range(9) for digit in (1, 2, 5)]
 
@@ -76,11 +76,15 @@ def _days(svg: ET.Element, answer: Answer) -> None:
     values = [value for day in answer.profile.days for value in day] + [cut.value for cut in cuts]
     x = Scale(range(count + 1), LEFT, RIGHT)
     y = Scale(round_ticks(min(values), max(values), 12), BOTTOM - INSET, TOP + INSET)
+    first = answer.profile.first
+    if first:
+        _add(svg, "rect", class_="filling", x=LEFT, y=TOP, width=x(first) - LEFT, height=BOTTOM - TOP, fill=FILLING)
     _degrees_axis(svg, y)
     for day, stages in enumerate(answer.day_stages()):
         group = _add(svg, "g", class_="day", shape_rendering="crispEdges")
         if count <= MOST_TOOLTIPS:
-            _add(group, "title").text = f"day {day}: {_in_words(stages)}"
+            filling = ", filling" if day < first else ""
+            _add(group, "title").text = f"day {day}{filling}: {_in_words(stages)}"
         for (_, colour), (floor, ceiling) in zip(BANDS, stages):
             top, height = _span(y(ceiling), y(floor))
             _add(group, "rect", x=x(day), y=top, width=x(day + 1) - x(day), height=height, fill=colour)
@@ -88,6 +92,15 @@ def _days(svg: ET.Element, answer: Answer) -> None:
         _mark(svg, x(cut.day + 0.5), y(cut.value), cut.kind.bound)
     _add(svg, "rect", x=LEFT, y=TOP, width=RIGHT - LEFT, height=BOTTOM - TOP, fill="none", stroke=INK)
     _days_axis(svg, x, count)
+    if first:
+        _first_counted(svg, x(first), first)
+
+
+def _first_counted(svg: ET.Element, x: float, first: int) -> None:
+    """A line where the first counted day begins."""
+    _add(svg, "line", x1=x, x2=x, y1=TOP - 14, y2=BOTTOM, stroke=INK, stroke_dasharray="4 3")
+    side, anchor = (4, "start") if x < MIDDLE else (-4, "end")
+    _text(svg, x + side, TOP - 5, f"counted from day {first} on", text_anchor=anchor)
 
 
 def _degrees_axis(svg: ET.Element, y: Scale) -> None:

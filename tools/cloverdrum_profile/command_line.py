@@ -13,12 +13,13 @@ from .refusals import Refused
 from .text_form import TextError, format_text, parse_text
 
 EXAMPLE = """\
-total 52.00 60.00             # floor and ceiling of the sum of all days, in degree-days
+total 35.00 40.00             # floor and ceiling of the sum of the counted days, in degree-days
+first 1                       # the first counted day; without this line all days count
 day 0 17.00 19.00 rise 0.50   # floor, ceiling, and the least rise to the next day
 day 1 17.00 19.00 rise -1.00  # a negative rise allows a fall that large
 day 2 18.00 20.50             # the last day has no rise
 cut day 2 floor 18.25         # cuts, applied in this order
-cut total ceiling 55.00
+cut total ceiling 38.00
 """
 USAGE = f"""\
 usage:

@@ -11,6 +11,8 @@ from .refusals import Refused
 
 Stages = tuple[Range, Range, Range]
 """A range as entered, at opening before any cut, and after the cuts."""
+FILLING = "  filling"
+"""Marks a day before the first counted one."""
 
 
 class Unexplained(Exception):
@@ -52,13 +54,14 @@ def _words(number: int | None) -> str:
 
 def explain(answer: Answer) -> str:
     """A table of the ranges, in degrees."""
-    days, cuts = len(answer.profile.days), len(answer.profile.cuts)
+    days, cuts, first = len(answer.profile.days), len(answer.profile.cuts), answer.profile.first
+    counted = f" from day {first} on" if first else ""
     lines = [
-        f"{_count(days, 'day')}, {_count(cuts, 'cut')}; degrees Celsius, the total in degree-days",
+        f"{_count(days, 'day')}, {_count(cuts, 'cut')}; degrees Celsius, the total in degree-days{counted}",
         "",
         f"{'':8} {'entered':^20}  {'at opening':^20}  {'after the cuts':^20}".rstrip(),
         _row("total", answer.total_stages()),
-        *(_row(f"day {day}", stages) for day, stages in enumerate(answer.day_stages())),
+        *(_row(f"day {day}", stages) + FILLING * (day < first) for day, stages in enumerate(answer.day_stages())),
     ]
     return "".join(line + "\n" for line in lines)
 

@@ -9,7 +9,7 @@ from .messages import excerpt
 
 STANDARD_INPUT, STANDARD_OUTPUT = 0, 1
 MOST_BYTES = 1 << 20
-"""Of a file that is read. The longest text has some 32,000 without comments, the longest profile file 7,184."""
+"""Of a file that is read. The longest text has some 32,000 without comments, the longest profile file 7,186."""
 MOST_OF_NAME = 255
 """Characters that a message shows of a name."""
 

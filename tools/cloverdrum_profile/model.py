@@ -53,6 +53,12 @@ class Profile(NamedTuple):
     rises: list[int]
     """The least rise from each day to the next: one less than there are days."""
     cuts: list[Cut]
+    first: int = 0
+    """The first counted day."""
+
+    def counted(self, values: list[int]) -> list[int]:
+        """Of a value for each day, those that count in the total."""
+        return values[self.first :]
 
     def without_cuts(self) -> "Profile":
         return self._replace(cuts=[])

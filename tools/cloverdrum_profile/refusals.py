@@ -13,6 +13,7 @@ MEANINGS = {
     8: "no schedule exists",
     11: "the file's length or an offset is wrong",
     12: "a cut's kind is unknown, the last rise is not 0, or a cut of the total has a day other than 0",
+    13: "the first counted day is not in the profile",
 }
 """Of every number that `ranges` prints."""
 

@@ -1,4 +1,4 @@
-"""What document 01 allows of days, rises, totals and cuts."""
+"""What document 01 allows of days, rises, totals and cuts, and request One of the first counted day."""
 
 from typing import NamedTuple
 
@@ -37,9 +37,16 @@ def crossed_fault(bounds: Range) -> Fault | None:
     return fault_unless(bounds.floor <= bounds.ceiling, 6, cause)
 
 
+def first_day_fault(first: int, day_count: int) -> Fault | None:
+    return fault_unless(first < day_count, 13, _no_day(first, day_count))
+
+
 def cut_day_fault(cut: Cut, day_count: int) -> Fault | None:
-    cause = f"the profile has no day {cut.day}, its days are 0 to {day_count - 1}"
-    return fault_unless(cut.kind.of_total or cut.day < day_count, 7, cause)
+    return fault_unless(cut.kind.of_total or cut.day < day_count, 7, _no_day(cut.day, day_count))
+
+
+def _no_day(day: int, day_count: int) -> str:
+    return f"the profile has no day {day}, its days are 0 to {day_count - 1}"
 
 
 def cut_value_fault(cut: Cut) -> Fault | None:

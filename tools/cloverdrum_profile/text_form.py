@@ -1,4 +1,5 @@
-"""The text form of a profile: a line for the total, one for each day, one for each cut, in degrees."""
+"""The text form of a profile, in degrees: a line for the total, one for the first counted day where that is not 0, one for
+each day, one for each cut."""
 
 import math
 import re
@@ -6,13 +7,24 @@ import re
 from .messages import excerpt
 from .model import Cut, Kind, Profile, Range, degrees
 from .refusals import Fault
-from .rules import MOST_CUTS, MOST_DAYS, POINTS, RISES, TOTALS, crossed_fault, cut_day_fault, cut_value_fault
+from .rules import (
+    MOST_CUTS,
+    MOST_DAYS,
+    POINTS,
+    RISES,
+    TOTALS,
+    crossed_fault,
+    cut_day_fault,
+    cut_value_fault,
+    first_day_fault,
+)
 
 MOST_FAULTS = 20
 """The faults that are listed of one text."""
 
 FORMS = {
     "total": "the total's line reads: total FLOOR CEILING",
+    "first": "the first counted day's line reads: first NUMBER",
     "day": "a day's line reads: day NUMBER FLOOR CEILING rise RISE",
     "cut": "a cut's line reads: cut day NUMBER floor VALUE (or ceiling; or cut total floor VALUE)",
 }
@@ -33,6 +45,7 @@ def format_text(profile: Profile) -> str:
     rises = [f" rise {degrees(rise)}" for rise in profile.rises] + [""]
     lines = [
         f"total {_bounds(profile.total)}",
+        *([f"first {profile.first}"] if profile.first else []),
         *(f"day {day} {_bounds(profile.days[day])}{rise}" for day, rise in enumerate(rises)),
         *map(str, profile.cuts),
     ]
@@ -46,7 +59,7 @@ def parse_text(text: str, name: str) -> Profile:
     parser.take_all([(number, words) for number, words in lines if words])
     if parser.faults:
         raise TextError(_listing(name, parser.faults))
-    return Profile(parser.total, parser.days, parser.rises[:-1], parser.cuts)
+    return Profile(parser.total, parser.days, parser.rises[:-1], parser.cuts, parser.first)
 
 
 def _listing(name: str, faults: list[str]) -> str:
@@ -64,15 +77,19 @@ class _Parser:
         self.days: list[Range] = []
         self.rises: list[int] = []
         self.cuts: list[Cut] = []
+        self.first = 0
         self.faults: list[str] = []
         self._name = name
-        self._seen = {"total": 0, "day": 0, "cut": 0}
+        self._seen = {"total": 0, "first": 0, "day": 0, "cut": 0}
+        self._day_count = 0
         self._next_day = 0
         self._last_day_line = math.inf
 
     def take_all(self, lines: list[tuple[int, list[str]]]) -> None:
         """Takes the words of every line, each with the line's number."""
-        self._last_day_line = max((number for number, words in lines if words[0] == "day"), default=math.inf)
+        day_lines = [number for number, words in lines if words[0] == "day"]
+        self._day_count = len(day_lines)
+        self._last_day_line = max(day_lines, default=math.inf)
         for number, words in lines:
             try:
                 self._take(number, words)
@@ -85,11 +102,13 @@ class _Parser:
 
     def _take(self, number: int, words: list[str]) -> None:
         if words[0] not in FORMS:
-            raise _LineError(f"a line begins with total, day or cut, and this one with '{excerpt(words[0])}'")
+            raise _LineError(f"a line begins with total, first, day or cut, and this one with '{excerpt(words[0])}'")
         self._seen[words[0]] += 1
         match words:
             case ["total", floor, ceiling]:
                 self._take_total(Range(_points(floor), _points(ceiling)))
+            case ["first", day]:
+                self._take_first(_day_number(day))
             case ["day", day, *values]:
                 self._take_day_number(day)
                 self._take_day(values, is_last=number == self._last_day_line)
@@ -109,6 +128,15 @@ class _Parser:
             raise _LineError("the total comes first, before the days and the cuts")
         _refuse(TOTALS.fault("floor", total.floor) or TOTALS.fault("ceiling", total.ceiling) or crossed_fault(total))
         self.total = total
+
+    def _take_first(self, first: int) -> None:
+        if self._seen["first"] > 1:
+            raise _LineError("the first counted day stands in an earlier line: one line is enough")
+        if self._seen["day"] or self._seen["cut"]:
+            raise _LineError("the first counted day comes before the days and the cuts")
+        if self._day_count:
+            _refuse(first_day_fault(first, self._day_count))
+        self.first = first
 
     def _take_day_number(self, word: str) -> None:
         """Judges the number of a day, and counts on from it, so that a missing day is one fault and not many."""

@@ -26,9 +26,11 @@ def narrow_profiles(seed: int, count: int) -> Iterator[Profile]:
         floors = [random.randint(0, 12) for _ in range(random.randint(1, 6))]
         days = [Range(floor, floor + random.randint(0, 12)) for floor in floors]
         rises = [random.randint(-6, 2) for _ in days[1:]]
-        total = Range(sum(floors) + random.randint(-5, 10), sum(day.ceiling for day in days) + random.randint(-10, 5))
+        first = random.choice([0, random.randrange(len(days))])
+        ceilings = [day.ceiling for day in days]
+        total = Range(sum(floors[first:]) + random.randint(-5, 10), sum(ceilings[first:]) + random.randint(-10, 5))
         cuts = [_near_cut(random, days, total) for _ in range(random.randint(0, 6))]
-        yield Profile(total, days, rises, cuts)
+        yield Profile(total, days, rises, cuts, first)
 
 
 def wild_profiles(seed: int, count: int) -> Iterator[Profile]:
@@ -40,6 +42,7 @@ def wild_profiles(seed: int, count: int) -> Iterator[Profile]:
             [Range(*(_wild(random, value, POINTS) for value in day)) for day in profile.days],
             [_wild(random, rise, RISES) for rise in profile.rises],
             [_wild_cut(random, cut) for cut in profile.cuts],
+            random.choice([profile.first, profile.first, profile.first, len(profile.days), 65_535]),
         )
 
 
@@ -49,6 +52,7 @@ def _profile(random: Random, days: int, cuts: int) -> Profile:
         [_range(random, POINTS) for _ in range(days)],
         [_value(random, RISES) for _ in range(days - 1)],
         [_cut(random, days) for _ in range(cuts)],
+        random.choice([0, random.randrange(days), days - 1]),
     )
 
 

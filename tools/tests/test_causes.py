@@ -113,19 +113,21 @@ class Words(unittest.TestCase):
         changes = [
             (0, b"\0", "1", "the header, byte 0: the day count is 0, and must be 1 to 512"),
             (3, b"\x02", "1", "the header, byte 2: the cut count is 514, and must be 0 to 512"),
-            (4, b"\x11", "11", "the header, byte 4: the offset of the days is 17, and must be 16"),
-            (6, b"\x21", "11", "the header, byte 6: the offset of the cuts is 33, and must be 34"),
-            (2, b"\x03", "11", "the file's end, byte 50: the header's counts ask for 58 bytes, and the file has 50"),
-            (32, b"\x32", "12", "day 2, byte 32: the rise of the last day is 0.50, and must be 0.00"),
-            (42, b"\x04", "12", "cut 1, byte 42: the kind is 4, and must be 0 to 3"),
-            (44, b"\x01", "12", "cut 1, byte 44: the day of this cut of the total is 1, and must be 0"),
-            (25, b"\x10", "3", "day 1, byte 24: the ceiling 41.03 is above 40.00, the highest temperature"),
-            (27, b"\x80", "4", "day 1, byte 26: the rise -327.68 is below -20.00, the lowest rise"),
+            (4, b"\x10", "11", "the header, byte 4: the offset of the days is 16, and must be 18"),
+            (6, b"\x23", "11", "the header, byte 6: the offset of the cuts is 35, and must be 36"),
+            (2, b"\x03", "11", "the file's end, byte 52: the header's counts ask for 60 bytes, and the file has 52"),
+            (34, b"\x32", "12", "day 2, byte 34: the rise of the last day is 0.50, and must be 0.00"),
+            (44, b"\x04", "12", "cut 1, byte 44: the kind is 4, and must be 0 to 3"),
+            (46, b"\x01", "12", "cut 1, byte 46: the day of this cut of the total is 1, and must be 0"),
+            (27, b"\x10", "3", "day 1, byte 26: the ceiling 41.03 is above 40.00, the highest temperature"),
+            (29, b"\x80", "4", "day 1, byte 28: the rise -327.68 is below -20.00, the lowest rise"),
             (15, b"\x01", "5", "the total, byte 12: the ceiling 167772.28 is above 20480.00, the highest total"),
-            (22, b"\x08", "6", "day 1, byte 22: the floor 0.08 is above the ceiling 0.07"),
+            (24, b"\x08", "6", "day 1, byte 24: the floor 0.08 is above the ceiling 0.07"),
             (8, b"\x0d", "6", "the total, byte 8: the floor 0.13 is above the ceiling 0.12"),
-            (36, b"\x03", "7", "cut 0, byte 36: the profile has no day 3, its days are 0 to 2"),
-            (39, b"\x10", "3", "cut 0, byte 38: the floor 40.99 is above 40.00, the highest temperature"),
+            (16, b"\x03", "13", "the first counted day, byte 16: the profile has no day 3, its days are 0 to 2"),
+            (17, b"\xff", "13", "the first counted day, byte 16: the profile has no day 65280, its days are 0 to 2"),
+            (38, b"\x03", "7", "cut 0, byte 38: the profile has no day 3, its days are 0 to 2"),
+            (41, b"\x10", "3", "cut 0, byte 40: the floor 40.99 is above 40.00, the highest temperature"),
         ]
         for place, byte, number, words in changes:
             with self.subTest(words):
@@ -133,8 +135,9 @@ class Words(unittest.TestCase):
                 self.assertEqual(str(first_refusal(data)), f"refused {number}: {MEANINGS[int(number)]}\n{words}")
 
     def test_a_short_file(self):
-        words = "the header, byte 0: it takes 16 bytes, and the whole file has 7"
-        self.assertEqual(str(first_refusal(DOC01[:7])), f"refused 11: {MEANINGS[11]}\n{words}")
+        for length in (7, 17):
+            words = f"the header, byte 0: with the first counted day it takes 18 bytes, and the whole file has {length}"
+            self.assertEqual(str(first_refusal(DOC01[:length])), f"refused 11: {MEANINGS[11]}\n{words}")
 
     def test_why_there_is_no_schedule(self):
         days = "day 0 20 22 rise 0.5\nday 1 18 22 rise 1\nday 2 18 21.5\n"
@@ -146,12 +149,12 @@ class Words(unittest.TestCase):
             ),
             (
                 f"total 0 99\n{days}cut total floor 1\ncut day 1 floor 20.51",
-                "cut 1, byte 42: with `cut day 1 floor 20.51` and the cuts before it, day 2 can't be below 21.51 "
+                "cut 1, byte 44: with `cut day 1 floor 20.51` and the cuts before it, day 2 can't be below 21.51 "
                 "(the floor 20.51 of day 1 and the rise 1.00 to day 2), and its ceiling is 21.50",
             ),
             (
                 f"total 0 99\n{days}cut day 0 ceiling 19",
-                "cut 0, byte 34: with `cut day 0 ceiling 19.00`, "
+                "cut 0, byte 36: with `cut day 0 ceiling 19.00`, "
                 "the floor 20.00 of day 0 is above its ceiling 19.00",
             ),
             (
@@ -163,8 +166,16 @@ class Words(unittest.TestCase):
                 "at opening: the days sum to at least 62.00, and the total's ceiling is 61.99",
             ),
             (
+                f"total 42.01 99\nfirst 1\n{days}",
+                "at opening: the days from 1 on can sum to at most 42.00, and the total's floor is 42.01",
+            ),
+            (
+                f"total 0 41.99\nfirst 1\n{days}",
+                "at opening: the days from 1 on sum to at least 42.00, and the total's ceiling is 41.99",
+            ),
+            (
                 "total 0 99\nday 0 0 20\ncut total floor 10\ncut total ceiling 9",
-                "cut 1, byte 30: with `cut total ceiling 9.00` and the cuts before it, "
+                "cut 1, byte 32: with `cut total ceiling 9.00` and the cuts before it, "
                 "the total's floor 10.00 is above its ceiling 9.00",
             ),
         ]

@@ -32,7 +32,7 @@ class Chart(unittest.TestCase):
             self.assertEqual(len(day.findall(f"{SVG}title")), len(days) <= MOST_TOOLTIPS)
 
     def test_examples(self):
-        for name in ("doc01", "ale", "lager", "cellar"):
+        for name in ("doc01", "ale", "lager", "cellar", "tall_tank"):
             with self.subTest(name):
                 self.assert_chart((EXAMPLES / f"{name}.profile").read_bytes())
 
@@ -43,6 +43,19 @@ class Chart(unittest.TestCase):
         svg = ET.fromstring(draw(ask((EXAMPLES / "ale.profile").read_bytes()), "ale"))
         in_legend = 2
         self.assertEqual(len(svg.findall(f"{SVG}polygon")), 3 + in_legend)
+
+    def test_filling_days_are_marked(self):
+        svg = draw(ask((EXAMPLES / "tall_tank.profile").read_bytes()), "title")
+        titles = [day.findtext(f"{SVG}title") for day in days_of(svg)]
+        self.assertEqual([day for day, title in enumerate(titles) if ", filling: " in title], [0, 1, 2])
+        self.assertEqual(len(ET.fromstring(svg).findall(f"{SVG}rect[@class='filling']")), 1)
+        self.assertIn("counted from day 3 on", svg)
+        for mark in ("filling", "counted from"):
+            self.assertNotIn(mark, draw(ask((EXAMPLES / "ale.profile").read_bytes()), "title"))
+
+    def test_the_last_day_alone_counts(self):
+        text = "total 17 19\nfirst 2\nday 0 17 19 rise 0\nday 1 17 19 rise 0\nday 2 17 19"
+        self.assert_chart(encode(parse_text(text, "text")))
 
     def test_a_title_that_xml_could_not_hold(self):
         svg = draw(ask(ONE_DAY), "<&\x01\udc80" + "x" * 100)

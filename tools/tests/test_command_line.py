@@ -79,6 +79,21 @@ class Commands(InFolder):
             ],
         )
 
+    def test_explain_filling_days(self):
+        status, table, _ = run("explain", EXAMPLES / "tall_tank.profile")
+        self.assertEqual(status, 0)
+        head, *rows = table.split("\n")
+        self.assertEqual(head, "21 days, 3 cuts; degrees Celsius, the total in degree-days from day 3 on")
+        self.assertEqual([row[:5] for row in rows if row.endswith("  filling")], ["day 0", "day 1", "day 2"])
+
+    def test_explain_a_first_counted_day_that_is_not_there(self):
+        data = bytearray((EXAMPLES / "doc01.profile").read_bytes())
+        data[16] = 3
+        status, words, errors = run("explain", "-", data=bytes(data))
+        place = "the first counted day, byte 16: the profile has no day 3, its days are 0 to 2"
+        self.assertEqual((status, errors), (1, ""))
+        self.assertEqual(words, f"refused 13: the first counted day is not in the profile\n{place}\n")
+
     def test_explain_a_refusal(self):
         status, words, errors = run("explain", TOO_WARM)
         self.assertEqual((status, errors), (1, ""))

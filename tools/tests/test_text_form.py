@@ -48,7 +48,14 @@ FAULTS = [
         "3: a cut's line reads: cut day NUMBER floor VALUE (or ceiling; or cut total floor VALUE)",
     ),
     ("cut total floor 1\nday 0 17 19", "2: the cuts come after the days"),
-    ("days 0 17 19\nday 0 17 19", "2: a line begins with total, day or cut, and this one with 'days'"),
+    ("days 0 17 19\nday 0 17 19", "2: a line begins with total, first, day or cut, and this one with 'days'"),
+    ("first\nday 0 17 19", "2: the first counted day's line reads: first NUMBER"),
+    ("first 0 1\nday 0 17 19", "2: the first counted day's line reads: first NUMBER"),
+    ("first 0.5\nday 0 17 19", "2: '0.5' is not a day's number: days are counted 0, 1, 2, .."),
+    ("first 1\nday 0 17 19", "2: the profile has no day 1, its days are 0 to 0 (refused 13)"),
+    ("first 999999999\nday 0 17 19", "2: the profile has no day 999999999, its days are 0 to 0 (refused 13)"),
+    ("first 0\nfirst 0\nday 0 17 19", "3: the first counted day stands in an earlier line: one line is enough"),
+    ("day 0 17 19\nfirst 0", "3: the first counted day comes before the days and the cuts"),
 ]
 """Faulty texts after the total's line, and what is said of them after the file's name."""
 
@@ -80,8 +87,9 @@ class Text(unittest.TestCase):
         days = [Range(1700, 1900), Range(-5, 5), Range(0, 0)]
         cuts = [Cut(Kind.DAY_FLOOR, 2, 1825), Cut(Kind.TOTAL_CEILING, 0, -1)]
         self.assertEqual(
-            format_text(Profile(Range(-100, 23000), days, [50, -2000], cuts)),
+            format_text(Profile(Range(-100, 23000), days, [50, -2000], cuts, 2)),
             "total -1.00 230.00\n"
+            "first 2\n"
             "day 0 17.00 19.00 rise 0.50\n"
             "day 1 -0.05 0.05 rise -20.00\n"
             "day 2 0.00 0.00\n"
@@ -95,14 +103,20 @@ class Text(unittest.TestCase):
             "day 00 17 17.5 rise +0\nday 1 17.50 19 rise 0\ncut total floor -0.5"
         )
         days, cuts = [Range(1700, 1750), Range(1750, 1900)], [Cut(Kind.TOTAL_FLOOR, 0, -50)]
-        self.assertEqual(parse_text(text, "text"), Profile(Range(100, 250), days, [0], cuts))
+        profile = Profile(Range(100, 250), days, [0], cuts)
+        self.assertEqual(parse_text(text, "text"), profile)
+        self.assertEqual(parse_text(f"first 01 # full\n{text}", "text"), profile._replace(first=1))
+
+    def test_where_every_day_counts_the_line_is_left_out(self):
+        self.assertNotIn("first", format_text(ONE_DAY))
+        self.assertEqual(parse_text(f"first 0\n{format_text(ONE_DAY)}", "text"), ONE_DAY)
 
     def test_values_that_the_reader_leaves_to_opening_are_printed(self):
         cuts = [Cut(Kind.DAY_FLOOR, 65_535, 2_147_483_647)]
-        profile = Profile(Range(-(2**31), 0), [Range(32_767, -32_768)], [], cuts)
+        profile = Profile(Range(-(2**31), 0), [Range(32_767, -32_768)], [], cuts, 65_535)
         self.assertEqual(
             format_text(decode(encode(profile))),
-            "total -21474836.48 0.00\nday 0 327.67 -327.68\ncut day 65535 floor 21474836.47\n",
+            "total -21474836.48 0.00\nfirst 65535\nday 0 327.67 -327.68\ncut day 65535 floor 21474836.47\n",
         )
 
 
@@ -131,6 +145,7 @@ class Faults(unittest.TestCase):
         self.assertEqual(self.faults("# nothing"), [no_total, no_day])
         self.assertEqual(self.faults("day 0 17 19"), [no_total])
         self.assertEqual(self.faults("total 1 2"), [no_day])
+        self.assertEqual(self.faults("total 1 2\nfirst 7"), [no_day])
 
     def test_the_total_comes_first(self):
         message = "ale.txt:2: the total comes first, before the days and the cuts"

@@ -23,9 +23,10 @@ pub struct CodedCell {
     pub outside: bool,
 }
 
-// A profile's numbers as codes: the day count, and the total's bounds as they are held.
+// A profile's numbers as codes: the day count, the first counted day, and the total's bounds as they are held.
 pub struct CodedNumbers {
     pub days: usize,
+    pub first: usize,
     pub lowest: usize,
     pub highest: usize,
 }

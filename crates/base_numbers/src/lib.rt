@@ -1,4 +1,5 @@
-// Casts between a level's 16 bits and a local of the machine's or of 32 bits, the smaller and the larger of two numbers.
+// Casts between a level's 16 bits and a local of the machine's or of 32 bits, the smaller and the larger of two numbers: `min` and `max` of the machine's
+// width, `smaller` and `larger` of 32 bits.
 ghost use mathlib.Core.Path.{_≡_};
 ghost use Prim.Native.Nat.{_≤_, _<_, min, max};
 ghost use Rattle.limits.specs.Limits.{highestLevel};
@@ -32,4 +33,16 @@ pub fn max(x: usize, y: usize) -> usize
     ensures { λ r. ⌜ r ≡ max x y ⌝ }
 {
     if x < y { y } else { x }
+}
+
+pub fn smaller(x: u32, y: u32) -> u32
+    ensures { λ r. ⌜ r ≡ min x y ⌝ }
+{
+    if y < x { y } else { x }
+}
+
+pub fn larger(x: u32, y: u32) -> u32
+    ensures { λ r. ⌜ r ≡ max x y ⌝ }
+{
+    if y < x { x } else { y }
 }

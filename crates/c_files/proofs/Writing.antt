@@ -131,7 +131,7 @@ module _ (h : ByteProfile) (b : List ℕ) where
       pub ceilings-held : ceilings ≡ pointsIn (h .ceilings) n
       pub rises-held : rises ≡ pointsIn (h .rises) (n - 1)
       pub header-put : one ≡ sets l 0 (header (h .numbers) (length b / 8))
-      pub days-put : two ≡ sets one 16 (rows (λ k. dayBytes (on floors k) (on ceilings k) (on rises k)) n)
+      pub days-put : two ≡ sets one 18 (rows (λ k. dayBytes (on floors k) (on ceilings k) (on rises k)) n)
       pub cuts-put : out ≡ sets two (dayOffset n) b
 
     module _ (c : Checked) where

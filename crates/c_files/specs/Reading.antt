@@ -19,7 +19,7 @@ unfoldable pub readingRefusalOver : List ℕ → ℕ → ℕ → ℕ → ℕ →
 readingRefusalOver b floors ceilings rises cuts =
     cond (eqb (earlyReading b) 0) (cond (noRoomOver (dayCount b) (cutCount b) floors ceilings rises cuts) 2 0) (earlyReading b)
 
--- beside a refusal's number: no day, no cut, and 0 for both of the total's bounds
+-- beside a refusal's number: no day, no cut, and 0 for the first counted day and both of the total's bounds
 abbrev pub refusedContents : ℕ → Contents
 refusedContents number = record { refusal = number; numbers = noNumbers; cuts = 0 }
 

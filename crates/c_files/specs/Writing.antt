@@ -30,7 +30,7 @@ cutsInBytes b = listOf (λ j. known (numberedAt b (j * cutLength))) (length b / 
 unfoldable pub lengthsRefusal : ℕ → ℕ → ℕ
 lengthsRefusal lists cuts = cond (ltb mostCuts (cuts / cutLength)) 1 (cond (eqb lists 0) (cond (eqb (cuts % cutLength) 0) 0 2) lists)
 
--- 1, 2, then 3, 4, 5, 6 as opening does, then each cut in order as cutting does: the first refusal before the output's length that applies, or 0
+-- 1, 2, then 3, 4, 5, 6, 13 as opening does, then each cut in order as cutting does: the first refusal before the output's length that applies, or 0
 unfoldable pub earlyWritingOver : ByteProfile → List ℕ → ℕ
 earlyWritingOver h b =
     let lengths : ℕ = lengthsRefusal (byteLengthRefusal h) (length b) in

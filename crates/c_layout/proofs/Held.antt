@@ -2,7 +2,7 @@
 use mathlib.Core.Path.{_≡_, refl, sym}
 use mathlib.Core.Bool.{not}
 use mathlib.Core.List.{List}
-use Prim.Native.Nat.{ℕ, _+_, _*_, _≤_, _<_, min}
+use Prim.Native.Nat.{ℕ, _+_, _-_, _*_, _≤_, _<_, min}
 use native.Mathlib.Omega.{arith}
 use lib.Dec.{eqb}
 use Rattle.limits.specs.Limits.{highestLevel, highestRiseCode}
@@ -20,6 +20,7 @@ use Rattle.c_layout.specs.Layout.{
   risesPlace,
   openedPlace,
   presentPlace,
+  firstPlace,
   cellsAt,
   totalAt,
   rangesAt,
@@ -35,6 +36,13 @@ module _ (b : List ℕ) where
 
   pub days-few : decoding b .days ≤ 512
   days-few = omega (arith, days-held)
+
+  pub days-some : 0 < decoding b .days
+  days-some = omega (arith, days-held)
+
+  pub first-held : min (u16At b firstPlace) (decoding b .days - 1) ≡ decoding b .first
+  unfolding decoding
+  first-held = refl
 
   pub mark-held : not (eqb (u16At b markPlace) 0) ≡ decoding b .spent
   unfolding decoding

@@ -27,7 +27,7 @@ use Rattle.base_little_endian.proofs.Laws.{u16-length, i32-length, u16-read, i3
 use Rattle.c_lists.specs.Lists.{cellBytes}
 use Rattle.c_layout.proofs.Lengths.{totals-length, block-length}
 use Rattle.c_layout.specs.Storing.{DecodingInBounds, Padded, DecodingEncoding}
-use Rattle.c_layout.specs.Layout.{encoding, blockBytes, totalBytes, cellsAt, totalAt, rangesAt, daysAt, decoding}
+use Rattle.c_layout.specs.Layout.{encoding, blockBytes, totalBytes, cellsAt, totalAt, rangesAt, daysAt, firstAt, decoding}
 
 -- ---- in bounds
 
@@ -45,13 +45,13 @@ total-small b place = go (within lowestTotal highestTotal (i32At b place)) refl
     go true e = total-most (i32At b place) e
     go false e = omega arith
 
-fits : (b : List ℕ) (totals place : ℕ) → Fits (cellsAt b (daysAt b) 4000 20) (daysAt b) (rangesAt b (daysAt b) totals place)
+fits : (b : List ℕ) (totals place : ℕ) → Fits (cellsAt b (daysAt b) 4000 20) (daysAt b) (firstAt b) (rangesAt b (daysAt b) totals place)
 unfolding rangesAt
 fits b totals place =
     let n = daysAt b in
     let few : n ≤ 512 = omega arith in
     record {
-      some = omega arith;
+      counts = omega arith;
       most = few;
       floors = length-cells b n few 5000 place;
       ceilings = length-cells b n few 5000 (place + 1024);
@@ -101,10 +101,10 @@ module _ {b : List ℕ} where
       go k u (no h) =
           written-past (λ j. min (u16At b (place + j * 2)) most) 0 n zeros k (omega arith) ∙ getD-replicate {A = ℕ} 512 k 0 0 u ∙ sym (c .past k (omega arith) u)
 
-  ranges-read : {totals place : ℕ} (rs : List ℕ) (n : ℕ) (r : Ranges) → Fits rs n r → Padded n (r .floors) × Padded n (r .ceilings)
+  ranges-read : {totals place : ℕ} (rs : List ℕ) (n first : ℕ) (r : Ranges) → Fits rs n first r → Padded n (r .floors) × Padded n (r .ceilings)
       → Part b totals (totalBytes (r .lowest) (r .highest)) → Part b place (blockBytes (r .floors) n ++ blockBytes (r .ceilings) n) → rangesAt b n totals place ≡ r
   unfolding rangesAt totalBytes
-  ranges-read rs n r f past t p =
+  ranges-read rs n first r f past t p =
       let low : List ℕ = blockBytes (r .floors) n in
       let high : List ℕ = blockBytes (r .ceilings) n in
       let least : List ℕ = i32Bytes (decoded lowestTotal (r .lowest)) in
@@ -143,11 +143,14 @@ module _ (s : Session) where
   abbrev pub rises : List ℕ
   rises = blockBytes (s .rises) (s .days)
 
-  abbrev pub first : List ℕ
-  first = blockBytes (s .opened .floors) (s .days) ++ blockBytes (s .opened .ceilings) (s .days)
+  abbrev pub openedRanges : List ℕ
+  openedRanges = blockBytes (s .opened .floors) (s .days) ++ blockBytes (s .opened .ceilings) (s .days)
 
-  abbrev pub last : List ℕ
-  last = blockBytes (s .present .floors) (s .days) ++ blockBytes (s .present .ceilings) (s .days)
+  abbrev pub presentRanges : List ℕ
+  presentRanges = blockBytes (s .present .floors) (s .days) ++ blockBytes (s .present .ceilings) (s .days)
+
+  abbrev pub counted : List ℕ
+  counted = u16Bytes (s .first)
 
   pub record Laid (b : List ℕ) : Type 0 where
     pub at0 : Part b 0 count
@@ -155,8 +158,9 @@ module _ (s : Session) where
     pub at4 : Part b 4 opening
     pub at12 : Part b 12 totals
     pub at20 : Part b 20 rises
-    pub at1044 : Part b 1044 first
-    pub at3092 : Part b 3092 last
+    pub at1044 : Part b 1044 openedRanges
+    pub at3092 : Part b 3092 presentRanges
+    pub at5140 : Part b 5140 counted
 
   pub laid : {b : List ℕ} → s .days ≤ 512 → Part b 0 (encoding s) → Laid b
   unfolding encoding
@@ -165,9 +169,11 @@ module _ (s : Session) where
       let l2 : length (count ++ mark ++ opening) ≡ 12 = simp (length-append, u16-length, totals-length) in
       let l3 : length (count ++ mark ++ opening ++ totals) ≡ 20 = simp (length-append, u16-length, totals-length) in
       let l4 : length (count ++ mark ++ opening ++ totals ++ rises) ≡ 1044 = simp (length-append, u16-length, totals-length, block-length) in
-      let l5 : length (count ++ mark ++ opening ++ totals ++ rises ++ first) ≡ 3092 = simp (length-append, u16-length, totals-length, block-length) in
-      let p5 = part-left (count ++ mark ++ opening ++ totals ++ rises ++ first) last l5 p in
-      let p4 = part-left (count ++ mark ++ opening ++ totals ++ rises) first l4 p5 in
+      let l5 : length (count ++ mark ++ opening ++ totals ++ rises ++ openedRanges) ≡ 3092 = simp (length-append, u16-length, totals-length, block-length) in
+      let l6 : length (count ++ mark ++ opening ++ totals ++ rises ++ openedRanges ++ presentRanges) ≡ 5140 = simp (length-append, u16-length, totals-length, block-length) in
+      let p6 = part-left (count ++ mark ++ opening ++ totals ++ rises ++ openedRanges ++ presentRanges) counted l6 p in
+      let p5 = part-left (count ++ mark ++ opening ++ totals ++ rises ++ openedRanges) presentRanges l5 p6 in
+      let p4 = part-left (count ++ mark ++ opening ++ totals ++ rises) openedRanges l4 p5 in
       let p3 = part-left (count ++ mark ++ opening ++ totals) rises l3 p4 in
       let p2 = part-left (count ++ mark ++ opening) totals l2 p3 in
       let p1 = part-left (count ++ mark) opening l1 p2 in
@@ -177,8 +183,9 @@ module _ (s : Session) where
         at4 = part-right (count ++ mark) opening l1 p2;
         at12 = part-right (count ++ mark ++ opening) totals l2 p3;
         at20 = part-right (count ++ mark ++ opening ++ totals) rises l3 p4;
-        at1044 = part-right (count ++ mark ++ opening ++ totals ++ rises) first l4 p5;
-        at3092 = part-right (count ++ mark ++ opening ++ totals ++ rises ++ first) last l5 p;
+        at1044 = part-right (count ++ mark ++ opening ++ totals ++ rises) openedRanges l4 p5;
+        at3092 = part-right (count ++ mark ++ opening ++ totals ++ rises ++ openedRanges) presentRanges l5 p6;
+        at5140 = part-right (count ++ mark ++ opening ++ totals ++ rises ++ openedRanges ++ presentRanges) counted l6 p;
       }
 
 -- the parts, put together
@@ -190,13 +197,15 @@ joined s few l =
     let l2 : length (count s ++ mark s ++ opening s) ≡ 12 = simp (length-append, u16-length, totals-length) in
     let l3 : length (count s ++ mark s ++ opening s ++ totals s) ≡ 20 = simp (length-append, u16-length, totals-length) in
     let l4 : length (count s ++ mark s ++ opening s ++ totals s ++ rises s) ≡ 1044 = simp (length-append, u16-length, totals-length, block-length) in
-    let l5 : length (count s ++ mark s ++ opening s ++ totals s ++ rises s ++ first s) ≡ 3092 = simp (length-append, u16-length, totals-length, block-length) in
+    let l5 : length (count s ++ mark s ++ opening s ++ totals s ++ rises s ++ openedRanges s) ≡ 3092 = simp (length-append, u16-length, totals-length, block-length) in
+    let l6 : length (count s ++ mark s ++ opening s ++ totals s ++ rises s ++ openedRanges s ++ presentRanges s) ≡ 5140 = simp (length-append, u16-length, totals-length, block-length) in
     let p1 = part-both (count s) (mark s) l0 (l .at0) (l .at2) in
     let p2 = part-both (count s ++ mark s) (opening s) l1 p1 (l .at4) in
     let p3 = part-both (count s ++ mark s ++ opening s) (totals s) l2 p2 (l .at12) in
     let p4 = part-both (count s ++ mark s ++ opening s ++ totals s) (rises s) l3 p3 (l .at20) in
-    let p5 = part-both (count s ++ mark s ++ opening s ++ totals s ++ rises s) (first s) l4 p4 (l .at1044) in
-    part-both (count s ++ mark s ++ opening s ++ totals s ++ rises s ++ first s) (last s) l5 p5 (l .at3092)
+    let p5 = part-both (count s ++ mark s ++ opening s ++ totals s ++ rises s) (openedRanges s) l4 p4 (l .at1044) in
+    let p6 = part-both (count s ++ mark s ++ opening s ++ totals s ++ rises s ++ openedRanges s) (presentRanges s) l5 p5 (l .at3092) in
+    part-both (count s ++ mark s ++ opening s ++ totals s ++ rises s ++ openedRanges s ++ presentRanges s) (counted s) l6 p6 (l .at5140)
 
 -- what was encoded is decoded
 pub decoding-encoding : DecodingEncoding
@@ -204,12 +213,14 @@ unfolding decoding
 decoding-encoding s h =
     let z = h .bounds .opened in
     let l = laid s (z .most) (part-all (encoding s)) in
-    let days : daysAt (encoding s) ≡ s .days = omega (arith, u16-read (s .days) (l .at0), z .some, z .most) in
+    let days : daysAt (encoding s) ≡ s .days = omega (arith, u16-read (s .days) (l .at0), z .counts, z .most) in
+    let first : min (u16At (encoding s) 5140) (s .days - 1) ≡ s .first = omega (arith, u16-read (s .first) (l .at5140), z .counts) in
     rw (
       days,
+      first,
       cells-read 4000 (s .rises) (record { few = z .most; whole = z .rises; small = z .rise; past = h .rises }) (l .at20),
-      ranges-read (s .rises) (s .days) (s .opened) z (h .opened) (l .at4) (l .at1044),
-      ranges-read (s .rises) (s .days) (s .present) (h .bounds .present) (h .present) (l .at12) (l .at3092),
+      ranges-read (s .rises) (s .days) (s .first) (s .opened) z (h .opened) (l .at4) (l .at1044),
+      ranges-read (s .rises) (s .days) (s .first) (s .present) (h .bounds .present) (h .present) (l .at12) (l .at3092),
       mark-read (s .spent) (u16-read (cond (s .spent) 1 0) (l .at2)),
     )
     refl

@@ -19,7 +19,7 @@ use Rattle.c_lists.specs.Lists.{cellBytes}
 use Rattle.c_layout.specs.Layout.{blockBytes, encoding, patched, cellsDiffer, changedIn}
 use Rattle.c_layout.specs.Storing.{PatchedEncoding}
 use Rattle.c_layout.proofs.Lengths.{totals-length, cells-length, block-length, encoding-length}
-use Rattle.c_layout.proofs.Inverse.{cell-read, Laid, laid, joined, count, mark, opening, totals, rises, first}
+use Rattle.c_layout.proofs.Inverse.{cell-read, Laid, laid, joined, count, mark, opening, totals, rises, openedRanges, counted}
 
 -- w elements from place i on, and the part ys from k on, have none in common
 abbrev Apart : ℕ → List ℕ → ℕ → ℕ → Type 0
@@ -35,7 +35,7 @@ module _ (s : Session) (few : s .days ≤ 512) (spent : Bool) (r : Ranges) where
 
   -- the session with the new ranges
   abbrev t : Session
-  t = record { days = n; rises = s .rises; opened = s .opened; present = r; spent = spent }
+  t = record { days = n; first = s .first; rises = s .rises; opened = s .opened; present = r; spent = spent }
 
   abbrev floors : List ℕ
   floors = cellBytes (at (r .floors)) n
@@ -63,7 +63,7 @@ module _ (s : Session) (few : s .days ≤ 512) (spent : Bool) (r : Ranges) where
   abbrev b4 : List ℕ
   b4 = sets b3 4116 ceilings
 
-  lengths : (length b0 ≡ 5140) × (length b1 ≡ 5140) × (length b2 ≡ 5140) × (length b3 ≡ 5140) × (length b4 ≡ 5140)
+  lengths : (length b0 ≡ 5142) × (length b1 ≡ 5142) × (length b2 ≡ 5142) × (length b3 ≡ 5142) × (length b4 ≡ 5142)
   lengths =
       let e0 = encoding-length s few in
       let e1 = length-sets b0 2 (mark t) ∙ e0 in
@@ -129,7 +129,7 @@ module _ (s : Session) (few : s .days ≤ 512) (spent : Bool) (r : Ranges) where
       let opened = totals-length (s .opened .lowest) (s .opened .highest) in
       let sums = totals-length (r .lowest) (r .highest) in
       let steps = block-length (s .rises) n few in
-      let ranges : length (first s) ≡ 2048 = simp (length-append, block-length) in
+      let ranges : length (openedRanges s) ≡ 2048 = simp (length-append, block-length) in
       record {
         at0 = after0 (count s) (inl (omega (arith, days))) (inl (omega (arith, days))) (inl (omega (arith, days))) (inl (omega (arith, days))) (was .at0);
         at2 = let e = u16-length (cond spent 1 0) in
@@ -137,8 +137,9 @@ module _ (s : Session) (few : s .days ≤ 512) (spent : Bool) (r : Ranges) where
         at4 = after0 (opening s) (inr (omega arith)) (inl (omega (arith, opened))) (inl (omega (arith, opened))) (inl (omega (arith, opened))) (was .at4);
         at12 = after2 (totals t) (inl (omega (arith, sums))) (inl (omega (arith, sums))) (part-stored b1 12 (totals t) (omega (arith, sums, lengths .1)));
         at20 = after0 (rises s) (inr (omega arith)) (inr (omega arith)) (inl (omega (arith, steps))) (inl (omega (arith, steps))) (was .at20);
-        at1044 = after0 (first s) (inr (omega arith)) (inr (omega arith)) (inl (omega (arith, ranges))) (inl (omega (arith, ranges))) (was .at1044);
+        at1044 = after0 (openedRanges s) (inr (omega arith)) (inr (omega arith)) (inl (omega (arith, ranges))) (inl (omega (arith, ranges))) (was .at1044);
         at3092 = part-both (blockBytes (r .floors) n) (blockBytes (r .ceilings) n) (block-length (r .floors) n few) block-floors block-ceilings;
+        at5140 = after0 (counted s) (inr (omega arith)) (inr (omega arith)) (inr (omega arith)) (inr (omega arith)) (was .at5140);
       }
 
   patched-encoded : patched (encoding s) n spent r ≡ encoding t

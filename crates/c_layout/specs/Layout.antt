@@ -1,6 +1,6 @@
 -- A session as a byte string of one length, as the panel's firmware holds it: the day count and whether it is spent, 2 bytes each; the floor and the
 -- ceiling of the total, 4 bytes each, as opened and at present; then the rises, the floors and ceilings as opened, and those at present, each as 512
--- cells of 2 bytes. All fields are little-endian. A cell has what the session holds, and past the last day 0.
+-- cells of 2 bytes; then the first counted day, 2 bytes. All fields are little-endian. A cell has what the session holds, and past the last day 0.
 use mathlib.Core.Bool.{Bool, cond, not, _||_}
 use mathlib.Core.List.{List, _++_}
 use Prim.Native.Nat.{ℕ, _+_, _-_, _*_, min, max}
@@ -58,8 +58,11 @@ openedPlace = risesPlace + blockLength
 abbrev pub presentPlace : ℕ
 presentPlace = openedPlace + rangesLength
 
+abbrev pub firstPlace : ℕ
+firstPlace = presentPlace + rangesLength
+
 abbrev pub sessionBytes : ℕ
-sessionBytes = presentPlace + rangesLength
+sessionBytes = firstPlace + cellLength
 
 -- ---- the bytes of a session
 
@@ -76,6 +79,7 @@ encoding s =
     ++ blockBytes (s .rises) (s .days)
     ++ (blockBytes (s .opened .floors) (s .days) ++ blockBytes (s .opened .ceilings) (s .days))
     ++ (blockBytes (s .present .floors) (s .days) ++ blockBytes (s .present .ceilings) (s .days))
+    ++ u16Bytes (s .first)
 
 -- ---- the session in bytes: numbers in bounds, whatever the bytes are
 
@@ -94,10 +98,15 @@ rangesAt b n totals place =
 abbrev pub daysAt : List ℕ → ℕ
 daysAt b = max 1 (min mostDays (u16At b daysPlace))
 
+-- the first counted day, one of those
+abbrev pub firstAt : List ℕ → ℕ
+firstAt b = min (u16At b firstPlace) (daysAt b - 1)
+
 unfoldable pub decoding : List ℕ → Session
 decoding b =
     record {
       days = daysAt b;
+      first = firstAt b;
       rises = cellsAt b (daysAt b) highestRiseCode risesPlace;
       opened = rangesAt b (daysAt b) openedTotalsPlace openedPlace;
       present = rangesAt b (daysAt b) presentTotalsPlace presentPlace;

@@ -33,4 +33,4 @@ DecodingEncoding = (s : Session) → Storable s → decoding (encoding s) ≡ s
 abbrev pub PatchedEncoding : Type 0
 PatchedEncoding =
     (s : Session) → Storable s → (spent : Bool) (r : Ranges)
-    → patched (encoding s) (s .days) spent r ≡ encoding (record { days = s .days; rises = s .rises; opened = s .opened; present = r; spent = spent })
+    → patched (encoding s) (s .days) spent r ≡ encoding (record { days = s .days; first = s .first; rises = s .rises; opened = s .opened; present = r; spent = spent })

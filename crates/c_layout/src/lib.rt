@@ -25,4 +25,6 @@ pub const OPENED_AT: usize = RISES_AT + BLOCK_BYTES;
 
 pub const PRESENT_AT: usize = OPENED_AT + RANGES_BYTES;
 
-pub const SESSION_BYTES: usize = PRESENT_AT + RANGES_BYTES;
+pub const FIRST_AT: usize = PRESENT_AT + RANGES_BYTES;
+
+pub const SESSION_BYTES: usize = FIRST_AT + CELL_BYTES;

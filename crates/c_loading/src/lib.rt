@@ -24,6 +24,7 @@ use base_numbers::wide;
 use c_layout::BLOCK_BYTES;
 use c_layout::CELL_BYTES;
 use c_layout::DAYS_AT;
+use c_layout::FIRST_AT;
 use c_layout::MARK_AT;
 use c_layout::PRESENT_AT;
 use c_layout::PRESENT_TOTALS_AT;
@@ -102,6 +103,15 @@ pub fn days_of(bytes: &[u8]) -> usize
     ensures { λ r. ⌜ r ≡ decoding (now (bytes .entry)) .days ⌝ }
 {
     max(1, min(Session::MOST_DAYS, wide(u16_at(bytes, DAYS_AT))))
+}
+
+// The first counted day, one of the session's days.
+pub fn first_of(bytes: &[u8]) -> usize
+    requires { ⌜ length (now bytes) ≡ sessionBytes ⌝ }
+    ensures { λ r. ⌜ r ≡ decoding (now (bytes .entry)) .first ⌝ }
+{
+    let last = days_of(bytes) - 1;
+    min(wide(u16_at(bytes, FIRST_AT)), last)
 }
 
 pub fn is_spent(bytes: &[u8]) -> bool

@@ -108,35 +108,36 @@ module _ {s : Session} {value : ℤ} {q : Checked} where
 
 -- ---- load_levels: what is loaded from the bytes is the session's
 
-pub record Loaded (s : Session) (n : ℕ) (rs fs cs : List ℕ) : Type 0 where
+pub record Loaded (s : Session) (n from : ℕ) (rs fs cs : List ℕ) : Type 0 where
   pub bounds : SessionInBounds s
   pub days : n ≡ s .days
+  pub first : from ≡ s .first
   pub rises : rs ≡ s .rises
   pub floors : fs ≡ s .present .floors
   pub ceilings : cs ≡ s .present .ceilings
 
-pub loads : (b : List ℕ) {n : ℕ} {rs fs cs : List ℕ} → n ≡ decoding b .days
-    → (rs ≡ decoding b .rises) × ((fs ≡ decoding b .present .floors) × (cs ≡ decoding b .present .ceilings)) → Loaded (decoding b) n rs fs cs
-loads b d e = record { bounds = decoding-in-bounds b; days = d; rises = e .0; floors = e .1 .0; ceilings = e .1 .1 }
+pub loads : (b : List ℕ) {n from : ℕ} {rs fs cs : List ℕ} → n ≡ decoding b .days → from ≡ decoding b .first
+    → (rs ≡ decoding b .rises) × ((fs ≡ decoding b .present .floors) × (cs ≡ decoding b .present .ceilings)) → Loaded (decoding b) n from rs fs cs
+loads b d f e = record { bounds = decoding-in-bounds b; days = d; first = f; rises = e .0; floors = e .1 .0; ceilings = e .1 .1 }
 
-module _ {s : Session} {n : ℕ} {rs fs cs : List ℕ} (d : Loaded s n rs fs cs) {subject : Subject} (code : ℕ) (fits : CodeFits s subject code) where
+module _ {s : Session} {n from : ℕ} {rs fs cs : List ℕ} (d : Loaded s n from rs fs cs) {subject : Subject} (code : ℕ) (fits : CodeFits s subject code) where
   module _ (day : ℕ) (e : subject ≡ Day day) {lowest : ℕ} (l : lowest ≡ s .present .lowest) where
-    pub day-loaded : InBounds (box fs cs rs n 0 lowest) × (day < n) × (code ≤ 5000)
+    pub day-loaded : InBounds (box fs cs rs n from 0 lowest) × (day < n) × (code ≤ 5000)
     day-loaded =
         let f : CodeFits s (Day day) code = rw e at fits in
-        rw (d .days, d .rises, d .floors, d .ceilings, l) (present-bounds (d .bounds) (d .bounds .present .lowest), f .0, f .1)
+        rw (d .days, d .first, d .rises, d .floors, d .ceilings, l) (present-bounds (d .bounds) (d .bounds .present .lowest), f .0, f .1)
 
-    pub day-levels : {out : List ℕ} → out ≡ written (levelsThrough fs cs rs n lowest day code) n fs → out ≡ written (levelsFor s subject code) (s .days) (s .present .floors)
-    day-levels w = rw e (rw (d .days, d .rises, d .floors, d .ceilings, l) at w)
+    pub day-levels : {out : List ℕ} → out ≡ written (levelsThrough fs cs rs n from lowest day code) n fs → out ≡ written (levelsFor s subject code) (s .days) (s .present .floors)
+    day-levels w = rw e (rw (d .days, d .first, d .rises, d .floors, d .ceilings, l) at w)
 
   module _ (e : subject ≡ Total) where
-    pub total-loaded : InBounds (box fs cs rs n 0 code)
+    pub total-loaded : InBounds (box fs cs rs n from 0 code)
     total-loaded =
         let f : CodeFits s Total code = rw e at fits in
-        rw (d .days, d .rises, d .floors, d .ceilings) (present-bounds (d .bounds) f)
+        rw (d .days, d .first, d .rises, d .floors, d .ceilings) (present-bounds (d .bounds) f)
 
-    pub total-levels : {out : List ℕ} → out ≡ written (raisedTo fs cs rs n code) n fs → out ≡ written (levelsFor s subject code) (s .days) (s .present .floors)
-    total-levels w = rw e (rw (d .days, d .rises, d .floors, d .ceilings) at w)
+    pub total-levels : {out : List ℕ} → out ≡ written (raisedTo fs cs rs n from code) n fs → out ≡ written (levelsFor s subject code) (s .days) (s .present .floors)
+    total-levels w = rw e (rw (d .days, d .first, d .rises, d .floors, d .ceilings) at w)
 
 -- ---- the lengths
 
@@ -205,11 +206,11 @@ module _ (l : List ℕ) (n : ℕ) where
       (λ j u. rw (point-at j u) at (every-on (within lowestSetpoint highestSetpoint) (pointsIn l n) inside j (omega (arith, points-long)))) e k h)
 
 -- what the codes tell is what the points tell
-pub points-judged : {s : Session} {n : ℕ} {rs fs cs : List ℕ} → Loaded s n rs fs cs → {lowest highest : ℕ} → (lowest ≡ s .present .lowest) × (highest ≡ s .present .highest) → (l : List ℕ) {xs : List ℕ}
+pub points-judged : {s : Session} {n from : ℕ} {rs fs cs : List ℕ} → Loaded s n from rs fs cs → {lowest highest : ℕ} → (lowest ≡ s .present .lowest) × (highest ≡ s .present .highest) → (l : List ℕ) {xs : List ℕ}
     → every (within lowestSetpoint highestSetpoint) (pointsIn l n) ≡ true → xs ≡ written (λ k. codeOrZero lowestSetpoint highestSetpoint (pointAt l k)) n zeros
-    → {f : Finding} → f ≡ judgedCodes xs fs cs rs n lowest highest → f ≡ judged s (pointsIn l (s .days))
+    → {f : Finding} → f ≡ judgedCodes xs fs cs rs n from lowest highest → f ≡ judged s (pointsIn l (s .days))
 points-judged {s} d t l {xs} inside e f =
-    (rw (d .rises, d .floors, d .ceilings, t .0, t .1, d .days) at f)
+    (rw (d .rises, d .floors, d .ceilings, d .first, t .0, t .1, d .days) at f)
     ∙ judged-codes s (pointsIn l (s .days)) xs (points-long l (s .days)) (points-coded l (s .days) (d .bounds .present .most) (rw (d .days) at inside) (rw (d .days) at e))
 
 module _ (b l : List ℕ) where

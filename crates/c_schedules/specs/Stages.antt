@@ -24,5 +24,5 @@ CodeFits s Total total = total ≤ highestTotalCode
 
 -- the schedule's levels, by the value's code
 abbrev pub levelsFor : Session → Subject → ℕ → ℕ → ℕ
-levelsFor s (Day day) level = levelsThrough (s .present .floors) (s .present .ceilings) (s .rises) (s .days) (s .present .lowest) day level
-levelsFor s Total total = raisedTo (s .present .floors) (s .present .ceilings) (s .rises) (s .days) total
+levelsFor s (Day day) level = levelsThrough (s .present .floors) (s .present .ceilings) (s .rises) (s .days) (s .first) (s .present .lowest) day level
+levelsFor s Total total = raisedTo (s .present .floors) (s .present .ceilings) (s .rises) (s .days) (s .first) total

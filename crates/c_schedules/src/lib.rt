@@ -14,6 +14,7 @@ use c_lists::code_points;
 use c_lists::put_levels;
 use c_loading::ceiling_of;
 use c_loading::days_of;
+use c_loading::first_of;
 use c_loading::floor_of;
 use c_loading::is_spent;
 use c_loading::load_present;
@@ -23,6 +24,7 @@ use limits::LOWEST_SETPOINT;
 use limits::MOST_DAYS;
 use schedule_inspection::Inspection;
 use schedule_writing::Checked;
+use schedule_writing::write_through;
 
 // What inspecting finds: the refusal's number; the rule that is broken, 0 for none, 1 for a day's range, 2 for a rise, 3 for the total's range; and the
 // number of the day or rise.
@@ -82,15 +84,16 @@ fn load_levels(session: &[u8], subject: Subject, code: usize, levels: &mut [u16;
     ensures { λ _. ⌜ now (levels .exit) ≡ written (levelsFor (decoding (now (session .entry))) subject code) (decoding (now (session .entry)) .days) (decoding (now (session .entry)) .present .floors) ⌝ }
 {
     let n = days_of(session);
+    let first = first_of(session);
     let mut rises = [0u16; MOST_DAYS];
     let mut ceilings = [0u16; MOST_DAYS];
     load_present(session, &mut rises, levels, &mut ceilings);
     match subject {
         Subject::Day(day) => {
             let lowest = total_of(session).lowest;
-            schedule_writing::write_through(levels, &mut ceilings, &rises, n, lowest, day, code);
+            write_through(levels, &mut ceilings, &rises, n, first, lowest, day, code);
         }
-        Subject::Total => schedule_raising::raise_to(levels, &ceilings, &rises, n, code),
+        Subject::Total => schedule_raising::raise_to(levels, &ceilings, &rises, n, first, code),
     }
 }
 
@@ -159,6 +162,7 @@ fn judge_points(session: &[u8], list: &[u8]) -> Inspection
     ensures { λ r. ⌜ finding r ≡ judged (decoding (now (session .entry))) (pointsIn (now (list .entry)) (decoding (now (session .entry)) .days)) ⌝ }
 {
     let n = days_of(session);
+    let first = first_of(session);
     let mut rises = [0u16; MOST_DAYS];
     let mut floors = [0u16; MOST_DAYS];
     let mut ceilings = [0u16; MOST_DAYS];
@@ -172,6 +176,7 @@ fn judge_points(session: &[u8], list: &[u8]) -> Inspection
         &ceilings,
         &rises,
         n,
+        first,
         total.lowest,
         total.highest,
     )

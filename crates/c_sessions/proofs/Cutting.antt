@@ -80,7 +80,7 @@ module _ (b : List ℕ) (c : Cut) {t : Tight} (e : t ≡ retightened (decoding b
   -- the total's range is in bounds
   pub made-bounds : malformed (decoding b .days) c ≡ 0 → t .found ≡ true → (t .lowest ≤ 2560000) × (t .highest ≤ 2560000)
   made-bounds formed some =
-      let fits = clipped-in-bounds (decoding b .rises) (decoding b .days) (decoding b .present) c (decoding-in-bounds b .present) formed in
+      let fits = clipped-in-bounds (decoding b .rises) (decoding b .days) (decoding b .first) (decoding b .present) c (decoding-in-bounds b .present) formed in
       let x = exact-in-bounds (exact fits (rw e at some)) fits in
       rw e (x .lowest, x .highest)
 
@@ -91,16 +91,17 @@ pub record Loaded (b fs cs rs : List ℕ) (m : CodedNumbers) : Type 0 where
   pub ceilings : cs ≡ decoding b .present .ceilings
   pub rises : rs ≡ decoding b .rises
   pub days : m .days ≡ decoding b .days
+  pub first : m .first ≡ decoding b .first
   pub lowest : m .lowest ≡ decoding b .present .lowest
   pub highest : m .highest ≡ decoding b .present .highest
 
 module _ {b fs cs rs : List ℕ} {m : CodedNumbers} (l : Loaded b fs cs rs m) where
   pub loaded-bounds : InBounds (boxed fs cs rs m)
-  loaded-bounds = rw (l .floors, l .ceilings, l .rises, l .days, l .lowest, l .highest) (decoding-in-bounds b .present)
+  loaded-bounds = rw (l .floors, l .ceilings, l .rises, l .days, l .first, l .lowest, l .highest) (decoding-in-bounds b .present)
 
-  pub loaded-tight : (c : Cut) {t : Tight} → t ≡ tightened (boxOf rs (m .days) (clipped (record { floors = fs; ceilings = cs; lowest = m .lowest; highest = m .highest }) c))
+  pub loaded-tight : (c : Cut) {t : Tight} → t ≡ tightened (boxOf rs (m .days) (m .first) (clipped (record { floors = fs; ceilings = cs; lowest = m .lowest; highest = m .highest }) c))
       → t ≡ retightened (decoding b) (clipped (decoding b .present) c)
-  loaded-tight c e = rw (l .floors, l .ceilings, l .rises, l .days, l .lowest, l .highest) at e
+  loaded-tight c e = rw (l .floors, l .ceilings, l .rises, l .days, l .first, l .lowest, l .highest) at e
 
 -- ---- the returns of `cut_known`
 

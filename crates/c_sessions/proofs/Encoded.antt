@@ -3,7 +3,6 @@ use mathlib.Core.Path.{_≡_, refl, ap, sym, _∙_}
 use mathlib.Core.Bool.{Bool, true, false, cond, _||_}
 use mathlib.Core.List.{List}
 use Prim.Native.Nat.{ℕ, _/_}
-use native.Mathlib.Omega.{arith}
 use lib.Dec.{eqb}
 use lib.ListN.{length}
 use borrow.Author.Tests.{eq-eqb, eqb-true, eqb-false}
@@ -31,6 +30,7 @@ encoded s h = eq-eqb (length (encoding s)) sessionBytes (encoding-length s (h .b
 
 record Keeps (s : Session) (a : AfterCut) : Type 0 where
   days : a .session .days ≡ s .days
+  first : a .session .first ≡ s .first
   rises : a .session .rises ≡ s .rises
   opened : a .session .opened ≡ s .opened
   none : (a .answer .refusal ≡ 0 → ⊥) → a .answer .changed ≡ 0
@@ -40,14 +40,14 @@ cut-keeps : (s : Session) (c : Cut) (room : ℕ) → Keeps s (afterCut s c room)
 cut-keeps s c room = go (eqb (earlyCutting s c room) 0) (retightened s (clipped (s .present) c) .found) refl refl
   where
     go : (early found : Bool) → eqb (earlyCutting s c room) 0 ≡ early → retightened s (clipped (s .present) c) .found ≡ found → Keeps s (afterCut s c room)
-    go true true e f = rw (accepted s c room e, f) (record { days = refl; rises = refl; opened = refl; none = λ h. absurd (h refl); left = λ h k. absurd (h refl) })
-    go true false e f = rw (accepted s c room e, f) (record { days = refl; rises = refl; opened = refl; none = λ h. refl; left = λ h k. absurd (k refl) })
-    go false found e f = rw (refused-same s c room e) (record { days = refl; rises = refl; opened = refl; none = λ h. refl; left = λ h k. refl })
+    go true true e f = rw (accepted s c room e, f) (record { days = refl; first = refl; rises = refl; opened = refl; none = λ h. absurd (h refl); left = λ h k. absurd (h refl) })
+    go true false e f = rw (accepted s c room e, f) (record { days = refl; first = refl; rises = refl; opened = refl; none = λ h. refl; left = λ h k. absurd (k refl) })
+    go false found e f = rw (refused-same s c room e) (record { days = refl; first = refl; rises = refl; opened = refl; none = λ h. refl; left = λ h k. refl })
 
 keeps : (s : Session) (t : Numbered) (room : ℕ) → Keeps s (afterNumbered s t room)
 unfolding afterNumbered
 keeps s (Known c) room = cut-keeps s c room
-keeps s Unknown room = record { days = refl; rises = refl; opened = refl; none = λ h. refl; left = λ h k. refl }
+keeps s Unknown room = record { days = refl; first = refl; rises = refl; opened = refl; none = λ h. refl; left = λ h k. refl }
 
 -- ---- a cut on the encoding
 
@@ -76,7 +76,7 @@ module _ (s : Session) (h : Storable s) (t : Numbered) (room : ℕ) where
   patch =
       let k = keeps s t room in
       rw (k .days) (patched-encoding s h (a .session .spent) (a .session .present))
-      ∙ ap encoding (λ i. record { days = sym (k .days) i; rises = sym (k .rises) i; opened = sym (k .opened) i; present = a .session .present; spent = a .session .spent })
+      ∙ ap encoding (λ i. record { days = sym (k .days) i; first = sym (k .first) i; rises = sym (k .rises) i; opened = sym (k .opened) i; present = a .session .present; spent = a .session .spent })
 
   stored : bytesFor (encoding s) a ≡ encoding (a .session)
   unfolding bytesFor

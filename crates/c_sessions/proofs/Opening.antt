@@ -102,5 +102,5 @@ module _ (b : List ℕ) (h : ByteProfile) where
       open-stored s e f = rw (eq-eqb (length b) sessionBytes session, right, ← e) (refl, f)
 
 -- a fresh session that opening gives is in bounds
-pub fresh-in-bounds : (h : ByteProfile) (n : ℕ) (rs : List ℕ) (r : Ranges) → record { refusal = 0; session = fresh n rs r } ≡ opened (profileOf h) → InBounds (boxOf rs n r)
-fresh-in-bounds h n rs r e = (rw (← e) at (opened-in-bounds (profileOf h))) .opened
+pub fresh-in-bounds : (h : ByteProfile) (n first : ℕ) (rs : List ℕ) (r : Ranges) → record { refusal = 0; session = fresh n first rs r } ≡ opened (profileOf h) → InBounds (boxOf rs n first r)
+fresh-in-bounds h n first rs r e = (rw (← e) at (opened-in-bounds (profileOf h))) .opened

@@ -20,6 +20,7 @@ use c_lists::code_points;
 use c_lists::code_ranges;
 use c_lists::length_refusal;
 use c_loading::days_of;
+use c_loading::first_of;
 use c_loading::is_spent;
 use c_loading::load_present;
 use c_loading::show_present;
@@ -106,6 +107,7 @@ fn open_lists(
     }
     let held = CodedNumbers {
         days: coded.numbers.days,
+        first: coded.numbers.first,
         lowest: opened.lowest,
         highest: opened.highest,
     };
@@ -113,7 +115,7 @@ fn open_lists(
     0
 }
 
-// Opens a profile: document 01's checks 1 to 6, then 8; a refusal writes no byte.
+// Opens a profile: the checks 1 to 6, 13, then 8; a refusal writes no byte.
 pub fn open(
     session: &mut [u8],
     numbers: Numbers,
@@ -157,9 +159,11 @@ fn cut_present(session: &mut [u8], cut: Cut, value: usize, changed: &mut [u8]) -
     let mut ceilings = [0u16; MOST_DAYS];
     load_present(session, &mut rises, &mut floors, &mut ceilings);
     let days = days_of(session);
+    let first = first_of(session);
     let total = total_of(session);
     let held = CodedNumbers {
         days,
+        first,
         lowest: total.lowest,
         highest: total.highest,
     };
@@ -170,6 +174,7 @@ fn cut_present(session: &mut [u8], cut: Cut, value: usize, changed: &mut [u8]) -
     }
     let left = CodedNumbers {
         days,
+        first,
         lowest: t.lowest,
         highest: t.highest,
     };

@@ -23,6 +23,7 @@ use base_numbers::narrow;
 use c_layout::BLOCK_BYTES;
 use c_layout::CELL_BYTES;
 use c_layout::DAYS_AT;
+use c_layout::FIRST_AT;
 use c_layout::MARK_AT;
 use c_layout::OPENED_AT;
 use c_layout::OPENED_TOTALS_AT;
@@ -100,9 +101,10 @@ pub fn store_fresh(
     out: &mut [u8],
 )
     requires { ⌜ InBounds (boxed (now floors) (now ceilings) (now rises) numbers) × (length (now out) ≡ sessionBytes) ⌝ }
-    ensures { λ _. ⌜ now (out .exit) ≡ encoding (fresh (numbers .days) (now (rises .entry)) (record { floors = now (floors .entry); ceilings = now (ceilings .entry); lowest = numbers .lowest; highest = numbers .highest })) ⌝ }
+    ensures { λ _. ⌜ now (out .exit) ≡ encoding (fresh (numbers .days) (numbers .first) (now (rises .entry)) (record { floors = now (floors .entry); ceilings = now (ceilings .entry); lowest = numbers .lowest; highest = numbers .highest })) ⌝ }
 {
     let n = numbers.days;
+    let first = numbers.first;
     let lowest = numbers.lowest;
     let highest = numbers.highest;
     put_u16(out, DAYS_AT, narrow(n));
@@ -112,6 +114,7 @@ pub fn store_fresh(
     put_block(rises, n, RISES_AT, out);
     put_ranges(floors, ceilings, n, OPENED_AT, out);
     put_ranges(floors, ceilings, n, PRESENT_AT, out);
+    put_u16(out, FIRST_AT, narrow(first));
 }
 
 // ---- what a cut changes

@@ -39,12 +39,14 @@ pub extern "C" fn cloverdrum_open(
     rises: &[u8],
     total_floor: i32,
     total_ceiling: i32,
+    first_counted_day: usize,
 ) -> u8
-    ensures { λ r. ⌜ r ≡ openRefusal (now (session .entry)) (byteProfile (numbersWith days «total_floor» «total_ceiling») (now (floors .entry)) (now (ceilings .entry)) (now (rises .entry))) ⌝ }
-    ensures { λ r. ⌜ now (session .exit) ≡ bytesOpened (now (session .entry)) (byteProfile (numbersWith days «total_floor» «total_ceiling») (now (floors .entry)) (now (ceilings .entry)) (now (rises .entry))) ⌝ }
+    ensures { λ r. ⌜ r ≡ openRefusal (now (session .entry)) (byteProfile (numbersWith days «first_counted_day» «total_floor» «total_ceiling») (now (floors .entry)) (now (ceilings .entry)) (now (rises .entry))) ⌝ }
+    ensures { λ r. ⌜ now (session .exit) ≡ bytesOpened (now (session .entry)) (byteProfile (numbersWith days «first_counted_day» «total_floor» «total_ceiling») (now (floors .entry)) (now (ceilings .entry)) (now (rises .entry))) ⌝ }
 {
     let numbers = Numbers {
         days,
+        first: first_counted_day,
         lowest: total_floor,
         highest: total_ceiling,
     };
@@ -153,8 +155,9 @@ pub extern "C" fn cloverdrum_read_file(
     cuts_count: &mut usize,
     total_floor: &mut i32,
     total_ceiling: &mut i32,
+    first_counted_day: &mut usize,
 ) -> u8
-    ensures { λ r. ⌜ record { refusal = r; numbers = record { days = now (days .exit); lowest = now («total_floor» .exit); highest = now («total_ceiling» .exit) }; cuts = now («cuts_count» .exit) } ≡ readInto (now (file .entry)) (length (now (floors .entry))) (length (now (ceilings .entry))) (length (now (rises .entry))) (length (now (cuts .entry))) ⌝ }
+    ensures { λ r. ⌜ record { refusal = r; numbers = record { days = now (days .exit); first = now («first_counted_day» .exit); lowest = now («total_floor» .exit); highest = now («total_ceiling» .exit) }; cuts = now («cuts_count» .exit) } ≡ readInto (now (file .entry)) (length (now (floors .entry))) (length (now (ceilings .entry))) (length (now (rises .entry))) (length (now (cuts .entry))) ⌝ }
     ensures { λ r. ⌜ now (floors .exit) ≡ lentPoints r (floorAt (now (file .entry))) (dayCount (now (file .entry))) (now (floors .entry)) ⌝ }
     ensures { λ r. ⌜ now (ceilings .exit) ≡ lentPoints r (ceilingAt (now (file .entry))) (dayCount (now (file .entry))) (now (ceilings .entry)) ⌝ }
     ensures { λ r. ⌜ now (rises .exit) ≡ lentPoints r (riseAt (now (file .entry))) (dayCount (now (file .entry)) - 1) (now (rises .entry)) ⌝ }
@@ -168,6 +171,7 @@ pub extern "C" fn cloverdrum_read_file(
     *cuts_count = contents.cuts;
     *total_floor = low;
     *total_ceiling = high;
+    *first_counted_day = numbers.first;
     contents.refusal
 }
 
@@ -179,15 +183,17 @@ pub extern "C" fn cloverdrum_write_file(
     rises: &[u8],
     total_floor: i32,
     total_ceiling: i32,
+    first_counted_day: usize,
     cuts: &[u8],
     file: &mut [u8],
     file_bytes: &mut usize,
 ) -> u8
-    ensures { λ r. ⌜ record { refusal = r; length = now («file_bytes» .exit) } ≡ writeOver (byteProfile (numbersWith days «total_floor» «total_ceiling») (now (floors .entry)) (now (ceilings .entry)) (now (rises .entry))) (now (cuts .entry)) (length (now (file .entry))) ⌝ }
-    ensures { λ r. ⌜ now (file .exit) ≡ outputOver (byteProfile (numbersWith days «total_floor» «total_ceiling») (now (floors .entry)) (now (ceilings .entry)) (now (rises .entry))) (now (cuts .entry)) (now (file .entry)) ⌝ }
+    ensures { λ r. ⌜ record { refusal = r; length = now («file_bytes» .exit) } ≡ writeOver (byteProfile (numbersWith days «first_counted_day» «total_floor» «total_ceiling») (now (floors .entry)) (now (ceilings .entry)) (now (rises .entry))) (now (cuts .entry)) (length (now (file .entry))) ⌝ }
+    ensures { λ r. ⌜ now (file .exit) ≡ outputOver (byteProfile (numbersWith days «first_counted_day» «total_floor» «total_ceiling») (now (floors .entry)) (now (ceilings .entry)) (now (rises .entry))) (now (cuts .entry)) (now (file .entry)) ⌝ }
 {
     let numbers = Numbers {
         days,
+        first: first_counted_day,
         lowest: total_floor,
         highest: total_ceiling,
     };

@@ -44,8 +44,8 @@ abbrev layout : List ℕ → ℕ
 layout b = cond (badLayout b) 11 0
 
 module _ (b : List ℕ) where
-  pub days-elsewhere : {o : ℕ} → o ≡ daysOffset b → (o ≡ 16 → ⊥) → 11 ≡ layout b
-  days-elsewhere {o} eo h = rw (← eo, ne-eqb o 16 h)
+  pub days-elsewhere : {o : ℕ} → o ≡ daysOffset b → (o ≡ 18 → ⊥) → 11 ≡ layout b
+  days-elsewhere {o} eo h = rw (← eo, ne-eqb o 18 h)
 
   module _ {n m : ℕ} (k : Said b n m) where
     pub cuts-elsewhere : {o : ℕ} → o ≡ cutsOffset b → (o ≡ dayOffset n → ⊥) → 11 ≡ layout b
@@ -54,8 +54,8 @@ module _ (b : List ℕ) where
     pub wrong-length : (length b ≡ fileLength n m → ⊥) → 11 ≡ layout b
     wrong-length h = rw (← k .days, ← k .cuts, ne-eqb (length b) (fileLength n m) h, and-false)
 
-    pub layout-taken : daysOffset b ≡ 16 → cutsOffset b ≡ dayOffset n → length b ≡ fileLength n m → 0 ≡ layout b
-    layout-taken ho hp h = rw (← k .days, ← k .cuts, eq-eqb (daysOffset b) 16 ho, eq-eqb (cutsOffset b) (dayOffset n) hp, eq-eqb (length b) (fileLength n m) h)
+    pub layout-taken : daysOffset b ≡ 18 → cutsOffset b ≡ dayOffset n → length b ≡ fileLength n m → 0 ≡ layout b
+    layout-taken ho hp h = rw (← k .days, ← k .cuts, eq-eqb (daysOffset b) 18 ho, eq-eqb (cutsOffset b) (dayOffset n) hp, eq-eqb (length b) (fileLength n m) h)
 
 -- ---- fields_refusal
 
@@ -91,7 +91,7 @@ refuses false m e h = absurd (h e)
 
 -- the header is there, and n and m are its counts
 pub record Header (b : List ℕ) (n m : ℕ) : Type 0 where
-  pub long : 16 ≤ length b
+  pub long : 18 ≤ length b
   pub said : Said b n m
 
 -- and the counts are not refused
@@ -105,9 +105,9 @@ pub record Laid (b : List ℕ) (n m : ℕ) : Type 0 where
   pub none : layout b ≡ 0
 
 module _ (b : List ℕ) where
-  pub no-header : length b < 16 → 11 ≡ earlyReading b
+  pub no-header : length b < 18 → 11 ≡ earlyReading b
   unfolding earlyReading
-  no-header h = rw (lt-ltb (length b) 16 h)
+  no-header h = rw (lt-ltb (length b) 18 h)
 
   module _ {n m : ℕ} where
     by-counts : Said b n m → counts n m ≡ cond (badCounts b) 1 0
@@ -115,7 +115,7 @@ module _ (b : List ℕ) where
 
     pub counts-refused : {r : ℕ} → Header b n m → r ≡ counts n m → (r ≡ 0 → ⊥) → 1 ≡ earlyReading b
     unfolding earlyReading
-    counts-refused k er h = rw (le-ltb (length b) 16 (k .long), refuses (badCounts b) 1 (er ∙ by-counts (k .said)) h)
+    counts-refused k er h = rw (le-ltb (length b) 18 (k .long), refuses (badCounts b) 1 (er ∙ by-counts (k .said)) h)
 
     module _ (k : Counted b n m) where
       counts-good : badCounts b ≡ false
@@ -126,7 +126,7 @@ module _ (b : List ℕ) where
 
       pub layout-refused : {s : ℕ} → s ≡ layout b → (s ≡ 0 → ⊥) → 11 ≡ earlyReading b
       unfolding earlyReading
-      layout-refused es h = rw (le-ltb (length b) 16 (k .header .long), counts-good, refuses (badLayout b) 11 es h)
+      layout-refused es h = rw (le-ltb (length b) 18 (k .header .long), counts-good, refuses (badLayout b) 11 es h)
 
     module _ (k : Laid b n m) where
       layout-good : badLayout b ≡ false
@@ -137,4 +137,4 @@ module _ (b : List ℕ) where
 
       pub fields-last : {t : ℕ} → t ≡ fields b → t ≡ earlyReading b
       unfolding earlyReading
-      fields-last e = rw (le-ltb (length b) 16 (k .counted .header .long), counts-good (k .counted), layout-good) e
+      fields-last e = rw (le-ltb (length b) 18 (k .counted .header .long), counts-good (k .counted), layout-good) e

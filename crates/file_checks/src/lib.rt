@@ -6,13 +6,13 @@ ghost use lib.Dec.{eqb, ltb};
 ghost use lib.ListN.{length};
 ghost use Rattle.limits.specs.Limits.{mostDays, mostCuts};
 ghost use Rattle.theory_lists.specs.First.{firstWhere};
-ghost use Rattle.file_format.specs.Format.{headerLength, cutLength, fileLength, dayCount, cutCount, numberedAt};
+ghost use Rattle.file_format.specs.Format.{daysBegin, cutLength, fileLength, dayCount, cutCount, numberedAt};
 ghost use Rattle.file_format.specs.Reading.{badLayout, badFields, badCut, earlyReading};
 use base_little_endian::i32_at;
 use base_little_endian::u16_at;
 use base_numbers::wide;
 use file_format::CUT_BYTES;
-use file_format::HEADER_BYTES;
+use file_format::DAYS_BEGIN;
 use file_format::day_offset;
 use limits::MOST_CUTS;
 use limits::MOST_DAYS;
@@ -76,11 +76,11 @@ fn counts_refusal(days: usize, cuts: usize) -> u8
 }
 
 fn layout_refusal(bytes: &[u8], days: usize, cuts: usize) -> u8
-    requires { ⌜ (headerLength ≤ length (now bytes)) × (days ≡ dayCount (now bytes)) × (cuts ≡ cutCount (now bytes)) × (days ≤ mostDays) × (cuts ≤ mostCuts) ⌝ }
+    requires { ⌜ (daysBegin ≤ length (now bytes)) × (days ≡ dayCount (now bytes)) × (cuts ≡ cutCount (now bytes)) × (days ≤ mostDays) × (cuts ≤ mostCuts) ⌝ }
     ensures { λ r. ⌜ r ≡ cond (badLayout (now (bytes .entry))) 11 0 ⌝ }
 {
     let from = day_offset(days);
-    if wide(u16_at(bytes, 4)) != HEADER_BYTES {
+    if wide(u16_at(bytes, 4)) != DAYS_BEGIN {
         return 11;
     }
     if wide(u16_at(bytes, 6)) != from {
@@ -107,11 +107,11 @@ fn fields_refusal(bytes: &[u8], days: usize, cuts: usize) -> u8
     0
 }
 
-// 11 under 16 bytes, 1, 11 for the offsets and the length, 12, else 0.
+// 11 under 18 bytes, 1, 11 for the offsets and the length, 12, else 0.
 pub fn file_refusal(bytes: &[u8]) -> u8
     ensures { λ r. ⌜ r ≡ earlyReading (now (bytes .entry)) ⌝ }
 {
-    if bytes.len() < HEADER_BYTES {
+    if bytes.len() < DAYS_BEGIN {
         return 11;
     }
     let days = wide(u16_at(bytes, 0));

@@ -7,10 +7,7 @@ ghost use Rattle.file_format.specs.Format.{dayLength, dayOffset, floorAt, ceili
 ghost use Rattle.file_days.specs.Days.{dayAt, stepOf, takenAt};
 use base_little_endian::i16_at;
 use file_format::DAY_BYTES;
-use file_format::HEADER_BYTES;
-
-// Where the first day begins.
-const DAYS_OFFSET: usize = HEADER_BYTES;
+use file_format::DAYS_BEGIN;
 
 // A day's floor and ceiling, and the rise to the next day.
 struct Day {
@@ -128,7 +125,7 @@ pub fn store_days(
     ensures { λ r. ⌜ now (rises .exit) ≡ written (riseAt (now (bytes .entry))) (days - 1) (now (rises .entry)) ⌝ }
 {
     let last = days - 1;
-    let mut at = DAYS_OFFSET;
+    let mut at = DAYS_BEGIN;
     let mut k = 0;
     while k < last {
         at = store_day(bytes, at, k, floors, ceilings, rises);

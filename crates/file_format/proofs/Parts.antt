@@ -20,7 +20,7 @@ use Rattle.file_format.specs.Format.{dayOffset, cutOffset, fileLength, h
 
 -- ---- how long each part is
 
-pub header-length : (m : Numbers) (cuts : ℕ) → length (header m cuts) ≡ 16
+pub header-length : (m : Numbers) (cuts : ℕ) → length (header m cuts) ≡ 18
 unfolding header u16Bytes u32Bytes i32Bytes
 header-length m cuts = refl
 
@@ -46,7 +46,7 @@ module _ (p : Profile) (cs : List Cut) where
   unfolding cutRow
   cutRow-length j h = cut-length (cutOn cs j)
 
-  head-length : length head ≡ 16
+  head-length : length head ≡ 18
   unfolding head
   head-length = header-length (numbersOf p) (length cs)
 
@@ -68,14 +68,14 @@ module _ (p : Profile) (cs : List Cut) where
   file-cuts = rw (whole, ← front-length) (drop-append-seam (head ++ rows (dayRow p) (p .days)) (rows cutRow (length cs)))
 
   -- the three parts, stored one after another
-  pub parts-stored : (l : List ℕ) {a b out : List ℕ} → a ≡ sets l 0 (header (numbersOf p) (length cs)) → b ≡ sets a 16 (rows (dayRow p) (p .days))
+  pub parts-stored : (l : List ℕ) {a b out : List ℕ} → a ≡ sets l 0 (header (numbersOf p) (length cs)) → b ≡ sets a 18 (rows (dayRow p) (p .days))
       → out ≡ sets b (dayOffset (p .days)) (rows (λ j. cutBytes (cutOn cs j)) (length cs)) → out ≡ sets l 0 (file p cs)
   unfolding head cutRow
   parts-stored l e f g =
       let z : 0 + dayOffset (p .days) ≡ dayOffset (p .days) = omega arith in
       rw whole
       (stored-after l 0 (dayOffset (p .days)) (head ++ rows (dayRow p) (p .days)) (rows cutRow (length cs)) front-length
-      (stored-after l 0 16 head (rows (dayRow p) (p .days)) head-length e f) (rw z g))
+      (stored-after l 0 18 head (rows (dayRow p) (p .days)) head-length e f) (rw z g))
 
   -- b is laid out as the file of p and cs
   pub record Laid (b : List ℕ) : Type 0 where
@@ -109,10 +109,11 @@ module _ (p : Profile) (cs : List Cut) where
 pub record Header (b : List ℕ) (m : Numbers) (count : ℕ) : Type 0 where
   pub days : Part b 0 (u16Bytes (m .days))
   pub cuts : Part b 2 (u16Bytes count)
-  pub daysOffset : Part b 4 (u16Bytes 16)
+  pub daysOffset : Part b 4 (u16Bytes 18)
   pub cutsOffset : Part b 6 (u16Bytes (dayOffset (m .days)))
   pub lowest : Part b 8 (i32Bytes (m .lowest))
   pub highest : Part b 12 (i32Bytes (m .highest))
+  pub first : Part b 16 (u16Bytes (m .first))
 
 pub record Day (b : List ℕ) (i : ℕ) (low high step : ℤ) : Type 0 where
   pub floor : Part b i (i16Bytes low)
@@ -129,7 +130,7 @@ module _ (m : Numbers) (cuts : ℕ) where
   two = u16Bytes (m .days) ++ u16Bytes cuts
 
   abbrev three : List ℕ
-  three = two ++ u16Bytes 16
+  three = two ++ u16Bytes 18
 
   abbrev four : List ℕ
   four = three ++ u16Bytes (dayOffset (m .days))
@@ -137,33 +138,40 @@ module _ (m : Numbers) (cuts : ℕ) where
   abbrev five : List ℕ
   five = four ++ i32Bytes (m .lowest)
 
+  abbrev six : List ℕ
+  six = five ++ i32Bytes (m .highest)
+
   module _ {b : List ℕ} where
     pub header-fields : Part b 0 (header m cuts) → Header b m cuts
     unfolding header u16Bytes u32Bytes i32Bytes
     header-fields p =
-        let p5 : Part b 0 five = part-left five (i32Bytes (m .highest)) refl p in
+        let p6 : Part b 0 six = part-left six (u16Bytes (m .first)) refl p in
+        let p5 : Part b 0 five = part-left five (i32Bytes (m .highest)) refl p6 in
         let p4 : Part b 0 four = part-left four (i32Bytes (m .lowest)) refl p5 in
         let p3 : Part b 0 three = part-left three (u16Bytes (dayOffset (m .days))) refl p4 in
-        let p2 : Part b 0 two = part-left two (u16Bytes 16) refl p3 in
+        let p2 : Part b 0 two = part-left two (u16Bytes 18) refl p3 in
         record {
           days = part-left (u16Bytes (m .days)) (u16Bytes cuts) (u16-length (m .days)) p2;
           cuts = part-right (u16Bytes (m .days)) (u16Bytes cuts) (u16-length (m .days)) p2;
-          daysOffset = part-right two (u16Bytes 16) refl p3;
+          daysOffset = part-right two (u16Bytes 18) refl p3;
           cutsOffset = part-right three (u16Bytes (dayOffset (m .days))) refl p4;
           lowest = part-right four (i32Bytes (m .lowest)) refl p5;
-          highest = part-right five (i32Bytes (m .highest)) refl p;
+          highest = part-right five (i32Bytes (m .highest)) refl p6;
+          first = part-right six (u16Bytes (m .first)) refl p;
         }
 
     pub header-part : Header b m cuts → Part b 0 (header m cuts)
     unfolding header u16Bytes u32Bytes i32Bytes
     header-part h =
-        part-both five (i32Bytes (m .highest)) refl
+        part-both six (u16Bytes (m .first)) refl
+        (part-both five (i32Bytes (m .highest)) refl
         (part-both four (i32Bytes (m .lowest)) refl
         (part-both three (u16Bytes (dayOffset (m .days))) refl
-        (part-both two (u16Bytes 16) refl (part-both (u16Bytes (m .days)) (u16Bytes cuts) (u16-length (m .days)) (h .days) (h .cuts)) (h .daysOffset))
+        (part-both two (u16Bytes 18) refl (part-both (u16Bytes (m .days)) (u16Bytes cuts) (u16-length (m .days)) (h .days) (h .cuts)) (h .daysOffset))
         (h .cutsOffset))
         (h .lowest))
-        (h .highest)
+        (h .highest))
+        (h .first)
 
 -- a day and a cut have three fields, the third 4 bytes in
 module _ (xs ys zs : List ℕ) (e : length xs ≡ 2) (f : length ys ≡ 2) where

@@ -32,7 +32,7 @@ use Rattle.session_cuts.specs.Numbered.{numbered}
 use Rattle.session_cuts.specs.Sheet.{cutOn, kindOf, dayOf, valueOf}
 use Rattle.session_cutting.specs.Cutting.{malformed}
 use Rattle.session_cutting.proofs.Laws.{day-formed, total-formed}
-use Rattle.file_format.specs.Format.{dayOffset, dayCount, cutCount, totalFloorAt, totalCeilingAt, floorAt, ceilingAt, riseAt, cutAt, known, profileIn, cutsIn, file}
+use Rattle.file_format.specs.Format.{dayOffset, dayCount, cutCount, totalFloorAt, totalCeilingAt, floorAt, ceilingAt, riseAt, cutAt, known, numbersIn, profileIn, cutsIn, file}
 use Rattle.file_format.specs.Reading.{misplaced}
 use Rattle.file_format.specs.Writing as Writing
 use Rattle.file_format.proofs.Parts.{Laid, laid, length-file, Header, header-fields, Day, day-fields, cut-fields}
@@ -137,7 +137,7 @@ module _ (p : Profile) (cs : List Cut) (w : Passed p cs) where
         some = rw days (entry .sized .some);
         few = rw days (entry .sized .few);
         fewCuts = rw cuts (w .fewCuts);
-        days = u16-read 16 (head .daysOffset);
+        days = u16-read 18 (head .daysOffset);
         cuts = u16-read (dayOffset (p .days)) (head .cutsOffset) ∙ rw days refl;
         whole = length-file p cs ∙ rw (days, cuts) refl;
         last = rw days last;
@@ -152,7 +152,8 @@ module _ (p : Profile) (cs : List Cut) (w : Passed p cs) where
       let rises : listOf (riseAt b) (p .days - 1) ≡ p .rises = listOf-all (riseAt b) (pos 0) (p .days - 1) (p .rises) (entry .sized .rises) rise in
       let lowest : totalFloorAt b ≡ p .lowest = i32-read (p .lowest) (total-fits (p .lowest) (entry .lowest)) (head .lowest) in
       let highest : totalCeilingAt b ≡ p .highest = i32-read (p .highest) (total-fits (p .highest) (entry .highest)) (head .highest) in
-      rw (days, floors, ceilings, rises, lowest, highest) refl
+      let first : numbersIn b .first ≡ p .first = u16-read (p .first) (head .first) in
+      rw (days, first, floors, ceilings, rises, lowest, highest) refl
 
   pub cuts-again : cutsIn (file p cs) ≡ cs
   unfolding b cutsIn

@@ -20,7 +20,7 @@ pub record Taken (b : List ℕ) : Type 0 where
   pub some : 0 < dayCount b
   pub few : dayCount b ≤ 512
   pub fewCuts : cutCount b ≤ 512
-  pub days : daysOffset b ≡ 16
+  pub days : daysOffset b ≡ 18
   pub cuts : cutsOffset b ≡ dayOffset (dayCount b)
   pub whole : length b ≡ fileLength (dayCount b) (cutCount b)
   pub last : u16At b (dayOffset (dayCount b - 1) + 4) ≡ 0
@@ -35,9 +35,9 @@ counted b e =
     (omega (arith, apart), ltb-false _ _ (days .1), ltb-false _ _ (counts .1))
 
 -- what the second 11 lets pass
-pub laid : (b : List ℕ) → badLayout b ≡ false → (daysOffset b ≡ 16) × (cutsOffset b ≡ dayOffset (dayCount b)) × (length b ≡ fileLength (dayCount b) (cutCount b))
+pub laid : (b : List ℕ) → badLayout b ≡ false → (daysOffset b ≡ 18) × (cutsOffset b ≡ dayOffset (dayCount b)) × (length b ≡ fileLength (dayCount b) (cutCount b))
 laid b e =
-    let starts : Bool = eqb (daysOffset b) 16 in
+    let starts : Bool = eqb (daysOffset b) 18 in
     let ends : Bool = eqb (cutsOffset b) (dayOffset (dayCount b)) in
     let long : Bool = eqb (length b) (fileLength (dayCount b) (cutCount b)) in
     let layout = and-eq-true-iff (starts && ends) long .0 (not-false _ e) in
@@ -74,11 +74,11 @@ not-refused b t =
     let bad : ℕ = firstWhere (λ j. badCut (cutAt b j)) (cutCount b) in
     let none : cutCount b ≡ bad = first-only (record { most = le-refl (cutCount b); before = t .good; here = λ h. absurd (omega arith) }) in
     rw (
-      le-ltb (length b) 16 (omega (arith, t .whole)),
+      le-ltb (length b) 18 (omega (arith, t .whole)),
       ne-eqb (dayCount b) 0 (λ z. omega (arith, t .some)),
       le-ltb 512 (dayCount b) (t .few),
       le-ltb 512 (cutCount b) (t .fewCuts),
-      eq-eqb (daysOffset b) 16 (t .days),
+      eq-eqb (daysOffset b) 18 (t .days),
       eq-eqb (cutsOffset b) (dayOffset (dayCount b)) (t .cuts),
       eq-eqb (length b) (fileLength (dayCount b) (cutCount b)) (t .whole),
       zero-field b (dayOffset (dayCount b - 1) + 4),

@@ -63,6 +63,7 @@ module _ (b : List ℕ) (bytes : Bytes b) (t : Taken b) where
         cutsOffset = rw (t .cuts) at (u16-part bytes 6);
         lowest = i32-part bytes 8;
         highest = i32-part bytes 12;
+        first = u16-part bytes 16;
       }
 
   -- the rise of day k as it is written, the last one too

@@ -1,4 +1,4 @@
--- Document 01: the profile file. A header of 16 bytes, each day 6 bytes, each cut 8 bytes, and no byte after.
+-- Document 01: the profile file. A header of 16 bytes, 2 bytes for document 02's first counted day, each day 6 bytes, each cut 8 bytes, and no byte after.
 use mathlib.Core.List.{List, _++_}
 use Prim.Native.Nat.{ℕ, _+_, _-_, _*_}
 use lib.IntN.{ℤ, pos}
@@ -18,9 +18,12 @@ use Rattle.session_cuts.specs.declared.Numbered.the-variants.{Known, Unknown}
 use Rattle.session_cuts.specs.Numbered.{numbered}
 use Rattle.session_cuts.specs.Sheet.{cutOn, kindOf, dayOf, valueOf}
 
--- how many bytes the header, a day and a cut take
+-- how many bytes the header, the first counted day, a day and a cut take
 abbrev pub headerLength : ℕ
 headerLength = 16
+
+abbrev pub firstDayLength : ℕ
+firstDayLength = 2
 
 abbrev pub dayLength : ℕ
 dayLength = 6
@@ -28,9 +31,12 @@ dayLength = 6
 abbrev pub cutLength : ℕ
 cutLength = 8
 
--- where day k begins, where the cuts of n days begin, where cut j of them begins
+-- where the days begin, where day k begins, where the cuts of n days begin, where cut j of them begins
+abbrev pub daysBegin : ℕ
+daysBegin = headerLength + firstDayLength
+
 abbrev pub dayOffset : ℕ → ℕ
-dayOffset k = headerLength + k * dayLength
+dayOffset k = daysBegin + k * dayLength
 
 abbrev pub cutOffset : ℕ → ℕ → ℕ
 cutOffset n j = dayOffset n + j * cutLength
@@ -63,6 +69,10 @@ totalFloorAt b = i32At b 8
 abbrev pub totalCeilingAt : List ℕ → ℤ
 totalCeilingAt b = i32At b 12
 
+-- the first counted day stands behind the header
+abbrev pub firstDayIn : List ℕ → ℕ
+firstDayIn b = u16At b headerLength
+
 -- day k: its floor, its ceiling, and the rise to the next day
 abbrev pub floorAt : List ℕ → ℕ → ℤ
 floorAt b k = i16At b (dayOffset k)
@@ -88,7 +98,7 @@ known Unknown = DayFloor 0 (pos 0)
 
 -- a profile's numbers, beside its lists
 abbrev pub numbersIn : List ℕ → Numbers
-numbersIn b = numbersWith (dayCount b) (totalFloorAt b) (totalCeilingAt b)
+numbersIn b = numbersWith (dayCount b) (firstDayIn b) (totalFloorAt b) (totalCeilingAt b)
 
 -- the profile and the cuts of a file that the reader takes; the last rise is not handed on
 unfoldable pub profileIn : List ℕ → Profile
@@ -99,10 +109,11 @@ cutsIn b = listOf (λ j. known (cutAt b j)) (cutCount b)
 
 -- ---- the bytes of a profile and its cuts
 
--- of a profile's numbers and how many cuts there are
+-- of a profile's numbers and how many cuts there are: the header, and the first counted day behind it
 unfoldable pub header : Numbers → ℕ → List ℕ
 header m cuts =
-    u16Bytes (m .days) ++ u16Bytes cuts ++ u16Bytes headerLength ++ u16Bytes (dayOffset (m .days)) ++ i32Bytes (m .lowest) ++ i32Bytes (m .highest)
+    u16Bytes (m .days) ++ u16Bytes cuts ++ u16Bytes daysBegin ++ u16Bytes (dayOffset (m .days)) ++ i32Bytes (m .lowest) ++ i32Bytes (m .highest)
+    ++ u16Bytes (m .first)
 
 -- floor, ceiling, rise to the next day
 unfoldable pub dayBytes : ℤ → ℤ → ℤ → List ℕ

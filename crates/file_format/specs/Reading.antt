@@ -11,11 +11,11 @@ use Rattle.session_cuts.specs.declared.Cut.{Cut}
 use Rattle.session_cuts.specs.declared.Cut.the-variants.{DayFloor, DayCeiling, TotalFloor, TotalCeiling}
 use Rattle.session_cuts.specs.declared.Numbered.{Numbered}
 use Rattle.session_cuts.specs.declared.Numbered.the-variants.{Known, Unknown}
-use Rattle.file_format.specs.Format.{headerLength, dayOffset, fileLength, dayCount, cutCount, daysOffset, cutsOffset, riseAt, cutAt}
+use Rattle.file_format.specs.Format.{daysBegin, dayOffset, fileLength, dayCount, cutCount, daysOffset, cutsOffset, riseAt, cutAt}
 
--- 11: under 16 bytes
+-- 11: under 18 bytes
 abbrev pub noHeader : List ℕ → Bool
-noHeader b = ltb (length b) headerLength
+noHeader b = ltb (length b) daysBegin
 
 -- 1: the day count is 0 or over 512; more than 512 cuts
 abbrev pub badCounts : List ℕ → Bool
@@ -24,7 +24,7 @@ badCounts b = eqb (dayCount b) 0 || ltb mostDays (dayCount b) || ltb mostCuts (c
 -- 11: an offset or the length is wrong
 abbrev pub badLayout : List ℕ → Bool
 badLayout b =
-    not (eqb (daysOffset b) headerLength && eqb (cutsOffset b) (dayOffset (dayCount b)) && eqb (length b) (fileLength (dayCount b) (cutCount b)))
+    not (eqb (daysOffset b) daysBegin && eqb (cutsOffset b) (dayOffset (dayCount b)) && eqb (length b) (fileLength (dayCount b) (cutCount b)))
 
 -- a total cut whose day is not 0
 abbrev pub misplaced : Cut → Bool

@@ -17,7 +17,7 @@ use Rattle.file_format.specs.Format.{fileLength}
 abbrev pub cutsRefusal : ℕ → List Cut → ℕ
 cutsRefusal n cs = firstNonzero (λ j. malformed n (cutOn cs j)) (length cs)
 
--- 1 for the cuts, then 1, 2, 3, 4, 5, 6 as opening does, then the cuts: the first refusal of writing before the output's length that applies, or 0
+-- 1 for the cuts, then 1, 2, 3, 4, 5, 6, 13 as opening does, then the cuts: the first refusal of writing before the output's length that applies, or 0
 unfoldable pub earlyWriting : Profile → List Cut → ℕ
 earlyWriting p cs =
     cond (ltb mostCuts (length cs)) 1

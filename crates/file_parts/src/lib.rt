@@ -9,12 +9,13 @@ ghost use Rattle.theory_lists.specs.Rows.{rows};
 ghost use Rattle.base_codes.specs.Code.{on};
 ghost use Rattle.base_little_endian.specs.Fields.{u16Bytes, i32Bytes};
 ghost use Rattle.session_cuts.specs.Sheet.{blank, dayOf};
-ghost use Rattle.file_format.specs.Format.{headerLength, dayLength, cutLength, dayOffset, header, dayBytes, cutBytes};
+ghost use Rattle.file_format.specs.Format.{daysBegin, dayLength, cutLength, dayOffset, header, dayBytes, cutBytes};
 use base_little_endian::put_i16;
 use base_little_endian::put_i32;
 use base_little_endian::put_u16;
 use file_format::CUT_BYTES;
-use file_format::HEADER_BYTES;
+use file_format::DAYS_BEGIN;
+use file_format::FIRST_DAY_AT;
 use file_format::day_offset;
 use limits::MOST_CUTS;
 use session::Numbers;
@@ -22,13 +23,15 @@ use session_cuts::Cut;
 use session_cuts::Entry;
 
 // Where the days begin, as the header has it.
-const DAYS_OFFSET: u16 = HEADER_BYTES as u16;
+const DAYS_OFFSET: u16 = DAYS_BEGIN as u16;
 
+// The header, and the first counted day behind it.
 pub fn put_header(numbers: Numbers, cuts: usize, out: &mut [u8])
-    requires { ⌜ (numbers .days ≤ mostDays) × (cuts ≤ mostCuts) × (headerLength ≤ length (now out)) ⌝ }
+    requires { ⌜ (numbers .days ≤ mostDays) × (numbers .first < numbers .days) × (cuts ≤ mostCuts) × (daysBegin ≤ length (now out)) ⌝ }
     ensures { λ r. ⌜ now (out .exit) ≡ sets (now (out .entry)) 0 (header numbers cuts) ⌝ }
 {
     let days = numbers.days;
+    let first = numbers.first;
     let lowest = numbers.lowest;
     let highest = numbers.highest;
     put_u16(out, 0, days as u16);
@@ -37,6 +40,7 @@ pub fn put_header(numbers: Numbers, cuts: usize, out: &mut [u8])
     put_u16(out, 6, day_offset(days) as u16);
     put_i32(out, 8, lowest);
     put_i32(out, 12, highest);
+    put_u16(out, FIRST_DAY_AT, first as u16);
 }
 
 fn put_day(out: &mut [u8], at: usize, floor: i16, ceiling: i16, rise: i16)
@@ -60,7 +64,7 @@ fn rise_on(rises: &[i16], k: usize) -> i16
 
 pub fn put_days(floors: &[i16], ceilings: &[i16], rises: &[i16], days: usize, out: &mut [u8])
     requires { ⌜ (days ≡ length (now floors)) × (days ≡ length (now ceilings)) × (days ≤ mostDays) × (dayOffset days ≤ length (now out)) ⌝ }
-    ensures { λ r. ⌜ now (out .exit) ≡ sets (now (out .entry)) headerLength (rows (λ k. dayBytes (on (now (floors .entry)) k) (on (now (ceilings .entry)) k) (on (now (rises .entry)) k)) days) ⌝ }
+    ensures { λ r. ⌜ now (out .exit) ≡ sets (now (out .entry)) daysBegin (rows (λ k. dayBytes (on (now (floors .entry)) k) (on (now (ceilings .entry)) k) (on (now (rises .entry)) k)) days) ⌝ }
 {
     let mut k = 0;
     while k < days {

@@ -1,4 +1,4 @@
--- A file longer than every file that the reader takes is refused for its header, so that its first 7,185 bytes tell what is printed.
+-- A file longer than every file that the reader takes is refused for its header, so that its first 7,187 bytes tell what is printed.
 use mathlib.Core.Path.{_≡_, refl, ap, sym, _∙_}
 use mathlib.Core.Bool.{Bool, true, false, cond, and-false}
 use mathlib.Core.List.{List}
@@ -15,9 +15,9 @@ use Rattle.file_printing.specs.Printing.{printed, refusedLine, PrintedLo
 use Rattle.file_printing.proofs.Lines.{read-refused}
 
 -- 1 for the counts, else 11 for the length
-long-refused : (b : List ℕ) → 7184 < length b → earlyReading b ≡ cond (badCounts b) 1 11
+long-refused : (b : List ℕ) → 7186 < length b → earlyReading b ≡ cond (badCounts b) 1 11
 unfolding earlyReading
-long-refused b h = rw (le-ltb (length b) 16 (omega arith)) (go (badCounts b) refl)
+long-refused b h = rw (le-ltb (length b) 18 (omega arith)) (go (badCounts b) refl)
   where
     go : (bad : Bool) → badCounts b ≡ bad → _≡_ {A = ℕ} (cond bad 1 (cond (badLayout b) 11 (cond (badFields b) 12 0))) (cond bad 1 11)
     go true e = refl
@@ -35,7 +35,7 @@ field-same : (b : List ℕ) (n i : ℕ) → i + 1 < n → u16At (take n b) i ≡
 unfolding u16At
 field-same b n i h = rw (getD-take n b i 0 (omega arith), getD-take n b (i + 1) 0 h) refl
 
-long-printed : (b : List ℕ) → 7184 < length b → printed b ≡ refusedLine (cond (badCounts b) 1 11)
+long-printed : (b : List ℕ) → 7186 < length b → printed b ≡ refusedLine (cond (badCounts b) 1 11)
 long-printed b h =
     let e = long-refused b h in
     read-refused b (some-number (badCounts b) e) ∙ ap refusedLine e
@@ -43,6 +43,6 @@ long-printed b h =
 -- so many bytes of a longer file are enough
 pub printed-long : PrintedLong
 printed-long b h =
-    let few = length-take-le 7185 b h in
-    let same : badCounts (take 7185 b) ≡ badCounts b = rw (field-same b 7185 0 (omega arith), field-same b 7185 2 (omega arith)) refl in
-    long-printed (take 7185 b) (omega arith) ∙ ap (λ bad. refusedLine (cond bad 1 11)) same ∙ sym (long-printed b h)
+    let few = length-take-le 7187 b h in
+    let same : badCounts (take 7187 b) ≡ badCounts b = rw (field-same b 7187 0 (omega arith), field-same b 7187 2 (omega arith)) refl in
+    long-printed (take 7187 b) (omega arith) ∙ ap (λ bad. refusedLine (cond bad 1 11)) same ∙ sym (long-printed b h)

@@ -17,7 +17,7 @@ use Rattle.file_reading.specs.declared.ReadAnswer.{ReadAnswer}
 unfoldable pub sheetFrom : List ℕ → ℕ → ℕ → Sheet
 sheetFrom b from m = record { count = m; entries = written (λ j. record { cut = known (numberedAt b (from + j * cutLength)) }) m (replicate mostCuts blank) }
 
--- beside a refusal's number: no day, no cut, and 0 for both of the total's bounds
+-- beside a refusal's number: no day, no cut, and 0 for the first counted day and both of the total's bounds
 abbrev pub refusedRead : ℕ → ReadAnswer
 refusedRead number = record { refusal = number; numbers = noNumbers; sheet = record { count = 0; entries = replicate mostCuts blank } }
 

@@ -13,6 +13,7 @@ use file_checks::file_refusal;
 use file_checks::numbered_at;
 use file_days::store_days;
 use file_format::CUT_BYTES;
+use file_format::FIRST_DAY_AT;
 use file_format::day_offset;
 use limits::MOST_CUTS;
 use session::Numbers;
@@ -76,10 +77,12 @@ fn read_contents(bytes: &[u8], days: usize) -> ReadAnswer
     requires { ⌜ (days ≡ dayCount (now bytes)) × (fileLength days (cutCount (now bytes)) ≡ length (now bytes)) × (days ≤ mostDays) × (cutCount (now bytes) ≤ mostCuts) ⌝ }
     ensures { λ r. ⌜ r ≡ contents (now (bytes .entry)) ⌝ }
 {
+    let first = wide(u16_at(bytes, FIRST_DAY_AT));
     let lowest = i32_at(bytes, 8);
     let highest = i32_at(bytes, 12);
     let numbers = Numbers {
         days,
+        first,
         lowest,
         highest,
     };

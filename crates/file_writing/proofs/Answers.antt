@@ -45,7 +45,7 @@ pub record Stored (p : Profile) (s : Sheet) (from : ℕ) (l a b out : List ℕ) 
   pub place : from ≡ dayOffset (p .days)
   pub room : from + s .count * cutLength ≤ length l
   pub header-stored : a ≡ sets l 0 (header (Opening.numbersOf p) (s .count))
-  pub days-stored : b ≡ sets a 16 (rows (dayRow p) (p .days))
+  pub days-stored : b ≡ sets a 18 (rows (dayRow p) (p .days))
   pub cuts-stored : out ≡ sets b from (rows (λ j. cutBytes (getD (s .entries) j blank .cut)) (s .count))
 
 -- ---- refused

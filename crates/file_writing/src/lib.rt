@@ -57,7 +57,7 @@ fn refuse(number: u8) -> WriteAnswer
     }
 }
 
-// Writes a file: document 01's checks 1 to 6 as opening does, each cut in order as cutting does, then 2 where the output is too short.
+// Writes a file: document 01's checks 1 to 6 and 13 as opening does, each cut in order as cutting does, then 2 where the output is too short.
 pub fn write(
     numbers: Numbers,
     floors: &[i16],

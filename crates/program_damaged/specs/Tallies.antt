@@ -19,7 +19,8 @@ use Rattle.file_format.specs.Reading.{earlyReading}
 -- examples/too_warm.profile
 abbrev pub tooWarm : List ℕ
 tooWarm =
-    10 ∷ 0 ∷ 0 ∷ 0 ∷ 16 ∷ 0 ∷ 76 ∷ 0 ∷ 80 ∷ 70 ∷ 0 ∷ 0 ∷ 8 ∷ 82 ∷ 0 ∷ 0
+    10 ∷ 0 ∷ 0 ∷ 0 ∷ 18 ∷ 0 ∷ 78 ∷ 0 ∷ 80 ∷ 70 ∷ 0 ∷ 0 ∷ 8 ∷ 82 ∷ 0 ∷ 0
+    ∷ 0 ∷ 0
     ∷ 8 ∷ 7 ∷ 208 ∷ 7 ∷ 75 ∷ 0
     ∷ 8 ∷ 7 ∷ 208 ∷ 7 ∷ 75 ∷ 0
     ∷ 8 ∷ 7 ∷ 208 ∷ 7 ∷ 75 ∷ 0
@@ -92,47 +93,47 @@ two-parts b i m n p q = sum-parts (byteChanges b) i m n ∙ rw (p, q) refl
 
 -- ---- by computation; the changes part by part, which takes less memory
 
-pub doc01-truncated : truncations doc01 ≡ tally 0 0 50 0
+pub doc01-truncated : truncations doc01 ≡ tally 0 0 52 0
 unfolding doc01 tallySum tallied earlyReading u16At i16At numbered firstWhere
 doc01-truncated = refl
 
-doc01-header : changes doc01 0 16 ≡ tally 2040 509 1531 0
+doc01-header : changes doc01 0 18 ≡ tally 2550 509 1531 0
 unfolding doc01 tallySum tallied earlyReading u16At i16At numbered firstWhere
 doc01-header = refl
 
-doc01-days : changes doc01 16 18 ≡ tally 4080 0 0 510
+doc01-days : changes doc01 18 18 ≡ tally 4080 0 0 510
 unfolding doc01 tallySum tallied earlyReading u16At i16At numbered firstWhere
 doc01-days = refl
 
-doc01-cuts : changes doc01 34 16 ≡ tally 2556 0 0 1524
+doc01-cuts : changes doc01 36 16 ≡ tally 2556 0 0 1524
 unfolding doc01 tallySum tallied earlyReading u16At i16At numbered firstWhere
 doc01-cuts = refl
 
-pub doc01-changed : changes doc01 0 (length doc01) ≡ tally 8676 509 1531 2034
+pub doc01-changed : changes doc01 0 (length doc01) ≡ tally 9186 509 1531 2034
 unfolding doc01
-doc01-changed = two-parts doc01 0 34 16 (two-parts doc01 0 16 18 doc01-header doc01-days) doc01-cuts
+doc01-changed = two-parts doc01 0 36 16 (two-parts doc01 0 18 18 doc01-header doc01-days) doc01-cuts
 
-pub too-warm-truncated : truncations tooWarm ≡ tally 0 0 76 0
+pub too-warm-truncated : truncations tooWarm ≡ tally 0 0 78 0
 unfolding tallySum tallied earlyReading u16At i16At numbered firstWhere
 too-warm-truncated = refl
 
-too-warm-header : changes tooWarm 0 16 ≡ tally 2040 508 1532 0
+too-warm-header : changes tooWarm 0 18 ≡ tally 2550 508 1532 0
 unfolding tallySum tallied earlyReading u16At i16At numbered firstWhere
 too-warm-header = refl
 
 -- days 0 to 2, 3 to 5, 6 to 9
-too-warm-first : changes tooWarm 16 18 ≡ tally 4590 0 0 0
+too-warm-first : changes tooWarm 18 18 ≡ tally 4590 0 0 0
 unfolding tallySum tallied earlyReading u16At i16At numbered firstWhere
 too-warm-first = refl
 
-too-warm-next : changes tooWarm 34 18 ≡ tally 4590 0 0 0
+too-warm-next : changes tooWarm 36 18 ≡ tally 4590 0 0 0
 unfolding tallySum tallied earlyReading u16At i16At numbered firstWhere
 too-warm-next = refl
 
-too-warm-last : changes tooWarm 52 24 ≡ tally 5610 0 0 510
+too-warm-last : changes tooWarm 54 24 ≡ tally 5610 0 0 510
 unfolding tallySum tallied earlyReading u16At i16At numbered firstWhere
 too-warm-last = refl
 
-pub too-warm-changed : changes tooWarm 0 (length tooWarm) ≡ tally 16830 508 1532 510
+pub too-warm-changed : changes tooWarm 0 (length tooWarm) ≡ tally 17340 508 1532 510
 too-warm-changed =
-    two-parts tooWarm 0 52 24 (two-parts tooWarm 0 34 18 (two-parts tooWarm 0 16 18 too-warm-header too-warm-first) too-warm-next) too-warm-last
+    two-parts tooWarm 0 54 24 (two-parts tooWarm 0 36 18 (two-parts tooWarm 0 18 18 too-warm-header too-warm-first) too-warm-next) too-warm-last

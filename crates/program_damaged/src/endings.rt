@@ -5,7 +5,7 @@ ghost use Prim.Native.Nat.{_≤_};
 ghost use lib.ListN.{length};
 
 // Neither ranges nor a refusal.
-pub const OTHER: usize = 13;
+pub const OTHER: usize = 14;
 
 fn starts(text: &[u8], word: &[u8]) -> bool
     ensures { λ r. ⌜ (r ≡ true → length (now (word .entry)) ≤ length (now (text .entry))) ⌝ }
@@ -33,12 +33,12 @@ fn one_digit(byte: u8) -> usize {
 // The digit after a 1.
 fn second_digit(byte: u8) -> usize {
     match byte {
-        b'0'..=b'2' => (byte - b'0') as usize + 10,
+        b'0'..=b'3' => (byte - b'0') as usize + 10,
         _ => OTHER,
     }
 }
 
-// The number from 1 to 12 that stands before a line feed.
+// The number from 1 to 13 that stands before a line feed.
 fn number(line: &[u8]) -> usize {
     if line.len() == 2 {
         if line[1] == b'\n' {
@@ -53,7 +53,7 @@ fn number(line: &[u8]) -> usize {
     OTHER
 }
 
-// 0 for ranges, N for `refused N` with N from 1 to 12.
+// 0 for ranges, N for `refused N` with N from 1 to 13.
 pub(crate) fn ending(text: &[u8]) -> usize {
     if starts(text, b"total ") {
         return 0;

@@ -37,10 +37,10 @@ fn bad_cuts(file: &[u8], from: usize, count: usize) -> bool
     false
 }
 
-// 11 under 16 bytes, 1, 11 for the offsets and the length, 12; 0 for none.
+// 11 under 18 bytes, 1, 11 for the offsets and the length, 12; 0 for none.
 pub(crate) fn refusal(file: &[u8]) -> usize {
     let length = file.len();
-    if length < 16 {
+    if length < 18 {
         return 11;
     }
     let days = field(file, 0);
@@ -48,11 +48,11 @@ pub(crate) fn refusal(file: &[u8]) -> usize {
     if (days == 0) | (512 < days) | (512 < cuts) {
         return 1;
     }
-    let end = 16 + 6 * days;
+    let end = 18 + 6 * days;
     if length != end + 8 * cuts {
         return 11;
     }
-    if (field(file, 4) != 16) | (field(file, 6) != end) {
+    if (field(file, 4) != 18) | (field(file, 6) != end) {
         return 11;
     }
     if (field(file, end - 2) != 0) | bad_cuts(file, end, cuts) {

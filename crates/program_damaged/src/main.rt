@@ -8,9 +8,10 @@ use tally::Tally;
 ghost use Prim.Native.Nat.{_≤_, _<_};
 ghost use lib.ListN.{length};
 
-// Document 01's file, examples/doc01.profile: header, days, cuts.
-const DOC01: [u8; 50] = *b"\
-    \x03\x00\x02\x00\x10\x00\x22\x00\x0A\x00\x00\x00\x0C\x00\x00\x00\
+// Document 01's file, examples/doc01.profile: header, first counted day, days, cuts.
+const DOC01: [u8; 52] = *b"\
+    \x03\x00\x02\x00\x12\x00\x24\x00\x0A\x00\x00\x00\x0C\x00\x00\x00\
+    \x00\x00\
     \x02\x00\x06\x00\x00\x00\
     \x04\x00\x07\x00\x00\x00\
     \x04\x00\x07\x00\x00\x00\
@@ -18,8 +19,9 @@ const DOC01: [u8; 50] = *b"\
     \x03\x00\x00\x00\x0B\x00\x00\x00";
 
 // examples/too_warm.profile.
-const TOO_WARM: [u8; 76] = *b"\
-    \x0A\x00\x00\x00\x10\x00\x4C\x00\x50\x46\x00\x00\x08\x52\x00\x00\
+const TOO_WARM: [u8; 78] = *b"\
+    \x0A\x00\x00\x00\x12\x00\x4E\x00\x50\x46\x00\x00\x08\x52\x00\x00\
+    \x00\x00\
     \x08\x07\xD0\x07\x4B\x00\
     \x08\x07\xD0\x07\x4B\x00\
     \x08\x07\xD0\x07\x4B\x00\
@@ -43,10 +45,10 @@ fn truncated(file: &[u8]) -> Tally {
 
 // The file with another byte at place i.
 fn with_byte(t: Tally, file: &[u8], i: usize, byte: u8) -> Tally
-    requires { ⌜ (i < length (now file)) × (length (now file) ≤ 76) ⌝ }
+    requires { ⌜ (i < length (now file)) × (length (now file) ≤ 78) ⌝ }
 {
     let n = file.len();
-    let mut bytes = [0u8; 76];
+    let mut bytes = [0u8; 78];
     base_text::put(&mut bytes, 0, file);
     bytes[i] = byte;
     tally::noted(t, &bytes[..n])
@@ -54,7 +56,7 @@ fn with_byte(t: Tally, file: &[u8], i: usize, byte: u8) -> Tally
 
 // Byte i changed to each of its other values.
 fn byte_changed(t: Tally, file: &[u8], i: usize) -> Tally
-    requires { ⌜ (i < length (now file)) × (length (now file) ≤ 76) ⌝ }
+    requires { ⌜ (i < length (now file)) × (length (now file) ≤ 78) ⌝ }
 {
     let byte = file[i];
     let mut after = t;
@@ -67,7 +69,7 @@ fn byte_changed(t: Tally, file: &[u8], i: usize) -> Tally
 }
 
 fn changed(file: &[u8]) -> Tally
-    requires { ⌜ length (now file) ≤ 76 ⌝ }
+    requires { ⌜ length (now file) ≤ 78 ⌝ }
 {
     let mut t = tally::none();
     let mut i = 0;

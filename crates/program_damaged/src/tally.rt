@@ -7,18 +7,18 @@ ghost use Prim.Native.Nat.{_≤_};
 // How many files; how often the reader answers each number, the text, and the writer of what was read, 0 for none; how many differences.
 pub(crate) struct Tally {
     pub files: usize,
-    pub read: [usize; 13],
-    pub ended: [usize; 13],
-    pub written: [usize; 13],
+    pub read: [usize; 14],
+    pub ended: [usize; 14],
+    pub written: [usize; 14],
     pub differences: usize,
 }
 
 pub(crate) fn none() -> Tally {
     Tally {
         files: 0,
-        read: [0; 13],
-        ended: [0; 13],
-        written: [0; 13],
+        read: [0; 14],
+        ended: [0; 14],
+        written: [0; 14],
         differences: 0,
     }
 }
@@ -30,9 +30,9 @@ fn counted(x: bool) -> usize
 }
 
 // One more of a number.
-fn more(counts: [usize; 13], number: usize) -> [usize; 13] {
+fn more(counts: [usize; 14], number: usize) -> [usize; 14] {
     let mut after = counts;
-    if number < 13 {
+    if number < 14 {
         after[number] = std::num::wrapping_add_usize(after[number], 1);
     }
     after
@@ -95,9 +95,9 @@ fn print_refused(number: usize, times: usize) {
 }
 
 // The refusals that occur.
-fn print_refusals(counts: &[usize; 13]) {
+fn print_refusals(counts: &[usize; 14]) {
     let mut k = 1;
-    while k < 13 {
+    while k < 14 {
         print_refused(k, counts[k]);
         k += 1;
     }

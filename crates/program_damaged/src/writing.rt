@@ -3,11 +3,11 @@ use crate::endings::OTHER;
 use file_reading::ReadAnswer;
 
 // Whether the file's bytes, and no more, were written.
-fn same(written: &[u8; 76], length: usize, file: &[u8]) -> bool {
+fn same(written: &[u8; 78], length: usize, file: &[u8]) -> bool {
     if length != file.len() {
         return false;
     }
-    if 76 < length {
+    if 78 < length {
         return false;
     }
     let mut i = 0;
@@ -20,7 +20,7 @@ fn same(written: &[u8; 76], length: usize, file: &[u8]) -> bool {
     true
 }
 
-// 0 where the file is written back byte for byte, N from 1 to 12 where the writer refuses; OTHER where it writes something else, or nothing was read.
+// 0 where the file is written back byte for byte, N from 1 to 13 where the writer refuses; OTHER where it writes something else, or nothing was read.
 pub(crate) fn back(
     file: &[u8],
     read: ReadAnswer,
@@ -41,7 +41,7 @@ pub(crate) fn back(
     let least: &[i16] = rises;
     let steps = days - 1;
     let sheet = read.sheet;
-    let mut out = [0u8; 76];
+    let mut out = [0u8; 78];
     let answer = file_writing::write(
         numbers,
         &low[..days],

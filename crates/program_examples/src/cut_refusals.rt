@@ -1,6 +1,7 @@
 // One line for each bound and each refusal of a cut of document 01's profile A, and for the order of the checks.
 use crate::line;
 use crate::open;
+use session::Numbers;
 use session::Session;
 use session_cuts::Cut;
 use session_cutting::AfterCut;
@@ -22,7 +23,13 @@ pub(crate) fn profile_a() -> Session
     let floors = [2i16, 4, 4];
     let ceilings = [6i16, 7, 7];
     let rises = [0i16, 0];
-    let o = open(DAYS, &floors, &ceilings, &rises, 10, 12);
+    let numbers = Numbers {
+        days: DAYS,
+        first: 0,
+        lowest: 10,
+        highest: 12,
+    };
+    let o = open(numbers, &floors, &ceilings, &rises);
     o.session
 }
 

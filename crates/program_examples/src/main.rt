@@ -1,5 +1,7 @@
-// What opening, a cut, writing a schedule and inspecting one answer at the bounds of an entry: document 01's examples that are run and not proved.
+// What opening, a cut, writing a schedule and inspecting one answer at the bounds of an entry, and for profiles with filling days: the documents' examples that
+// are run and not proved.
 mod cut_refusals;
+mod filling_days;
 mod refusals;
 mod schedule_refusals;
 
@@ -8,21 +10,9 @@ use session::Opened;
 use session::Session;
 ghost use Rattle.session.specs.Showing.{SessionInBounds};
 
-pub(crate) fn open(
-    days: usize,
-    floors: &[i16],
-    ceilings: &[i16],
-    rises: &[i16],
-    lowest: i32,
-    highest: i32,
-) -> Opened
+pub(crate) fn open(numbers: Numbers, floors: &[i16], ceilings: &[i16], rises: &[i16]) -> Opened
     ensures { λ r. ⌜ SessionInBounds (r .session) ⌝ }
 {
-    let numbers = Numbers {
-        days,
-        lowest,
-        highest,
-    };
     Session::open(numbers, floors, ceilings, rises)
 }
 
@@ -39,6 +29,8 @@ pub(crate) fn line(text: &[u8], refusal: u8) {
 
 fn main() {
     refusals::print();
+    filling_days::print_profiles();
     cut_refusals::print();
     schedule_refusals::print();
+    filling_days::print_schedules();
 }

@@ -1,9 +1,11 @@
 // One line for each bound of an entry and each refusal of opening.
 use crate::line;
 use crate::open;
+use session::Numbers;
 ghost use Prim.Native.Nat.{_≤_, max};
 ghost use lib.ListN.{length};
 
+// Every day counts.
 fn refusal(
     days: usize,
     floors: &[i16],
@@ -12,7 +14,13 @@ fn refusal(
     lowest: i32,
     highest: i32,
 ) -> u8 {
-    let o = open(days, floors, ceilings, rises, lowest, highest);
+    let numbers = Numbers {
+        days,
+        first: 0,
+        lowest,
+        highest,
+    };
+    let o = open(numbers, floors, ceilings, rises);
     o.refusal
 }
 
@@ -122,31 +130,35 @@ fn total(first: bool, x: i32, y: i32) -> i32 {
     if first { x } else { y }
 }
 
-// Two days from 0 to 5 with each cause of a refusal from `first` on.
-fn causes_from(first: u8) -> u8 {
-    let floors = [either(first <= 3, -1001, 0), either(first <= 6, 6, 0)];
+// Two days from 0 to 5 with each cause of a refusal from a place of the order on.
+fn causes_from(place: u8) -> u8 {
+    let floors = [either(place <= 3, -1001, 0), either(place <= 6, 6, 0)];
     let ceilings = [5i16, 5];
-    let rises = [either(first <= 4, 2001, either(first <= 8, 2000, 0)), 0];
-    let lowest = total(first <= 5, -512001, -512000);
-    let few = count(first <= 2, 2, 1);
-    refusal(
-        count(first <= 1, 513, 2),
-        &floors,
-        &ceilings,
-        &rises[..few],
-        lowest,
-        2048000,
-    )
+    let rises = [either(place <= 4, 2001, either(place <= 8, 2000, 0)), 0];
+    let few = count(place <= 2, 2, 1);
+    let numbers = Numbers {
+        days: count(place <= 1, 513, 2),
+        first: count(place <= 7, 2, 1),
+        lowest: total(place <= 5, -512001, -512000),
+        highest: 2048000,
+    };
+    let o = open(numbers, &floors, &ceilings, &rises[..few]);
+    o.refusal
 }
 
-// Opening has no cause 7, and no cause from 9 on.
+// The cause at a place of the order: opening has no cause 7, and 13 in its place.
+fn cause_at(place: u8) -> u8 {
+    if place == 7 { 13 } else { place }
+}
+
+// No cause comes after 8.
 fn order() {
-    let mut first = 1;
-    while first < 10 {
+    let mut place = 1;
+    while place < 10 {
         io::write_all(1, b"causes from ");
-        io::print_decimal(1, first as u64);
-        line(b" on: ", causes_from(first));
-        first += 1;
+        io::print_decimal(1, cause_at(place) as u64);
+        line(b" on: ", causes_from(place));
+        place += 1;
     }
 }
 

@@ -12,7 +12,7 @@ ghost use Rattle.session.specs.Showing.{SessionInBounds};
 
 // ---- for a day
 
-fn on_day(session: Session, day: usize, value: i32, room: usize) -> u8
+pub(crate) fn on_day(session: Session, day: usize, value: i32, room: usize) -> u8
     requires { ⌜ SessionInBounds session × (room ≤ 4) ⌝ }
 {
     let mut list = [0i16; 4];
@@ -77,7 +77,7 @@ fn day_order() {
 
 // ---- for the total
 
-fn with_total(session: Session, value: i32, room: usize) -> u8
+pub(crate) fn with_total(session: Session, value: i32, room: usize) -> u8
     requires { ⌜ SessionInBounds session × (room ≤ 4) ⌝ }
 {
     let mut list = [0i16; 4];
@@ -147,7 +147,7 @@ fn print_answer(answer: Inspection) {
     }
 }
 
-fn inspected(text: &[u8], session: Session, list: &[i16])
+pub(crate) fn inspected(text: &[u8], session: Session, list: &[i16])
     requires { ⌜ SessionInBounds session ⌝ }
 {
     io::write_all(1, text);

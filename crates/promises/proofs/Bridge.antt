@@ -10,12 +10,13 @@ use lib.Signed.{_≤ℤ_}
 use Rattle.limits.specs.Limits.{lowestPoint, lowestRise, lowestTotal}
 use Rattle.theory_lists.specs.ListOf.{listOf, length-listOf, get-listOf}
 use Rattle.theory_lists.specs.Sum.{at}
-use Rattle.theory_chains.specs.Sum.{sum, all}
+use Rattle.theory_chains.specs.Sum.{sum}
+use Rattle.theory_method.specs.Counted.{counted}
 use Rattle.base_codes.specs.Code.{code, decoded, on}
 use Rattle.base_codes.proofs.Offset.{Less, less-le, le-less, less-order, less-shift, less-same, less-add}
 use Rattle.base_codes.proofs.Laws.{point-less, total-less, code-less, decoded-less}
 use Rattle.theory_chains.specs.Spans as Codes
-use Rattle.theory_method.specs.Filter.{box, held}
+use Rattle.theory_method.specs.Filter.{box, spare, held}
 use Rattle.theory_method.specs.Levels.{Levels}
 use Rattle.session.specs.Profile.{Profile, Schedule, Spans, total}
 use Rattle.session.specs.Opening.{boxIn, codes}
@@ -26,12 +27,14 @@ use Rattle.base_codes.proofs.Order.{≤ℤ-trans}
 use Rattle.session.proofs.Entered.{Entered, floor-less, ceiling-less, rise-less-at, lowest-less, highest-less}
 
 -- a total of n days, as it is held
-pub held-less : (x : List ℤ) (n : ℕ) (c : ℕ → ℕ) → length x ≡ n → n ≤ 512 → ((i : ℕ) → i < n → Less (on x i) (c i) 1000) → Less (total x) (held n c) 512000
-held-less x n c e few h =
-    let whole : Less (total x) (sum all (length x) c) (length x * 1000) = Lists.total-less x c 1000 (λ i l. h i (omega arith)) in
-    let wide : Less (total x) (sum all n c + 1000 * (512 - n)) (n * 1000 + 1000 * (512 - n)) =
-    less-shift (total x) (sum all n c) (n * 1000) (1000 * (512 - n)) (rw e at whole) in
-    let all-days : n * 1000 + 1000 * (512 - n) ≡ 512000 = omega arith in
+pub held-less : (x : List ℤ) (n first : ℕ) (c : ℕ → ℕ) → length x ≡ n → n ≤ 512 → ((i : ℕ) → i < n → Less (on x i) (c i) 1000)
+    → Less (total first x) (held n first c) 512000
+unfolding spare
+held-less x n first c e few h =
+    let rest : ℕ = 1000 * (512 - (n - first)) in
+    let wide : Less (total first x) (sum (counted first n) n c + rest) ((n - first) * 1000 + rest) =
+    less-shift (total first x) (sum (counted first n) n c) ((n - first) * 1000) rest (Lists.total-less first n x c 1000 e h) in
+    let all-days : (n - first) * 1000 + rest ≡ 512000 = omega arith in
     rw all-days at wide
 
 -- lists of codes stand for a profile's points and rises, and numbers for its total's bounds
@@ -46,8 +49,8 @@ pub record Coding (p : Profile) (fs cs rs : List ℕ) (L U : ℕ) : Type 0 where
 -- a list of points and the levels that stand for them are schedules together
 module _ {p : Profile} {fs cs rs : List ℕ} {L U : ℕ} (g : Coding p fs cs rs L U)
     (x : List ℤ) (whole : length x ≡ p .days) (c : ℕ → ℕ) (same : (i : ℕ) → i < p .days → Less (on x i) (c i) 1000) where
-  sum-less : Less (total x) (held (p .days) c) 512000
-  sum-less = held-less x (p .days) c whole (g .few) same
+  sum-less : Less (total (p .first) x) (held (p .days) (p .first) c) 512000
+  sum-less = held-less x (p .days) (p .first) c whole (g .few) same
 
   floor-same : (k : ℕ) → k < p .days → (on (p .floors) k ≤ℤ on x k) ↔ (at fs k ≤ c k)
   floor-same k h = less-order (on (p .floors) k) (on x k) (at fs k) (c k) 1000 (g .floor k h) (same k h)
@@ -61,13 +64,13 @@ module _ {p : Profile} {fs cs rs : List ℕ} {L U : ℕ} (g : Coding p fs cs rs 
       (less-add (on x k) (on (p .rises) k) (c k) (at rs k) 1000 2000 (same k (omega arith)) (g .rise k h))
       (less-shift (on x (k + 1)) (c (k + 1)) 1000 2000 (same (k + 1) h))
 
-  least-same : (p .lowest ≤ℤ total x) ↔ (L ≤ held (p .days) c)
-  least-same = less-order (p .lowest) (total x) L (held (p .days) c) 512000 (g .lowest) sum-less
+  least-same : (p .lowest ≤ℤ total (p .first) x) ↔ (L ≤ held (p .days) (p .first) c)
+  least-same = less-order (p .lowest) (total (p .first) x) L (held (p .days) (p .first) c) 512000 (g .lowest) sum-less
 
-  most-same : (total x ≤ℤ p .highest) ↔ (held (p .days) c ≤ U)
-  most-same = less-order (total x) (p .highest) (held (p .days) c) U 512000 sum-less (g .highest)
+  most-same : (total (p .first) x ≤ℤ p .highest) ↔ (held (p .days) (p .first) c ≤ U)
+  most-same = less-order (total (p .first) x) (p .highest) (held (p .days) (p .first) c) U 512000 sum-less (g .highest)
 
-  pub to-levels : Schedule p x → Levels (box fs cs rs (p .days) L U) c
+  pub to-levels : Schedule p x → Levels (box fs cs rs (p .days) (p .first) L U) c
   to-levels s = record {
     floor = λ k h. floor-same k h .0 (s .floor k h);
     ceiling = λ k h. ceiling-same k h .0 (s .ceiling k h);
@@ -76,7 +79,7 @@ module _ {p : Profile} {fs cs rs : List ℕ} {L U : ℕ} (g : Coding p fs cs rs 
     most = most-same .0 (s .most);
   }
 
-  pub of-levels : Levels (box fs cs rs (p .days) L U) c → Schedule p x
+  pub of-levels : Levels (box fs cs rs (p .days) (p .first) L U) c → Schedule p x
   of-levels s = record {
     whole = whole;
     floor = λ k h. floor-same k h .1 (s .floor k h);
@@ -94,7 +97,7 @@ levels-of {p} {fs} g x s i h =
     (≤ℤ-trans lowestPoint (on (p .floors) i) (on x i) (less-le lowestPoint (on (p .floors) i) 0 (at fs i) 1000 point-less (g .floor i h) (omega arith)) (s .floor i h))
 
 pub codes-of : {p : Profile} {fs cs rs : List ℕ} {L U : ℕ} → Coding p fs cs rs L U → (x : List ℤ) → Schedule p x
-    → Levels (box fs cs rs (p .days) L U) (λ k. code lowestPoint (on x k))
+    → Levels (box fs cs rs (p .days) (p .first) L U) (λ k. code lowestPoint (on x k))
 codes-of g x s = to-levels g x (s .whole) (λ k. code lowestPoint (on x k)) (levels-of g x s) s
 
 module _ (p : Profile) (d : Entered p) where
@@ -171,8 +174,8 @@ module _ (p : Profile) (d : Entered p) (S : List ℤ → Type 0) (T : (ℕ → �
     }
 
   pub exact-points : (s : Session) → ((i : ℕ) → i < p .days → Codes.NatSpans T (λ c. c i) (at (s .present .floors) i) (at (s .present .ceilings) i))
-      → Codes.NatSpans T (held (p .days)) (s .present .lowest) (s .present .highest) → Exact p S s
+      → Codes.NatSpans T (held (p .days) (p .first)) (s .present .lowest) (s .present .highest) → Exact p S s
   exact-points s day sum = record {
     each = λ i h. spans lowestPoint 1000 point-less (λ x. on x i) (λ c. c i) (λ x c w same. same i h) _ _ (day i h);
-    sum = spans lowestTotal 512000 total-less total (held (p .days)) (λ x c w same. held-less x (p .days) c w (d .sized .few) same) _ _ sum;
+    sum = spans lowestTotal 512000 total-less (total (p .first)) (held (p .days) (p .first)) (λ x c w same. held-less x (p .days) (p .first) c w (d .sized .few) same) _ _ sum;
   }

@@ -26,11 +26,11 @@ use Rattle.session_cutting.proofs.Laws.{day-formed, total-formed}
 use Rattle.promises.specs.Cuts.{WellFormed}
 
 -- n days' levels keep a cut
-abbrev pub KeepsLevels : ℕ → Cut → (ℕ → ℕ) → Type 0
-KeepsLevels n (DayFloor day value) x = code lowestPoint value ≤ x day
-KeepsLevels n (DayCeiling day value) x = x day ≤ code lowestPoint value
-KeepsLevels n (TotalFloor day value) x = code lowestTotal value ≤ held n x
-KeepsLevels n (TotalCeiling day value) x = held n x ≤ code lowestTotal value
+abbrev pub KeepsLevels : ℕ → ℕ → Cut → (ℕ → ℕ) → Type 0
+KeepsLevels n first (DayFloor day value) x = code lowestPoint value ≤ x day
+KeepsLevels n first (DayCeiling day value) x = x day ≤ code lowestPoint value
+KeepsLevels n first (TotalFloor day value) x = code lowestTotal value ≤ held n first x
+KeepsLevels n first (TotalCeiling day value) x = held n first x ≤ code lowestTotal value
 
 -- a cut is well-formed where the checks 12, 7, 3 and 5 find nothing
 day-well : (n d : ℕ) (v : ℤ) → dayCutRefusal n d v ≡ 0 → (d < n) × (lowestPoint ≤ℤ v) × (v ≤ℤ highestPoint)
@@ -58,7 +58,7 @@ pub record InArrays (p : Profile) (r : Ranges) : Type 0 where
   pub ceilings : length (r .ceilings) ≡ 512
 
 module _ (p : Profile) (rs : List ℕ) (r : Ranges) (z : InArrays p r) where
-  pub to-clipped : (c : Cut) → WellFormed p c → (x : ℕ → ℕ) → Within rs (p .days) r x → KeepsLevels (p .days) c x → Within rs (p .days) (clipped r c) x
+  pub to-clipped : (c : Cut) → WellFormed p c → (x : ℕ → ℕ) → Within rs (p .days) (p .first) r x → KeepsLevels (p .days) (p .first) c x → Within rs (p .days) (p .first) (clipped r c) x
   unfolding clipped
   to-clipped (DayFloor d v) h x l keeps =
       let w : ℕ = max (at (r .floors) d) (code lowestPoint v) in
@@ -69,7 +69,7 @@ module _ (p : Profile) (rs : List ℕ) (r : Ranges) (z : InArrays p r) where
   to-clipped (TotalFloor d v) h x l keeps = rebound l (l .floor) (l .ceiling) (omega (arith, l .least)) (l .most)
   to-clipped (TotalCeiling d v) h x l keeps = rebound l (l .floor) (l .ceiling) (l .least) (omega (arith, l .most))
 
-  pub of-clipped : (c : Cut) → WellFormed p c → (x : ℕ → ℕ) → Within rs (p .days) (clipped r c) x → Within rs (p .days) r x × KeepsLevels (p .days) c x
+  pub of-clipped : (c : Cut) → WellFormed p c → (x : ℕ → ℕ) → Within rs (p .days) (p .first) (clipped r c) x → Within rs (p .days) (p .first) r x × KeepsLevels (p .days) (p .first) c x
   unfolding clipped
   of-clipped (DayFloor d v) h x l =
       let w : ℕ = max (at (r .floors) d) (code lowestPoint v) in (

@@ -17,11 +17,11 @@ use Rattle.session.specs.Opening.{earlyOpening, opened, refusedWith, narrowed, 
 use Rattle.promises.specs.Demands.{Exact, Demand2}
 use Rattle.session.specs.declared.Opened.{Opened}
 use Rattle.session.proofs.Entered.{Entered, entered, codes-bounds}
-use Rattle.session.proofs.SessionBounds.{earlier-few}
+use Rattle.session.proofs.SessionBounds.{early-not-8}
 use Rattle.promises.proofs.Bridge.{CodesOf, coding, codes-of, schedule-of, exact-points}
 
 module _ (p : Profile) (d : Entered p) where
-  opens : narrowed p .found ≡ true → Exact p (Schedule p) (fresh (p .days) (codes lowestRise (p .rises) (p .days - 1)) (rangesOf (narrowed p)))
+  opens : narrowed p .found ≡ true → Exact p (Schedule p) (fresh (p .days) (p .first) (codes lowestRise (p .rises) (p .days - 1)) (rangesOf (narrowed p)))
   opens e =
       let t = exact (codes-bounds p d) e in
       exact-points p d (Schedule p) (CodesOf p d) (record { schedule = λ x h. h; to = codes-of (coding p d); of = schedule-of p d }) _ (t .day) (t .total)
@@ -32,14 +32,14 @@ module _ (p : Profile) (d : Entered p) where
 -- opening by its two tests
 abbrev outcome : Profile → Bool → Bool → Opened
 outcome p early found =
-    cond early (cond found (record { refusal = 0; session = fresh (p .days) (codes lowestRise (p .rises) (p .days - 1)) (rangesOf (narrowed p)) }) (refusedWith 8))
+    cond early (cond found (record { refusal = 0; session = fresh (p .days) (p .first) (codes lowestRise (p .rises) (p .days - 1)) (rangesOf (narrowed p)) }) (refusedWith 8))
     (refusedWith (earlyOpening p))
 
 -- what an opening that is not refused says of the profile
 pub record Unrefused (p : Profile) : Type 0 where
   pub early : earlyOpening p ≡ 0
   pub found : narrowed p .found ≡ true
-  pub session : opened p .session ≡ fresh (p .days) (codes lowestRise (p .rises) (p .days - 1)) (rangesOf (narrowed p))
+  pub session : opened p .session ≡ fresh (p .days) (p .first) (codes lowestRise (p .rises) (p .days - 1)) (rangesOf (narrowed p))
 
 pub unrefused : (p : Profile) → opened p .refusal ≡ 0 → Unrefused p
 unfolding opened
@@ -60,7 +60,7 @@ refused p true true e f =
 refused p true false e f =
     let z : earlyOpening p ≡ 0 = eqb-true (earlyOpening p) 0 e in
     (λ h. (z, no-schedule p (entered p z) f), λ w. refl)
-refused p false found e f = (λ h. absurd (omega (arith, earlier-few p)), λ w. absurd (eqb-false (earlyOpening p) 0 e (w .0)))
+refused p false found e f = (λ h. absurd (early-not-8 p h), λ w. absurd (eqb-false (earlyOpening p) 0 e (w .0)))
 
 pub demand-2 : Demand2
 unfolding opened

@@ -31,14 +31,14 @@ use Rattle.promises.proofs.Fold.{KeepingAll, fold}
 module _ (p : Profile) (d : Entered p) where
   -- a list of points and the levels that stand for them keep a well-formed cut together
   module _ (x : List ℤ) (whole : length x ≡ p .days) (y : ℕ → ℕ) (same : (i : ℕ) → i < p .days → Less (on x i) (y i) 1000) where
-    sum-less : Less (total x) (held (p .days) y) 512000
-    sum-less = held-less x (p .days) y whole (d .sized .few) same
+    sum-less : Less (total (p .first) x) (held (p .days) (p .first) y) 512000
+    sum-less = held-less x (p .days) (p .first) y whole (d .sized .few) same
 
-    keeps-same : (c : Cut) → WellFormed p c → Keeps c x ↔ KeepsLevels (p .days) c y
+    keeps-same : (c : Cut) → WellFormed p c → Keeps p c x ↔ KeepsLevels (p .days) (p .first) c y
     keeps-same (DayFloor i v) w = less-order v (on x i) _ (y i) 1000 (code-less lowestPoint v 1000 point-less (w .1)) (same i (w .0))
     keeps-same (DayCeiling i v) w = less-order (on x i) v (y i) _ 1000 (same i (w .0)) (code-less lowestPoint v 1000 point-less (w .1))
-    keeps-same (TotalFloor i v) w = less-order v (total x) _ (held (p .days) y) 512000 (code-less lowestTotal v 512000 total-less (w .1)) sum-less
-    keeps-same (TotalCeiling i v) w = less-order (total x) v (held (p .days) y) _ 512000 sum-less (code-less lowestTotal v 512000 total-less (w .1))
+    keeps-same (TotalFloor i v) w = less-order v (total (p .first) x) _ (held (p .days) (p .first) y) 512000 (code-less lowestTotal v 512000 total-less (w .1)) sum-less
+    keeps-same (TotalCeiling i v) w = less-order (total (p .first) x) v (held (p .days) (p .first) y) _ 512000 sum-less (code-less lowestTotal v 512000 total-less (w .1))
 
   abbrev rs : List ℕ
   rs = codes lowestRise (p .rises) (p .days - 1)
@@ -69,26 +69,26 @@ module _ (p : Profile) (d : Entered p) where
       (k .0, λ c v. keeps-same (pointsOf p d y) (points-length p d y) y (points-less p d y) c (v .valid .formed) .0 (keep (pointsOf p d y) (kept-points hs y k) .keeps c v))
 
   -- what a session that is right for the levels says of the schedules
-  spent-exactly : (hs : List CutCall) {s : Session} → Right (p .days) rs o (LevelsKept hs) s → (s .spent ≡ true) ↔ ((x : List ℤ) → Kept p hs x → ⊥)
+  spent-exactly : (hs : List CutCall) {s : Session} → Right (p .days) (p .first) rs o (LevelsKept hs) s → (s .spent ≡ true) ↔ ((x : List ℤ) → Kept p hs x → ⊥)
   spent-exactly hs (narrowed r e w) =
       let z = some w in
       (λ t. absurd (true≢false (sym t ∙ ap (λ (s : Session). s .spent) e)), λ h. absurd (h (pointsOf p d (z .0)) (kept-points hs (z .0) (z .1))))
   spent-exactly hs (exhausted e h) = (λ t x k. h _ (kept-levels hs x k), λ _. ap (λ (s : Session). s .spent) e)
 
-  opened-again : (hs : List CutCall) {s : Session} → Right (p .days) rs o (LevelsKept hs) s → s .spent ≡ true → s ≡ spend (fresh (p .days) rs o)
+  opened-again : (hs : List CutCall) {s : Session} → Right (p .days) (p .first) rs o (LevelsKept hs) s → s .spent ≡ true → s ≡ spend (fresh (p .days) (p .first) rs o)
   opened-again hs (narrowed r e w) u = absurd (true≢false (sym u ∙ ap (λ (s : Session). s .spent) e))
   opened-again hs (exhausted e h) u = e
 
-  exactly : (hs : List CutCall) {s : Session} → Right (p .days) rs o (LevelsKept hs) s → s .spent ≡ false → Exact p (Kept p hs) s
+  exactly : (hs : List CutCall) {s : Session} → Right (p .days) (p .first) rs o (LevelsKept hs) s → s .spent ≡ false → Exact p (Kept p hs) s
   exactly hs (narrowed r e w) u = rw e (exact-points p d (Kept p hs) (LevelsKept hs) (record { schedule = λ x k. k .schedule; to = kept-levels hs; of = kept-points hs }) _ (w .day) (w .total))
   exactly hs (exhausted e h) u = absurd (true≢false (sym (ap (λ (s : Session). s .spent) e) ∙ u))
 
   module _ (found : tight p .found ≡ true) where
     abbrev start : Session
-    start = fresh (p .days) rs o
+    start = fresh (p .days) (p .first) rs o
 
     -- a fresh session is right for the profile's schedules
-    start-right : Right (p .days) rs o (CodesOf p d) start
+    start-right : Right (p .days) (p .first) rs o (CodesOf p d) start
     start-right =
         let z = exact (codes-bounds p d) found in
         narrowed o refl (record {
@@ -101,7 +101,7 @@ module _ (p : Profile) (d : Entered p) where
           ceilings-kept = λ k h. refl;
         })
 
-    pub after-right : (hs : List CutCall) → Right (p .days) rs o (LevelsKept hs) (after start hs)
+    pub after-right : (hs : List CutCall) → Right (p .days) (p .first) rs o (LevelsKept hs) (after start hs)
     after-right hs = fold p rs o (CodesOf p d) start hs start-right
 
     -- two lists that the same schedules keep end in equal sessions

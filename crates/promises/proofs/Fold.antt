@@ -34,18 +34,18 @@ unknown-known c e = let z : _≡_ {A = ℕ} 0 1 = cc in absurd (omega arith)
 
 module _ (p : Profile) (rs : List ℕ) (o : Ranges) where
   abbrev RightFor : ((ℕ → ℕ) → Type 0) → Session → Type 0
-  RightFor = Right (p .days) rs o
+  RightFor = Right (p .days) (p .first) rs o
 
   abbrev unspentWith : Ranges → Session
-  unspentWith = unspent (p .days) rs o
+  unspentWith = unspent (p .days) (p .first) rs o
 
   abbrev spentSession : Session
-  spentSession = spent (p .days) rs o
+  spentSession = spent (p .days) (p .first) rs o
 
   -- a well-formed cut, clipped and tightened
-  module _ (S : (ℕ → ℕ) → Type 0) (r : Ranges) (w : Narrowed (p .days) rs o S r) (c : Cut) (formed : malformed (p .days) c ≡ 0) where
+  module _ (S : (ℕ → ℕ) → Type 0) (r : Ranges) (w : Narrowed (p .days) (p .first) rs o S r) (c : Cut) (formed : malformed (p .days) c ≡ 0) where
     abbrev T : (ℕ → ℕ) → Type 0
-    T x = S x × KeepsLevels (p .days) c x
+    T x = S x × KeepsLevels (p .days) (p .first) c x
 
     abbrev t : Tight
     t = retightened (unspentWith r) (clipped r c)
@@ -53,16 +53,16 @@ module _ (p : Profile) (rs : List ℕ) (o : Ranges) where
     well : WellFormed p c
     well = well-formed p c .0 formed
 
-    fits : Fits rs (p .days) (clipped r c)
-    fits = clipped-in-bounds rs (p .days) r c (w .bounds) formed
+    fits : Fits rs (p .days) (p .first) (clipped r c)
+    fits = clipped-in-bounds rs (p .days) (p .first) r c (w .bounds) formed
 
     arrays : InArrays p r
     arrays = record { few = w .bounds .most; floors = w .bounds .floors; ceilings = w .bounds .ceilings }
 
-    to : (x : ℕ → ℕ) → T x → Within rs (p .days) (clipped r c) x
+    to : (x : ℕ → ℕ) → T x → Within rs (p .days) (p .first) (clipped r c) x
     to x k = to-clipped p rs r arrays c well x (w .within x (k .0)) (k .1)
 
-    of : (x : ℕ → ℕ) → Within rs (p .days) (clipped r c) x → T x
+    of : (x : ℕ → ℕ) → Within rs (p .days) (p .first) (clipped r c) x → T x
     of x l = let z = of-clipped p rs r arrays c well x l in (w .only x (z .0), z .1)
 
     cut-right : RightFor T (tightenedTo (unspentWith r) t .session)
@@ -86,7 +86,7 @@ module _ (p : Profile) (rs : List ℕ) (o : Ranges) where
 
   -- the levels of S that keep the valid cut, if there is one
   abbrev pub Keeping : ((ℕ → ℕ) → Type 0) → CutCall → (ℕ → ℕ) → Type 0
-  Keeping S h x = S x × ((c : Cut) → Valid p h c → KeepsLevels (p .days) c x)
+  Keeping S h x = S x × ((c : Cut) → Valid p h c → KeepsLevels (p .days) (p .first) c x)
 
   module _ (S : (ℕ → ℕ) → Type 0) where
     -- where no cut is valid, S is kept as it is
@@ -103,7 +103,7 @@ module _ (p : Profile) (rs : List ℕ) (o : Ranges) where
           let same : c ≡ d = known-same c d (v .known) in
           earlier-none (unspentWith r) c room (well-formed p c .1 (rw same (v .formed))) (le-ltb room (p .days) (v .roomy)) refl
 
-      unspent-step : (r : Ranges) → Narrowed (p .days) rs o S r → RightFor (Keeping S h) (afterCut (unspentWith r) c room .session)
+      unspent-step : (r : Ranges) → Narrowed (p .days) (p .first) rs o S r → RightFor (Keeping S h) (afterCut (unspentWith r) c room .session)
       unspent-step r w = go (eqb (earlyCutting (unspentWith r) c room) 0) refl
         where
           go : (b : Bool) → eqb (earlyCutting (unspentWith r) c room) 0 ≡ b → RightFor (Keeping S h) (afterCut (unspentWith r) c room .session)
@@ -134,13 +134,13 @@ module _ (p : Profile) (rs : List ℕ) (o : Ranges) where
 
   -- the levels of S that keep every valid cut of the list
   abbrev pub KeepingAll : ((ℕ → ℕ) → Type 0) → List CutCall → (ℕ → ℕ) → Type 0
-  KeepingAll S hs x = S x × ((c : Cut) → ValidIn p hs c → KeepsLevels (p .days) c x)
+  KeepingAll S hs x = S x × ((c : Cut) → ValidIn p hs c → KeepsLevels (p .days) (p .first) c x)
 
-  first-or-later : (h : CutCall) (hs : List CutCall) (x : ℕ → ℕ) → ((c : Cut) → Valid p h c → KeepsLevels (p .days) c x) → ((c : Cut) → ValidIn p hs c → KeepsLevels (p .days) c x)
-      → (c : Cut) → ValidIn p (h ∷ hs) c → KeepsLevels (p .days) c x
+  first-or-later : (h : CutCall) (hs : List CutCall) (x : ℕ → ℕ) → ((c : Cut) → Valid p h c → KeepsLevels (p .days) (p .first) c x) → ((c : Cut) → ValidIn p hs c → KeepsLevels (p .days) (p .first) c x)
+      → (c : Cut) → ValidIn p (h ∷ hs) c → KeepsLevels (p .days) (p .first) c x
   first-or-later h hs x first later c v = go (List·Memᴰ·cases-cons (v .member))
     where
-      go : (v .handed ≡ h) ⊎ List·Memᴰ (v .handed) hs → KeepsLevels (p .days) c x
+      go : (v .handed ≡ h) ⊎ List·Memᴰ (v .handed) hs → KeepsLevels (p .days) (p .first) c x
       go (inl e) = first c (rw e at (v .valid))
       go (inr m) = later c (record { handed = v .handed; member = m; valid = v .valid })
 

@@ -75,11 +75,11 @@ module _ (s : Session) (x : List ℤ) where
             rise r refl e u (omega arith) (rise-broken (on x r +ℤ riseOn s r) (on x (r + 1)) (first (brokenRise s x) (n - 1) .here h))
             (λ j l. day-before j (omega (arith, ltb-false d n p))) rise-before
         go false false true p q t =
-            sum refl e u (within-no (totalFloor s) (totalCeiling s) (total x) .0 (not-true _ t))
+            sum refl e u (within-no (totalFloor s) (totalCeiling s) (total (s .first) x) .0 (not-true _ t))
             (λ j l. day-before j (omega (arith, ltb-false d n p))) (λ j l. rise-before j (omega (arith, ltb-false r (n - 1) q)))
         go false false false p q t =
             all-kept refl u (scheduled e (λ j l. day-before j (omega (arith, ltb-false d n p))) (λ j l. rise-before j (omega (arith, ltb-false r (n - 1) q)))
-            (within-yes (totalFloor s) (totalCeiling s) (total x) .0 (not-false _ t)))
+            (within-yes (totalFloor s) (totalCeiling s) (total (s .first) x) .0 (not-false _ t)))
 
   answers : Inspects s x (inspected s x)
   unfolding inspected

@@ -38,10 +38,10 @@ module _ (p : Profile) (hs : List CutCall) (c : Cut) (room : ℕ) where
   h = record { cut = Known c; room = room }
 
   -- schedules that keep the cut too keep the longer list, and the other way round
-  kept-more : (x : List ℤ) → Keeps c x → Kept p hs x → Kept p (hs ++ h ∷ []) x
+  kept-more : (x : List ℤ) → Keeps p c x → Kept p hs x → Kept p (hs ++ h ∷ []) x
   kept-more x keep k = record { schedule = k .schedule; keeps = λ e v. go e v (List·Memᴰ·append-cases hs (v .member)) }
     where
-      go : (e : Cut) (v : ValidIn p (hs ++ h ∷ []) e) → List·Memᴰ (v .handed) hs ⊎ List·Memᴰ (v .handed) (h ∷ []) → Keeps e x
+      go : (e : Cut) (v : ValidIn p (hs ++ h ∷ []) e) → List·Memᴰ (v .handed) hs ⊎ List·Memᴰ (v .handed) (h ∷ []) → Keeps p e x
       go e v (inl m) = k .keeps e (record { handed = v .handed; member = m; valid = v .valid })
       go e v (inr m) =
           let same : c ≡ e = known-same c e (rw (List·Memᴰ·eq-of-singleton m) at (v .valid .known)) in
@@ -71,7 +71,7 @@ unchanged s c room early unspent same = go (retightened s (clipped (s .present) 
 -- ---- every schedule that keeps the list keeps it
 
 module _ (p : Profile) (hs : List CutCall) (s : Session) (w : Exact p (Kept p hs) s) where
-  keeps-looser : (c : Cut) → WellFormed p c → Looser s c → (x : List ℤ) → Kept p hs x → Keeps c x
+  keeps-looser : (c : Cut) → WellFormed p c → Looser s c → (x : List ℤ) → Kept p hs x → Keeps p c x
   keeps-looser (DayFloor day value) f l x k = ≤ℤ-trans _ _ _ l (w .each day (f .0) .inside x k .0)
   keeps-looser (DayCeiling day value) f l x k = ≤ℤ-trans _ _ _ (w .each day (f .0) .inside x k .1) l
   keeps-looser (TotalFloor day value) f l x k = ≤ℤ-trans _ _ _ l (w .sum .inside x k .0)

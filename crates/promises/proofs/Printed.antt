@@ -49,7 +49,7 @@ module _ (b : List ℕ) where
   kept : (k : ℕ) → k ≤ m → (x : List ℤ) → FileSchedule b x → Kept p (handed f k) x
   kept k h x s = record { schedule = s .schedule; keeps = keeps }
     where
-      keeps : (c : Cut) → ValidIn p (handed f k) c → Keeps c x
+      keeps : (c : Cut) → ValidIn p (handed f k) c → Keeps p c x
       keeps c v =
           let j = handed-mem f k (v .handed) (v .member) in
           let same : f (j .0) ≡ c = ap known (sym (ap (λ (h : CutCall). h .cut) (j .2)) ∙ v .valid .known) in

@@ -1,4 +1,5 @@
 -- All promises are kept: each field of `Promises` by the proof that carries its name.
+use mathlib.Core.Path.{refl}
 use Rattle.schedule_inspection.proofs.Answers.{finding-one}
 use Rattle.file_printing.proofs.Longer.{printed-long}
 use Rattle.c_layout.proofs.Inverse.{decoding-in-bounds, decoding-encoding}
@@ -35,6 +36,7 @@ promised = record {
   files = round-trips;
   printed = ranges-printed;
   printed-long = printed-long;
+  every-day = λ p e x. rw e refl;
   starred = starred;
   lists = demand-3;
   sessions-in-bytes = sessions-in-bytes;

@@ -40,15 +40,17 @@ present-coding s few = record {
 -- each value of a range is taken
 pub record Reached (p : Profile) (d : Entered p) (hs : List CutCall) (s : Session) : Type 0 where
   pub days : s .days ≡ p .days
-  pub supported : Supported (s .rises) (s .days) (s .present)
-  pub within : (c : ℕ → ℕ) → LevelsKept p d hs c → Within (s .rises) (s .days) (s .present) c
-  pub only : (c : ℕ → ℕ) → Within (s .rises) (s .days) (s .present) c → LevelsKept p d hs c
+  pub first : s .first ≡ p .first
+  pub supported : Supported (s .rises) (s .days) (s .first) (s .present)
+  pub within : (c : ℕ → ℕ) → LevelsKept p d hs c → Within (s .rises) (s .days) (s .first) (s .present) c
+  pub only : (c : ℕ → ℕ) → Within (s .rises) (s .days) (s .first) (s .present) c → LevelsKept p d hs c
 
-reached : (p : Profile) (d : Entered p) (hs : List CutCall) {s : Session} → Right (p .days) (codes lowestRise (p .rises) (p .days - 1)) (rangesOf (tight p)) (LevelsKept p d hs) s
+reached : (p : Profile) (d : Entered p) (hs : List CutCall) {s : Session} → Right (p .days) (p .first) (codes lowestRise (p .rises) (p .days - 1)) (rangesOf (tight p)) (LevelsKept p d hs) s
     → s .spent ≡ false → Reached p d hs s
 reached p d hs (narrowed r e w) u =
     rw e (record {
       days = refl;
+      first = refl;
       supported = record { bounds = w .bounds; day = λ k h. spans-same (w .only) (w .within) (w .day k h); total = spans-same (w .only) (w .within) (w .total) };
       within = w .within;
       only = w .only;

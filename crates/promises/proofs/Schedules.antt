@@ -69,7 +69,7 @@ module _ (p : Profile) (hs : List ByteCutCall) (b : List ℕ) (c : CameFrom p hs
     abbrev point : ℕ → ℤ
     point k = decoded lowestPoint (level k)
 
-    module _ (x : ScheduleFor p (byValue hs) s (valueIn subject) v (listOf point n)) where
+    module _ (x : ScheduleFor p (byValue hs) s (valueIn p subject) v (listOf point n)) where
       low : (k : ℕ) → k < n → level k ≤ 5000
       low k h =
           let within : decoded lowestPoint (level k) ≤ℤ ceilingOn s k = rw (get-listOf point (pos 0) n k h, get-listOf (ceilingOn s) (pos 0) n k h) at (x .present .ceiling k h) in
@@ -80,7 +80,7 @@ module _ (p : Profile) (hs : List ByteCutCall) (b : List ℕ) (c : CameFrom p hs
             w .storable .bounds .present .ceiling k h,
           )
 
-      stored : (r : ℕ) → r ≡ 0 → ScheduleFor p (byValue hs) s (valueIn subject) v (pointsIn (lentPoints r point n l) n)
+      stored : (r : ℕ) → r ≡ 0 → ScheduleFor p (byValue hs) s (valueIn p subject) v (pointsIn (lentPoints r point n l) n)
       stored r z = rw (lent-points r point n l z (λ k h. point-fits (level k) (low k h))) x
 
   by-day : (i : ℕ) (v : ℤ) → dayWriteRefusal s i v n ≡ 0 → ScheduleFor p (byValue hs) s (λ x. on x i) v (listOf (λ k. decoded lowestPoint (dayLevels s i v k)) n)
@@ -90,7 +90,7 @@ module _ (p : Profile) (hs : List ByteCutCall) (b : List ℕ) (c : CameFrom p hs
       let o : dayWriteRefusal s i v (length l) ≡ 0 = rw (length-listOf (λ (_ : ℕ). pos 0) n) r in
       rw (list-filled _ _ _ l o, filled-whole (λ k. decoded lowestPoint (dayLevels s i v k)) n) at (writing .day p (w .opens) (byValue hs) s (w .held) i v l .schedule o)
 
-  by-total : (v : ℤ) → totalWriteRefusal s v n ≡ 0 → ScheduleFor p (byValue hs) s total v (listOf (λ k. decoded lowestPoint (totalLevels s v k)) n)
+  by-total : (v : ℤ) → totalWriteRefusal s v n ≡ 0 → ScheduleFor p (byValue hs) s (total (p .first)) v (listOf (λ k. decoded lowestPoint (totalLevels s v k)) n)
   unfolding totalWritten
   by-total v r =
       let l : List ℤ = listOf (λ _. pos 0) n in
@@ -102,7 +102,7 @@ module _ (p : Profile) (hs : List ByteCutCall) (b : List ℕ) (c : CameFrom p hs
   checked subject v l = pairs (isSession b) (isLong l n) (refusalFor s subject v)
 
   schedule : (subject : Subject) (v : ℤ) (l : List ℕ) → writeRefusal b subject v l ≡ 0
-      → ScheduleFor p (byValue hs) s (valueIn subject) v (pointsIn (listWritten b subject v l) n)
+      → ScheduleFor p (byValue hs) s (valueIn p subject) v (pointsIn (listWritten b subject v l) n)
   schedule (Day i) v l z = stored (Day i) v (dayLevels s i v) l (by-day i v (checked (Day i) v l z)) _ z
   schedule Total v l z = stored Total v (totalLevels s v) l (by-total v (checked Total v l z)) _ z
 

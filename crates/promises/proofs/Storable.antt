@@ -47,7 +47,7 @@ cut-storable s c room h = go (eqb (earlyCutting s c room) 0) (retightened s (cli
     go : (early found : Bool) → eqb (earlyCutting s c room) 0 ≡ early → retightened s (clipped (s .present) c) .found ≡ found → Storable (afterCut s c room .session)
     go true true e f =
         let formed = passed s c room e .formed in
-        let fits = clipped-in-bounds (s .rises) (s .days) (s .present) c (h .bounds .present) formed in
+        let fits = clipped-in-bounds (s .rises) (s .days) (s .first) (s .present) c (h .bounds .present) formed in
         let t = exact fits f in
         let same = clipped-past (presentProfile s) (s .present) c (well-formed (presentProfile s) c .0 formed) in
         let present : Padded (s .days) (retightened s (clipped (s .present) c) .floors) × Padded (s .days) (retightened s (clipped (s .present) c) .ceilings) =

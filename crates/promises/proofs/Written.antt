@@ -1,5 +1,5 @@
 -- What is written is a schedule of the session's present ranges and one of the profile that keeps every valid cut, with the value asked for.
-use mathlib.Core.Path.{_≡_, refl, _∙_}
+use mathlib.Core.Path.{_≡_, refl, ap, sym, _∙_}
 use mathlib.Core.Bool.{Bool, true, false, cond, not}
 use mathlib.Core.Logic.{_↔_}
 use mathlib.Core.List.{List}
@@ -95,7 +95,7 @@ record Writable (p : Profile) (d : Entered p) (hs : List CutCall) (s : Session) 
 
 module _ (p : Profile) (d : Entered p) (hs : List CutCall) (s : Session) (l : List ℤ) (w : Writable p d hs s l) where
   -- levels within the present ranges, as points on the list
-  module _ (c : ℕ → ℕ) (l′ : Within (s .rises) (s .days) (s .present) c) where
+  module _ (c : ℕ → ℕ) (l′ : Within (s .rises) (s .days) (s .first) (s .present) c) where
     abbrev x : List ℤ
     x = written (λ k. decoded lowestPoint (c k)) (s .days) l
 
@@ -125,14 +125,14 @@ module _ (p : Profile) (d : Entered p) (hs : List CutCall) (s : Session) (l : Li
       let x = written (λ k. decoded lowestPoint (dayLevels s i v k)) (s .days) l in
       schedule-for (dayLevels s i v) (t .0) (λ x. on x i) v (less-same (on x i) v (code lowestPoint v) 1000 (rw (t .1) at (same (dayLevels s i v) (t .0) i h)) (b .0))
 
-  total-schedule : (v : ℤ) → totalFloor s ≤ℤ v → v ≤ℤ totalCeiling s → ScheduleFor p hs s total v (written (λ k. decoded lowestPoint (totalLevels s v k)) (s .days) l)
+  total-schedule : (v : ℤ) → totalFloor s ≤ℤ v → v ≤ℤ totalCeiling s → ScheduleFor p hs s (total (p .first)) v (written (λ k. decoded lowestPoint (totalLevels s v k)) (s .days) l)
   unfolding totalLevels
   total-schedule v low high =
       let b = between lowestTotal v 512000 (s .present .lowest) (s .present .highest) total-less low high in
       let t = with-total (w .reached .supported) (code lowestTotal v) (b .1) (b .2) in
       let x = written (λ k. decoded lowestPoint (totalLevels s v k)) (s .days) l in
-      let sum = held-less x (s .days) (totalLevels s v) (whole (totalLevels s v) (t .0)) (w .reached .supported .bounds .most) (same (totalLevels s v) (t .0)) in
-      schedule-for (totalLevels s v) (t .0) total v (less-same (total x) v (code lowestTotal v) 512000 (rw (t .1) at sum) (b .0))
+      let sum = held-less x (s .days) (s .first) (totalLevels s v) (whole (totalLevels s v) (t .0)) (w .reached .supported .bounds .most) (same (totalLevels s v) (t .0)) in
+      schedule-for (totalLevels s v) (t .0) (total (p .first)) v (ap (λ (k : ℕ). total k x) (sym (w .reached .first)) ∙ less-same (total (s .first) x) v (code lowestTotal v) 512000 (rw (t .1) at sum) (b .0))
 
 -- ---- all of it
 
@@ -149,7 +149,7 @@ module _ (p : Profile) (z : opened p .refusal ≡ 0) (hs : List CutCall) (s : Se
         rw (list-filled _ _ _ l o) (day-schedule p d hs s l (record { reached = after-reached p z d hs s e (t .0 .2); unspent = t .0 .2; long = t .0 .0 }) i v (t .0 .1) (t .1) (t .2));
   }
 
-  writes-sum : (v : ℤ) (l : List ℤ) → Writes p hs s total v (totalWriteRefusal s v (length l)) l (totalWritten s v l)
+  writes-sum : (v : ℤ) (l : List ℤ) → Writes p hs s (total (p .first)) v (totalWriteRefusal s v (length l)) l (totalWritten s v l)
   unfolding totalWritten
   writes-sum v l = record {
     left = list-left _ _ _ l;

@@ -22,12 +22,12 @@ WellFormed p (DayCeiling day value) = (day < p .days) × (lowestPoint ≤ℤ val
 WellFormed p (TotalFloor day value) = (day ≡ 0) × (lowestTotal ≤ℤ value) × (value ≤ℤ highestTotal)
 WellFormed p (TotalCeiling day value) = (day ≡ 0) × (lowestTotal ≤ℤ value) × (value ≤ℤ highestTotal)
 
--- A schedule keeps a floor cut (document 01) if its setpoint on that day, or its sum, is at least the value, a ceiling cut if it is at most the value
-abbrev pub Keeps : Cut → List ℤ → Type 0
-Keeps (DayFloor day value) x = value ≤ℤ on x day
-Keeps (DayCeiling day value) x = on x day ≤ℤ value
-Keeps (TotalFloor day value) x = value ≤ℤ total x
-Keeps (TotalCeiling day value) x = total x ≤ℤ value
+-- A schedule keeps a floor cut (document 01) if its setpoint on that day, or its total, is at least the value, a ceiling cut if it is at most the value
+abbrev pub Keeps : Profile → Cut → List ℤ → Type 0
+Keeps p (DayFloor day value) x = value ≤ℤ on x day
+Keeps p (DayCeiling day value) x = on x day ≤ℤ value
+Keeps p (TotalFloor day value) x = value ≤ℤ total (p .first) x
+Keeps p (TotalCeiling day value) x = total (p .first) x ≤ℤ value
 
 -- A cut is looser than the present range (document 01) if every value of the range keeps it
 abbrev pub Looser : Session → Cut → Type 0
@@ -56,7 +56,7 @@ pub record ValidIn (p : Profile) (hs : List CutCall) (c : Cut) : Type 0 where
 -- a schedule of the profile that keeps every valid cut of the list
 pub record Kept (p : Profile) (hs : List CutCall) (x : List ℤ) : Type 0 where
   pub schedule : Schedule p x
-  pub keeps : (c : Cut) → ValidIn p hs c → Keeps c x
+  pub keeps : (c : Cut) → ValidIn p hs c → Keeps p c x
 
 -- the session after a whole list of cuts, one after another, refused ones included
 abbrev pub after : Session → List CutCall → Session

@@ -8,7 +8,7 @@ use lib.IntN.{ℤ}
 use lib.ListN.{length}
 use Rattle.theory_lists.specs.Sum.{at}
 use Rattle.base_codes.specs.Code.{on}
-use Rattle.session.specs.Profile.{Profile, Schedule, Spans, total}
+use Rattle.session.specs.Profile.{Profile, Schedule, Spans, sumOf, total}
 use Rattle.session.specs.Showing.{SessionInBounds, floorOn, ceilingOn, totalFloor, totalCeiling}
 use Rattle.session.specs.Opening.{earlyOpening, opened}
 use Rattle.session.specs.declared.Session.{Session}
@@ -40,12 +40,18 @@ pub record Demand1 : Type 0 where
   pub refused : (s : Session) (t : Numbered) (l : List ℕ) → Leaves s l (afterNumbered s t (length l))
   pub accepted : (s : Session) (t : Numbered) (l : List ℕ) → afterNumbered s t (length l) .answer .refusal ≡ 0 → Changes s l (afterNumbered s t (length l))
 
+-- ---- document 01's cases
+
+-- with first counted day 0 every day counts alike (request One): the total is the sum of all setpoints
+abbrev pub EveryDayCounts : Type 0
+EveryDayCounts = (p : Profile) → p .first ≡ 0 → (x : List ℤ) → total (p .first) x ≡ sumOf x
+
 -- ---- demand 2 at opening
 
 -- the ranges that a session shows are exact for the schedules of S: each day's and the total's
 pub record Exact (p : Profile) (S : List ℤ → Type 0) (s : Session) : Type 0 where
   pub each : (i : ℕ) → i < p .days → Spans S (λ x. on x i) (floorOn s i) (ceilingOn s i)
-  pub sum : Spans S total (totalFloor s) (totalCeiling s)
+  pub sum : Spans S (total (p .first)) (totalFloor s) (totalCeiling s)
 
 -- where opening does not refuse, every range is exact; and 8 is said exactly where no check before it refuses and there is
 -- no schedule

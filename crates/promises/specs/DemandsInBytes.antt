@@ -77,7 +77,7 @@ pub record AfterBytes (p : Profile) (hs : List ByteCutCall) (b : List ℕ) : Typ
 -- the ranges that a caller finds in the lists and the lent numbers are exact for the schedules of S
 pub record Read (p : Profile) (S : List ℤ → Type 0) (b fs cs : List ℕ) : Type 0 where
   pub each : (i : ℕ) → i < p .days → Spans S (λ x. on x i) (pointAt (floorsRead b fs cs) i) (pointAt (ceilingsRead b fs cs) i)
-  pub sum : Spans S total (readRanges b fs cs .lowest) (readRanges b fs cs .highest)
+  pub sum : Spans S (total (p .first)) (readRanges b fs cs .lowest) (readRanges b fs cs .highest)
 
 -- reading is refused exactly where a list is too short; it tells whether the session is spent, then shows the ranges that it had when opened, and
 -- otherwise those of the schedules that keep every valid cut; it leaves the lists past their first n

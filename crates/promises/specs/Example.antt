@@ -8,8 +8,9 @@ use Rattle.theory_lists.specs.First.{firstWhere}
 use Rattle.theory_lists.specs.ListOf.{listOf}
 use Rattle.theory_lists.specs.Rows.{rows}
 use Rattle.theory_chains.specs.Fit.{fitFrom}
+use Rattle.theory_method.specs.Counted.{counted}
 use Rattle.theory_method.specs.Shift.{shiftFrom}
-use Rattle.theory_method.specs.Filter.{tightened, tightCeilings, tightFloors, raised, loweredFrom, carried}
+use Rattle.theory_method.specs.Filter.{tightened, tightCeilings, tightFloors, raised, loweredFrom, carried, spare}
 use Rattle.base_little_endian.specs.Fields.{u16At, u32At, i16At, i32At}
 use Rattle.session.specs.Opening.{opened, earlyOpening}
 use Rattle.session_cuts.specs.Numbered.{numbered}
@@ -26,5 +27,5 @@ lines : List ℕ
 lines = ascii "total 11 11\n" ++ ascii "day 0 3 3\n" ++ ascii "day 1 4 4\n" ++ ascii "day 2 4 4\n"
 
 example : printed doc01 ≡ lines
-unfolding doc01 lines printed answerText rangesText totalLine dayLine refusedLine number decimal digits rows fileOpened cutAll cutOnce profileIn cutsIn listOf earlyReading u16At u32At i16At i32At numbered opened earlyOpening tightened tightCeilings tightFloors raised loweredFrom firstWhere carried written sumFor fitFrom shiftFrom afterCut earlyCutting clipped daysWhere
+unfolding counted spare doc01 lines printed answerText rangesText totalLine dayLine refusedLine number decimal digits rows fileOpened cutAll cutOnce profileIn cutsIn listOf earlyReading u16At u32At i16At i32At numbered opened earlyOpening tightened tightCeilings tightFloors raised loweredFrom firstWhere carried written sumFor fitFrom shiftFrom afterCut earlyCutting clipped daysWhere
 example = refl

@@ -16,7 +16,7 @@ use Rattle.promises.specs.Demands.{Exact}
 -- a schedule of the file's profile that keeps every cut of the file
 pub record FileSchedule (b : List ℕ) (x : List ℤ) : Type 0 where
   pub schedule : Schedule (profileIn b) x
-  pub keeps : (j : ℕ) → j < length (cutsIn b) → Keeps (cutOn (cutsIn b) j) x
+  pub keeps : (j : ℕ) → j < length (cutsIn b) → Keeps (profileIn b) (cutOn (cutsIn b) j) x
 
 -- where nothing is refused the ranges printed are exact for these; 8 is printed only where there is none, and, of a file whose values pass every
 -- check, wherever there is none

@@ -4,7 +4,7 @@ use Prim.Native.Nat.{ℕ}
 use Rattle.schedule_inspection.specs.Inspecting.{FindingOne}
 use Rattle.file_printing.specs.Printing.{PrintedLong}
 use Rattle.c_layout.specs.Storing.{DecodingInBounds, DecodingEncoding, PatchedEncoding}
-use Rattle.promises.specs.Demands.{Demand1, Demand2, Demand3, LooserCuts, NoneAtCut, SessionsInBounds}
+use Rattle.promises.specs.Demands.{Demand1, EveryDayCounts, Demand2, Demand3, LooserCuts, NoneAtCut, SessionsInBounds}
 use Rattle.promises.specs.Schedules.{Writing, Inspection, PresentSchedules}
 use Rattle.promises.specs.RoundTrips.{RoundTrips}
 use Rattle.promises.specs.Printing.{RangesPrinted}
@@ -23,7 +23,7 @@ pub record Promises : Type 0 where
   pub findings : FindingOne
   pub sessions : SessionsInBounds
   -- demand 2: ranges are exact, 8 is said exactly where there is no schedule, each value of a range has a schedule that is written, files are read again as
-  -- they were written, and what is printed for a file is exact; document 01's profiles worked by hand
+  -- they were written, and what is printed for a file is exact; document 01's cases are those with first counted day 0, and its profiles worked by hand
   pub opening : Demand2
   pub none-at-cut : NoneAtCut
   pub writing : Writing
@@ -31,6 +31,7 @@ pub record Promises : Type 0 where
   pub files : RoundTrips
   pub printed : (b : List ℕ) → RangesPrinted b
   pub printed-long : PrintedLong
+  pub every-day : EveryDayCounts
   pub starred : Starred
   -- demand 3: whole lists of cuts
   pub lists : Demand3

@@ -21,7 +21,7 @@ use Rattle.promises.specs.Cuts.{CutCall, Kept, after}
 -- the profile that a session's present ranges and rises make: a schedule of the present ranges is one of this profile
 abbrev pub presentProfile : Session → Profile
 presentProfile s =
-    let numbers : Numbers = numbersWith (s .days) (totalFloor s) (totalCeiling s) in
+    let numbers : Numbers = numbersWith (s .days) (s .first) (totalFloor s) (totalCeiling s) in
     profile numbers (listOf (floorOn s) (s .days)) (listOf (ceilingOn s) (s .days)) (listOf (riseOn s) (s .days - 1))
 
 -- for an unspent session after any list of cuts these are the schedules of its profile that keep every valid cut
@@ -40,7 +40,7 @@ abbrev pub RiseKept : Session → List ℤ → ℕ → Type 0
 RiseKept s x i = (on x i +ℤ riseOn s i) ≤ℤ on x (i + 1)
 
 abbrev pub TotalKept : Session → List ℤ → Type 0
-TotalKept s x = (totalFloor s ≤ℤ total x) × (total x ≤ℤ totalCeiling s)
+TotalKept s x = (totalFloor s ≤ℤ total (s .first) x) × (total (s .first) x ≤ℤ totalCeiling s)
 
 -- what each answer says: the first broken rule, days in order, then rises in order, then the total
 pub data Inspects (s : Session) (x : List ℤ) (f : Finding) : Type 0 where
@@ -61,7 +61,7 @@ pub record Inspection : Type 0 where
 -- ---- writing
 
 -- x is a schedule of the session's present ranges, one of the profile that keeps every valid cut, has the value, where f is the day's setpoint or the
--- sum, and passes inspection
+-- total, and passes inspection
 pub record ScheduleFor (p : Profile) (hs : List CutCall) (s : Session) (f : List ℤ → ℤ) (value : ℤ) (x : List ℤ) : Type 0 where
   pub present : Schedule (presentProfile s) x
   pub cuts : Kept p hs x
@@ -83,7 +83,7 @@ pub record Writing : Type 0 where
   pub day : (p : Profile) → opened p .refusal ≡ 0 → (hs : List CutCall) (s : Session) → s ≡ after (opened p .session) hs → (i : ℕ) (v : ℤ) (l : List ℤ)
       → Writes p hs s (λ x. on x i) v (dayWriteRefusal s i v (length l)) l (dayWritten s i v l)
   pub sum : (p : Profile) → opened p .refusal ≡ 0 → (hs : List CutCall) (s : Session) → s ≡ after (opened p .session) hs → (v : ℤ) (l : List ℤ)
-      → Writes p hs s total v (totalWriteRefusal s v (length l)) l (totalWritten s v l)
+      → Writes p hs s (total (p .first)) v (totalWriteRefusal s v (length l)) l (totalWritten s v l)
   pub day-ranged : (s : Session) (i : ℕ) (v : ℤ) (room : ℕ)
       → Ranged (dayWriteRefusal s i v room) ((room ≡ s .days) × (i < s .days) × (s .spent ≡ false)) (floorOn s i) v (ceilingOn s i)
   pub sum-ranged : (s : Session) (v : ℤ) (room : ℕ)

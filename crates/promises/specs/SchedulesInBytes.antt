@@ -22,10 +22,10 @@ use Rattle.promises.specs.InBytes.{ByteCutCall, byValue, CameFrom}
 
 -- ---- writing
 
--- what a schedule is written for: the day's setpoint, or the sum
-abbrev pub valueIn : Subject → List ℤ → ℤ
-valueIn (Day day) x = on x day
-valueIn Total x = total x
+-- what a schedule of the profile is written for: the day's setpoint, or the total
+abbrev pub valueIn : Profile → Subject → List ℤ → ℤ
+valueIn p (Day day) x = on x day
+valueIn p Total x = total (p .first) x
 
 -- the list afterwards (the contract of `cloverdrum_write_day` and `cloverdrum_write_total`)
 abbrev pub listWritten : List ℕ → Subject → ℤ → List ℕ → List ℕ
@@ -35,7 +35,7 @@ listWritten b subject v l = lentPoints (writeRefusal b subject v l) (setpointFor
 -- passes inspection
 pub record Written (p : Profile) (hs : List ByteCutCall) (b : List ℕ) (subject : Subject) (v : ℤ) (l : List ℕ) : Type 0 where
   pub left : (writeRefusal b subject v l ≡ 0 → ⊥) → listWritten b subject v l ≡ l
-  pub schedule : writeRefusal b subject v l ≡ 0 → ScheduleFor p (byValue hs) (decoding b) (valueIn subject) v (pointsIn (listWritten b subject v l) (decoding b .days))
+  pub schedule : writeRefusal b subject v l ≡ 0 → ScheduleFor p (byValue hs) (decoding b) (valueIn p subject) v (pointsIn (listWritten b subject v l) (decoding b .days))
 
 -- and a value is taken exactly where it is within the present range
 pub record WritingInBytes : Type 0 where

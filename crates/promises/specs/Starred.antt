@@ -1,6 +1,6 @@
--- Document 01's starred profiles, worked by hand there, as one table.
+-- Document 01's starred profiles, worked by hand there, as one table; and two of request One.
 use mathlib.Core.Path.{_≡_, refl}
-use mathlib.Core.Bool.{cond}
+use mathlib.Core.Bool.{Bool, cond}
 use mathlib.Core.List.{List, [], _∷_, _++_, map}
 use Prim.Native.Nat.{ℕ, zero, suc, _+_, _-_, min}
 use lib.IntN.{ℤ, pos, negsuc}
@@ -12,8 +12,9 @@ use Rattle.theory_lists.specs.Written.{written}
 use Rattle.theory_lists.specs.First.{firstWhere}
 use Rattle.base_codes.specs.Code.{code}
 use Rattle.theory_chains.specs.Fit.{fitFrom}
+use Rattle.theory_method.specs.Counted.{counted}
 use Rattle.theory_method.specs.Shift.{shiftFrom}
-use Rattle.theory_method.specs.Filter.{tightened, tightCeilings, tightFloors, raised, loweredFrom, carried, forwarded, shifted, held}
+use Rattle.theory_method.specs.Filter.{tightened, tightCeilings, tightFloors, raised, loweredFrom, carried, forwarded, shifted, spare, held}
 use Rattle.tighten_passes.specs.Round.{over, rounded, below}
 use Rattle.session.specs.Profile.{Profile}
 use Rattle.session.specs.Showing.{floorOn, ceilingOn, totalFloor, totalCeiling}
@@ -65,28 +66,32 @@ abbrev pub answers : Session → List Cut → List Answer
 answers s [] = []
 answers s (c ∷ cs) = let r : AfterCut = afterCut s c (s .days) in cutting r ∷ answers (r .session) cs
 
--- a profile by its days' ranges, its rises and its total's range
-abbrev pub starredProfile : List Range → List ℤ → Range → Profile
-starredProfile ds rs t =
-    let numbers : Numbers = numbersWith (length ds) (t .from) (t .to) in
+-- a profile by its first counted day, its days' ranges, its rises and its total's range; document 01's count from day 0 on
+abbrev pub profileFrom : ℕ → List Range → List ℤ → Range → Profile
+profileFrom first ds rs t =
+    let numbers : Numbers = numbersWith (length ds) first (t .from) (t .to) in
     profile numbers (map (λ (r : Range). r .from) ds) (map (λ (r : Range). r .to) ds) rs
 
+abbrev pub starredProfile : List Range → List ℤ → Range → Profile
+starredProfile = profileFrom 0
+
 -- the rounds that a day's ceiling v takes after r (document 01): one more while the overload is over the margin, at most as many as there is fuel
-unfoldable pub roundsFrom : (ℕ → ℕ) → ℕ → ℕ → ℕ → ℕ → ℕ → ℕ → ℕ
-roundsFrom a n i margin zero v r = r
-roundsFrom a n i margin (suc fuel) v r = cond (ltb margin (over a n i v)) (roundsFrom a n i margin fuel (rounded a n i margin v) (r + 1)) r
+unfoldable pub roundsFrom : (ℕ → Bool) → (ℕ → ℕ) → ℕ → ℕ → ℕ → ℕ → ℕ → ℕ → ℕ
+roundsFrom w a n i margin zero v r = r
+roundsFrom w a n i margin (suc fuel) v r = cond (ltb margin (over w a n i v)) (roundsFrom w a n i margin fuel (rounded w a n i margin v) (r + 1)) r
 
 -- the rounds that day i's ceiling takes at opening, over codes: only differences enter a round, so that these are the rounds of the points. The day starts
 -- from the smaller of its own ceiling and the next day's lowered one; each round lowers it, so that it is fuel enough
 abbrev pub roundsOn : Profile → ℕ → ℕ
 roundsOn p i =
     let n : ℕ = p .days in
+    let w : ℕ → Bool = counted (p .first) n in
     let rises : List ℕ = codes lowestRise (p .rises) (n - 1) in
     let floors : List ℕ = forwarded (codes lowestPoint (p .floors) n) rises n in
     let ceilings : List ℕ = codes lowestPoint (p .ceilings) n in
-    let margin : ℕ = code lowestTotal (p .highest) - held n (at floors) in
-    let start : ℕ = min (loweredFrom floors ceilings rises n margin (n - (i + 1))) (shifted ceilings rises n i) in
-    roundsFrom (shifted floors rises n) n i margin start start 0
+    let margin : ℕ = code lowestTotal (p .highest) - held n (p .first) (at floors) in
+    let start : ℕ = min (loweredFrom floors ceilings rises n w margin (n - (i + 1))) (shifted ceilings rises n i) in
+    roundsFrom w (shifted floors rises n) n i margin start start 0
 
 -- what opening a profile answers, then each cut, then how many rounds the days take that are asked for
 abbrev pub replies : Profile → List Cut → List ℕ → List Answer
@@ -154,6 +159,12 @@ table =
     -- J, and with rise -1
     ∷ opens (starredProfile (5 ⋯ 9 ∷ 0 ⋯ 4 ∷ []) flat (0 ⋯ 20)) (refused 8)
     ∷ opens (starredProfile (5 ⋯ 9 ∷ 0 ⋯ 4 ∷ []) (negsuc 0 ∷ []) (0 ⋯ 20)) (ranges (9 ⋯ 9) (5 ⋯ 5 ∷ 4 ⋯ 4 ∷ []))
+    -- of request One: K is A with day 0 not counted, L has floors that two rounds raise; and days that are not in the profile
+    ∷ opens (profileFrom 1 (2 ⋯ 6 ∷ 4 ⋯ 7 ∷ 4 ⋯ 7 ∷ []) (pos 0 ∷ pos 0 ∷ []) (10 ⋯ 12)) (ranges (10 ⋯ 12) (2 ⋯ 6 ∷ 4 ⋯ 6 ∷ 5 ⋯ 7 ∷ []))
+    ∷ opens (profileFrom 1 (0 ⋯ 5 ∷ 0 ⋯ 10 ∷ []) flat (8 ⋯ 10)) (ranges (8 ⋯ 10) (0 ⋯ 5 ∷ 8 ⋯ 10 ∷ []))
+    ∷ opens (profileFrom 2 (5 ⋯ 9 ∷ 0 ⋯ 4 ∷ []) flat (0 ⋯ 20)) (refused 13)
+    ∷ opens (profileFrom 1 (5 ⋯ 9 ∷ 0 ⋯ 4 ∷ []) flat (0 ⋯ 20)) (refused 8)
+    ∷ opens (profileFrom 3 (2 ⋯ 6 ∷ 4 ⋯ 7 ∷ 4 ⋯ 7 ∷ []) (pos 0 ∷ pos 0 ∷ []) (12 ⋯ 10)) (refused 6)
     ∷ []
 
 -- each row of the table gets the answers that it says
@@ -161,5 +172,5 @@ abbrev pub Starred : Type 0
 Starred = map (λ (r : Row). replies (r .given) (r .cuts) (r .asked)) table ≡ map (λ (r : Row). r .gives) table
 
 pub starred : Starred
-unfolding roundsFrom rounded below opened earlyOpening tightened tightCeilings tightFloors raised loweredFrom firstWhere carried written sumFor fitFrom shiftFrom afterCut earlyCutting clipped daysWhere
+unfolding counted spare roundsFrom rounded below opened earlyOpening tightened tightCeilings tightFloors raised loweredFrom firstWhere carried written sumFor fitFrom shiftFrom afterCut earlyCutting clipped daysWhere
 starred = refl

@@ -11,7 +11,8 @@ use Rattle.limits.specs.Limits.{lowestPoint, lowestRise, lowestTotal, lowestSet
 use Rattle.theory_lists.specs.Sum.{at}
 use Rattle.theory_lists.specs.Written.{written, written-below}
 use Rattle.theory_lists.specs.First.{first-same}
-use Rattle.theory_chains.specs.Sum.{sum, all}
+use Rattle.theory_chains.specs.Sum.{sum}
+use Rattle.theory_method.specs.Counted.{counted}
 use Rattle.theory_method.specs.Filter.{zeros}
 use Rattle.base_codes.specs.Code.{within, decoded, on, codeOrZero}
 use Rattle.base_codes.proofs.Offset.{Less, less-shift, less-add}
@@ -33,12 +34,12 @@ neither false false = refl
 outside-test : (low high z : ℤ) (m n x k : ℕ) → Less low m k → Less high n k → Less z x k → not (within low high z) ≡ outside m n x
 outside-test low high z m n x k p q r = ap not (within-test low high z m n x k p q r) ∙ neither (ltb x m) (ltb n x)
 
--- a level over the offset of a setpoint, and a held total over its own and that of n setpoints
+-- a level over the offset of a setpoint, and a held total over its own and that of m setpoints
 level : (v : ℕ) → Less (decoded lowestPoint v) (v + 31768) 32768
 level v = less-shift (decoded lowestPoint v) v 1000 31768 (decoded-less lowestPoint v 1000 point-less)
 
-held : (n v : ℕ) → Less (decoded lowestTotal v) (v + 32768 * n) (512000 + 32768 * n)
-held n v = less-shift (decoded lowestTotal v) v 512000 (32768 * n) (decoded-less lowestTotal v 512000 total-less)
+held : (m v : ℕ) → Less (decoded lowestTotal v) (v + 32768 * m) (512000 + 32768 * m)
+held m v = less-shift (decoded lowestTotal v) v 512000 (32768 * m) (decoded-less lowestTotal v 512000 total-less)
 
 -- n setpoints f, and their codes where they are stored
 pub setpoint-codes : (f : ℕ → ℤ) (n : ℕ) {xs : List ℕ} → n ≤ 512 → ((k : ℕ) → k < n → within lowestSetpoint highestSetpoint (f k) ≡ true)
@@ -60,18 +61,21 @@ module _ (s : Session) (x : List ℤ) (xs : List ℕ) (whole : length x ≡ s .d
       (less-shift (on x (k + 1)) (at xs (k + 1)) 32768 2000 (setpoint (k + 1) (omega arith)))
       (less-add (on x k) (riseOn s k) (at xs k) (at (s .rises) k) 32768 2000 (setpoint k (omega arith)) (decoded-less lowestRise (at (s .rises) k) 2000 rise-less))
 
-  sum-less : Less (total x) (sum all (s .days) (at xs) + 512000) (512000 + 32768 * s .days)
+  sum-less : Less (total (s .first) x) (sum (counted (s .first) (s .days)) (s .days) (at xs) + 512000) (512000 + 32768 * (s .days - s .first))
   sum-less =
-      let here : Less (total x) (sum all (length x) (at xs)) (length x * 32768) = Lists.total-less x (at xs) 32768 (λ k h. setpoint k (omega arith)) in
-      let both : s .days * 32768 + 512000 ≡ 512000 + 32768 * s .days = omega arith in
-      rw both at (less-shift (total x) (sum all (s .days) (at xs)) (s .days * 32768) 512000 (rw whole at here))
+      let count : ℕ = s .days - s .first in
+      let here : Less (total (s .first) x) (sum (counted (s .first) (s .days)) (s .days) (at xs)) (count * 32768) =
+      Lists.total-less (s .first) (s .days) x (at xs) 32768 whole setpoint in
+      let both : count * 32768 + 512000 ≡ 512000 + 32768 * count = omega arith in
+      rw both at (less-shift (total (s .first) x) (sum (counted (s .first) (s .days)) (s .days) (at xs)) (count * 32768) 512000 here)
 
-  total-test : brokenTotal s x ≡ totalOutside xs (s .days) (s .present .lowest) (s .present .highest)
+  total-test : brokenTotal s x ≡ totalOutside xs (s .days) (s .first) (s .present .lowest) (s .present .highest)
   total-test =
-      outside-test (totalFloor s) (totalCeiling s) (total x) (s .present .lowest + 32768 * s .days) (s .present .highest + 32768 * s .days)
-      (sum all (s .days) (at xs) + 512000) (512000 + 32768 * s .days) (held (s .days) (s .present .lowest)) (held (s .days) (s .present .highest)) sum-less
+      let count : ℕ = s .days - s .first in
+      outside-test (totalFloor s) (totalCeiling s) (total (s .first) x) (s .present .lowest + 32768 * count) (s .present .highest + 32768 * count)
+      (sum (counted (s .first) (s .days)) (s .days) (at xs) + 512000) (512000 + 32768 * count) (held count (s .present .lowest)) (held count (s .present .highest)) sum-less
 
-  pub judged-codes : judgedCodes xs (s .present .floors) (s .present .ceilings) (s .rises) (s .days) (s .present .lowest) (s .present .highest) ≡ judged s x
+  pub judged-codes : judgedCodes xs (s .present .floors) (s .present .ceilings) (s .rises) (s .days) (s .first) (s .present .lowest) (s .present .highest) ≡ judged s x
   unfolding judgedCodes judged
   judged-codes =
       rw (

@@ -2,12 +2,15 @@
 use mathlib.Core.Path.{_≡_}
 use mathlib.Core.Bool.{Bool, true, false}
 use mathlib.Core.List.{List}
-use Prim.Native.Nat.{ℕ, _-_, _≤_, _<_}
+use Prim.Native.Nat.{ℕ, _+_, _-_, _*_, _≤_, _<_}
 use lib.IntN.{ℤ}
 use lib.Dec.{ltb}
 use lib.ListN.{length}
 use borrow.Author.Tests.{eq-eqb, ne-eqb, lt-ltb, le-ltb}
+use Rattle.theory_lists.specs.Sum.{at}
 use Rattle.theory_lists.specs.First.{firstWhere}
+use Rattle.theory_chains.specs.Sum.{sum}
+use Rattle.theory_method.specs.Counted.{counted}
 use Rattle.session.specs.declared.Session.{Session}
 use Rattle.schedule_inspection.specs.Inspecting.{refused, kept, broken, judged, inspected}
 use Rattle.schedule_inspection.specs.Stages.{outside, dayOutside, fallen, totalOutside, judgedCodes}
@@ -21,6 +24,12 @@ module _ (low high x : ℕ) where
   pub not-below : low ≤ x → ltb high x ≡ outside low high x
   not-below h = let e : ltb x low ≡ false = le-ltb x low h in rw e
 
+-- ---- is_total_outside
+
+pub total-outside : (xs : List ℕ) (n first least most : ℕ) {s : ℕ} → s ≡ sum (counted first n) n (at xs)
+    → outside (least + 32768 * (n - first)) (most + 32768 * (n - first)) (s + 512000) ≡ totalOutside xs n first least most
+total-outside xs n first least most e = rw e
+
 -- ---- judge_codes
 
 -- no day is outside its range, and no rise is broken
@@ -31,21 +40,21 @@ pub record RisesKept (xs fs cs rs : List ℕ) (n : ℕ) : Type 0 where
   pub before : DaysKept xs fs cs n
   pub rises : n - 1 ≤ firstWhere (fallen xs rs) (n - 1)
 
-module _ (xs fs cs rs : List ℕ) (n least most : ℕ) where
-  pub day-broken : {day : ℕ} → day ≡ firstWhere (dayOutside xs fs cs) n → day < n → broken 1 day ≡ judgedCodes xs fs cs rs n least most
+module _ (xs fs cs rs : List ℕ) (n first least most : ℕ) where
+  pub day-broken : {day : ℕ} → day ≡ firstWhere (dayOutside xs fs cs) n → day < n → broken 1 day ≡ judgedCodes xs fs cs rs n first least most
   unfolding judgedCodes
   day-broken {day} e h = rw (← e, lt-ltb day n h)
 
-  pub rise-broken : DaysKept xs fs cs n → {rise : ℕ} → rise ≡ firstWhere (fallen xs rs) (n - 1) → rise < n - 1 → broken 2 rise ≡ judgedCodes xs fs cs rs n least most
+  pub rise-broken : DaysKept xs fs cs n → {rise : ℕ} → rise ≡ firstWhere (fallen xs rs) (n - 1) → rise < n - 1 → broken 2 rise ≡ judgedCodes xs fs cs rs n first least most
   unfolding judgedCodes
   rise-broken d {rise} e h = rw (le-ltb (firstWhere (dayOutside xs fs cs) n) n (d .days), ← e, lt-ltb rise (n - 1) h)
 
-  module _ (d : RisesKept xs fs cs rs n) {t : Bool} (e : t ≡ totalOutside xs n least most) where
-    pub total-broken : t ≡ true → broken 3 0 ≡ judgedCodes xs fs cs rs n least most
+  module _ (d : RisesKept xs fs cs rs n) {t : Bool} (e : t ≡ totalOutside xs n first least most) where
+    pub total-broken : t ≡ true → broken 3 0 ≡ judgedCodes xs fs cs rs n first least most
     unfolding judgedCodes
     total-broken h = rw (le-ltb (firstWhere (dayOutside xs fs cs) n) n (d .before .days), le-ltb (firstWhere (fallen xs rs) (n - 1)) (n - 1) (d .rises), ← e, h)
 
-    pub none-broken : t ≡ false → kept ≡ judgedCodes xs fs cs rs n least most
+    pub none-broken : t ≡ false → kept ≡ judgedCodes xs fs cs rs n first least most
     unfolding judgedCodes
     none-broken h = rw (le-ltb (firstWhere (dayOutside xs fs cs) n) n (d .before .days), le-ltb (firstWhere (fallen xs rs) (n - 1)) (n - 1) (d .rises), ← e, h)
 

@@ -25,9 +25,9 @@ brokenDay s x i = not (within (floorOn s i) (ceilingOn s i) (on x i))
 abbrev pub brokenRise : Session → List ℤ → ℕ → Bool
 brokenRise s x i = ltZ (on x (i + 1)) (on x i +ℤ riseOn s i)
 
--- the sum of the setpoints is outside the total's range
+-- the total is outside its range
 abbrev pub brokenTotal : Session → List ℤ → Bool
-brokenTotal s x = not (within (totalFloor s) (totalCeiling s) (total x))
+brokenTotal s x = not (within (totalFloor s) (totalCeiling s) (total (s .first) x))
 
 -- ---- the answer by numbers
 

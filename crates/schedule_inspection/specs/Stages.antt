@@ -7,7 +7,8 @@ use lib.Dec.{ltb}
 use Rattle.limits.specs.Limits.{riseOffset, totalOffset, setpointOffset, levelToSetpoint}
 use Rattle.theory_lists.specs.Sum.{at}
 use Rattle.theory_lists.specs.First.{firstWhere}
-use Rattle.theory_chains.specs.Sum.{sum, all}
+use Rattle.theory_chains.specs.Sum.{sum}
+use Rattle.theory_method.specs.Counted.{counted}
 use Rattle.schedule_inspection.specs.Inspecting.{Finding, kept, broken}
 
 -- x is outside the range from low to high
@@ -22,15 +23,16 @@ dayOutside xs fs cs k = outside (at fs k + levelToSetpoint) (at cs k + levelToSe
 abbrev pub fallen : List ℕ → List ℕ → ℕ → Bool
 fallen xs rs k = ltb (at xs (k + 1) + riseOffset) (at xs k + at rs k)
 
--- the sum of n setpoints is outside the total's range, which is held plus 512,000
-abbrev pub totalOutside : List ℕ → ℕ → ℕ → ℕ → Bool
-totalOutside xs n least most = outside (least + setpointOffset * n) (most + setpointOffset * n) (sum all n (at xs) + totalOffset)
+-- the sum of the counted setpoints of n days is outside the total's range, which is held plus 512,000
+abbrev pub totalOutside : List ℕ → ℕ → ℕ → ℕ → ℕ → Bool
+totalOutside xs n first least most =
+    outside (least + setpointOffset * (n - first)) (most + setpointOffset * (n - first)) (sum (counted first n) n (at xs) + totalOffset)
 
 -- the first broken rule
-unfoldable pub judgedCodes : List ℕ → List ℕ → List ℕ → List ℕ → ℕ → ℕ → ℕ → Finding
-judgedCodes xs fs cs rs n least most =
+unfoldable pub judgedCodes : List ℕ → List ℕ → List ℕ → List ℕ → ℕ → ℕ → ℕ → ℕ → Finding
+judgedCodes xs fs cs rs n first least most =
     let day : ℕ = firstWhere (dayOutside xs fs cs) n in
     let rise : ℕ = firstWhere (fallen xs rs) (n - 1) in
     cond (ltb day n) (broken 1 day)
     (cond (ltb rise (n - 1)) (broken 2 rise)
-    (cond (totalOutside xs n least most) (broken 3 0) kept))
+    (cond (totalOutside xs n first least most) (broken 3 0) kept))

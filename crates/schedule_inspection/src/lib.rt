@@ -56,13 +56,19 @@ fn is_fallen(setpoint: u16, next: u16, rise: u16) -> bool
     wide(next) + RISE_OFFSET < wide(setpoint) + wide(rise)
 }
 
-// Whether the sum of n setpoints is outside the total's range, which is held plus 512,000.
-fn is_total_outside(setpoints: &[u16; MOST_DAYS], n: usize, least: usize, most: usize) -> bool
-    requires { ⌜ (n ≤ mostDays) × (least ≤ highestTotalCode) × (most ≤ highestTotalCode) ⌝ }
-    ensures { λ r. ⌜ r ≡ totalOutside (now (setpoints .entry)) n least most ⌝ }
+// Whether the sum of the counted setpoints of n days, those from day `first` on, is outside the total's range, which is held plus 512,000.
+fn is_total_outside(
+    setpoints: &[u16; MOST_DAYS],
+    n: usize,
+    first: usize,
+    least: usize,
+    most: usize,
+) -> bool
+    requires { ⌜ (first ≤ n) × (n ≤ mostDays) × (least ≤ highestTotalCode) × (most ≤ highestTotalCode) ⌝ }
+    ensures { λ r. ⌜ r ≡ totalOutside (now (setpoints .entry)) n first least most ⌝ }
 {
-    let sum = base_arrays::sum(setpoints, n) + TOTAL_OFFSET;
-    let offset = SETPOINT_OFFSET * n;
+    let sum = base_arrays::counted_sum(setpoints, n, first) + TOTAL_OFFSET;
+    let offset = SETPOINT_OFFSET * (n - first);
     is_outside(sum, least + offset, most + offset)
 }
 
@@ -103,18 +109,19 @@ fn first_fallen(setpoints: &[u16; MOST_DAYS], rises: &[u16; MOST_DAYS], n: usize
     last
 }
 
-// The first broken rule of n setpoints, each held plus 32,768: days in order, then rises in order, then the total.
+// The first broken rule of n setpoints, each held plus 32,768: days in order, then rises in order, then the total of the days from day `first` on.
 pub fn judge_codes(
     setpoints: &[u16; MOST_DAYS],
     floors: &[u16; MOST_DAYS],
     ceilings: &[u16; MOST_DAYS],
     rises: &[u16; MOST_DAYS],
     n: usize,
+    first: usize,
     least: usize,
     most: usize,
 ) -> Inspection
-    requires { ⌜ (0 < n) × (n ≤ mostDays) × (least ≤ highestTotalCode) × (most ≤ highestTotalCode) ⌝ }
-    ensures { λ r. ⌜ finding r ≡ judgedCodes (now (setpoints .entry)) (now (floors .entry)) (now (ceilings .entry)) (now (rises .entry)) n least most ⌝ }
+    requires { ⌜ (first < n) × (n ≤ mostDays) × (least ≤ highestTotalCode) × (most ≤ highestTotalCode) ⌝ }
+    ensures { λ r. ⌜ finding r ≡ judgedCodes (now (setpoints .entry)) (now (floors .entry)) (now (ceilings .entry)) (now (rises .entry)) n first least most ⌝ }
 {
     let day = first_outside(setpoints, floors, ceilings, n);
     if day < n {
@@ -124,7 +131,7 @@ pub fn judge_codes(
     if rise < n - 1 {
         return Inspection::BrokenRise(rise);
     }
-    if is_total_outside(setpoints, n, least, most) {
+    if is_total_outside(setpoints, n, first, least, most) {
         return Inspection::BrokenTotal;
     }
     Inspection::Kept
@@ -147,6 +154,7 @@ fn judge(session: Session, list: &[i16]) -> Inspection
         &ceilings,
         &rises,
         session.days,
+        session.first,
         ranges.lowest,
         ranges.highest,
     )

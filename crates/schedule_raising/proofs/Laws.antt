@@ -3,10 +3,13 @@ use Prim.Native.Nat.{ℕ, suc, _+_, _-_, _≤_, _<_, min, max}
 use mathlib.Core.Path.{_≡_, refl, ap, sym, _∙_}
 use mathlib.Core.List.{List}
 use native.Mathlib.Omega.{arith}
+use mathlib.Core.Bool.{cond}
+use lib.Dec.{ltb}
 use lib.ListN.{set}
 use Rattle.theory_lists.specs.Sum.{at}
-use Rattle.theory_lists.specs.Written.{written, written-below, lastWritten, last-none, last-more, last-before, last-all}
+use Rattle.theory_lists.specs.Written.{written, written-below, written-same, written-own, lastWritten, last-none, last-more, last-before, last-front}
 use Rattle.theory_method.specs.Filter.{box, InBounds, held}
+use Rattle.theory_method.specs.Stages.{by-order}
 use Rattle.schedule_raising.specs.Raising.{raisedDay, raisedFrom, raisedTo}
 use Rattle.schedule_raising.specs.declared.Raised.{Raised}
 
@@ -60,21 +63,38 @@ module _ {fs cs rs : List ℕ} {n rest : ℕ} where
         left = h;
       }
 
-  pub raising-end : {out : List ℕ} {day : Raised} {k : ℕ} → Raising fs cs rs n rest out day k → k ≤ 0 → out ≡ written (λ j. raisedFrom fs cs rs n rest (n - j) .level) n fs
-  raising-end {k = k} p h =
-      let z : n - k ≡ n = omega arith in
-      (rw z at (p .made)) ∙ last-all (λ m. raisedFrom fs cs rs n rest m .level) (λ j. raisedFrom fs cs rs n rest (n - j) .level) n fs (λ j u. refl)
+  -- the days before the first counted one are as they were
+  pub raising-end : (first : ℕ) {out : List ℕ} {day : Raised} {k : ℕ} → Raising fs cs rs n rest out day k → first ≤ k → k ≤ first
+      → out ≡ written (λ j. cond (ltb j first) (at fs j) (raisedFrom fs cs rs n rest (n - j) .level)) n fs
+  raising-end first {out} {k = k} p l h =
+      let e : k ≡ first = omega arith in
+      let done : out ≡ lastWritten level n (n - first) fs = rw e at (p .made) in
+      sym (written-same here (at out) first out kept ∙ written-own 0 first out) ∙ ap (written here first) done
+      ∙ last-front level here n first fs (omega (arith, p .most)) (λ j a b. by-order (λ x. level (n - j) ≡ x) j first (λ u. absurd (omega arith)) (λ _. refl))
+    where
+      level : ℕ → ℕ
+      level m = raisedFrom fs cs rs n rest m .level
+
+      here : ℕ → ℕ
+      here j = cond (ltb j first) (at fs j) (raisedFrom fs cs rs n rest (n - j) .level)
+
+      kept : (j : ℕ) → j < first → here j ≡ at out j
+      kept j u =
+          let e : k ≡ first = omega arith in
+          by-order (λ x. x ≡ at out j) j first
+          (λ _. sym (ap (λ o. at o j) (p .made) ∙ last-before _ 0 n (n - k) fs j (omega (arith, p .most))))
+          (λ v. absurd (omega arith))
 
 -- a turn reads the floor x, the ceiling y and the rise z of the day before
-pub record Reading (fs cs rs : List ℕ) (n rest L U : ℕ) (out : List ℕ) (day : Raised) (k x y z : ℕ) : Type 0 where
-  pub bounds : InBounds (box fs cs rs n L U)
+pub record Reading (fs cs rs : List ℕ) (n first rest L U : ℕ) (out : List ℕ) (day : Raised) (k x y z : ℕ) : Type 0 where
+  pub bounds : InBounds (box fs cs rs n first L U)
   pub head : Raising fs cs rs n rest out day k
-  pub more : 0 < k
+  pub more : first < k
   pub floor : x ≡ at out (k - 1)
   pub ceiling : y ≡ at cs (k - 1)
   pub rise : z ≡ at rs (k - 1)
 
-module _ {fs cs rs : List ℕ} {n rest L U : ℕ} {out : List ℕ} {day : Raised} {k x y z : ℕ} (d : Reading fs cs rs n rest L U out day k x y z) where
+module _ {fs cs rs : List ℕ} {n first rest L U : ℕ} {out : List ℕ} {day : Raised} {k x y z : ℕ} (d : Reading fs cs rs n first rest L U out day k x y z) where
   abbrev before-last : k - 1 < n
   before-last = omega (arith, d .more, d .head .most)
 
@@ -115,15 +135,16 @@ module _ {fs cs rs : List ℕ} {n rest L U : ℕ} {out : List ℕ} {day : Raised
 
 -- ---- the raised levels, as they stand in an array
 
-module _ {fs cs rs : List ℕ} {n L U : ℕ} (b : InBounds (box fs cs rs n L U)) where
+module _ {fs cs rs : List ℕ} {n first L U : ℕ} (b : InBounds (box fs cs rs n first L U)) where
   level-small : (rest k : ℕ) → k < n → raisedFrom fs cs rs n rest (n - k) .level ≤ 5000
   level-small rest k h =
       rw (raised-at fs cs rs n rest k h)
       (omega (arith, day-level (at fs k) (at cs k) (at rs k) (raisedFrom fs cs rs n rest (n - (k + 1))), b .floor k h, b .ceiling k h))
 
-  module _ (t : ℕ) {out : List ℕ} (e : out ≡ written (raisedTo fs cs rs n t) n fs) where
-    pub raised-stands : (k : ℕ) → k < n → at out k ≡ raisedTo fs cs rs n t k
-    raised-stands k h = rw e (written-below (raisedTo fs cs rs n t) 0 n fs k h (omega (arith, b .floors, b .most)))
+  module _ (t : ℕ) {out : List ℕ} (e : out ≡ written (raisedTo fs cs rs n first t) n fs) where
+    pub raised-stands : (k : ℕ) → k < n → at out k ≡ raisedTo fs cs rs n first t k
+    raised-stands k h = rw e (written-below (raisedTo fs cs rs n first t) 0 n fs k h (omega (arith, b .floors, b .most)))
 
     pub raised-small : (k : ℕ) → k < n → at out k ≤ 5000
-    raised-small k h = omega (arith, raised-stands k h, level-small (t - held n (at fs)) k h)
+    raised-small k h =
+        omega (arith, raised-stands k h, by-order (λ x. x ≤ 5000) k first (λ _. b .floor k h) (λ _. level-small (t - held n first (at fs)) k h))

@@ -1,5 +1,7 @@
 -- Floors raised to a total, in levels, from the last day on. Which schedule this makes need not be believed: that it is one is `Writing` of promises.
+use mathlib.Core.Bool.{cond}
 use mathlib.Core.List.{List}
+use lib.Dec.{ltb}
 use Prim.Native.Nat.{ℕ, zero, suc, _+_, _-_, min, max}
 use Rattle.limits.specs.Limits.{riseOffset, freeLevel}
 use Rattle.theory_lists.specs.Sum.{at}
@@ -18,6 +20,6 @@ unfoldable pub raisedFrom : List ℕ → List ℕ → List ℕ → ℕ → ℕ �
 raisedFrom fs cs rs n rest zero = record { level = freeLevel; rest = rest }
 raisedFrom fs cs rs n rest (suc m) = raisedDay (at fs (n - suc m)) (at cs (n - suc m)) (at rs (n - suc m)) (raisedFrom fs cs rs n rest m)
 
--- the level of day k, where the floors are raised until the held total is t
-abbrev pub raisedTo : List ℕ → List ℕ → List ℕ → ℕ → ℕ → ℕ → ℕ
-raisedTo fs cs rs n t k = raisedFrom fs cs rs n (t - held n (at fs)) (n - k) .level
+-- the level of day k, where the floors of the counted days are raised until the held total is t; a day before them stays at its floor
+abbrev pub raisedTo : List ℕ → List ℕ → List ℕ → ℕ → ℕ → ℕ → ℕ → ℕ
+raisedTo fs cs rs n first t k = cond (ltb k first) (at fs k) (raisedFrom fs cs rs n (t - held n first (at fs)) (n - k) .level)

@@ -51,31 +51,32 @@ fn level_of(day: Raised) -> u16
 }
 
 // What the floors' sum lacks of the total, or 0.
-fn lack(floors: &[u16; MOST_DAYS], n: usize, total: usize) -> usize
-    requires { ⌜ n ≤ mostDays ⌝ }
-    ensures { λ r. ⌜ (r ≡ total - held n (at (now (floors .entry)))) × (r ≤ total) ⌝ }
+fn lack(floors: &[u16; MOST_DAYS], n: usize, first: usize, total: usize) -> usize
+    requires { ⌜ (first ≤ n) × (n ≤ mostDays) ⌝ }
+    ensures { λ r. ⌜ (r ≡ total - held n first (at (now (floors .entry)))) × (r ≤ total) ⌝ }
 {
-    let sum = base_arrays::held_total(floors, n);
+    let sum = base_arrays::held_total(floors, n, first);
     if total < sum { 0 } else { total - sum }
 }
 
-// Raises the floors, from the last day on, until their sum is the total.
+// Raises the floors of the counted days, from the last day on, until their sum is the total.
 pub fn raise_to(
     floors: &mut [u16; MOST_DAYS],
     ceilings: &[u16; MOST_DAYS],
     rises: &[u16; MOST_DAYS],
     n: usize,
+    first: usize,
     total: usize,
 )
-    requires { ⌜ InBounds (box (now floors) (now ceilings) (now rises) n 0 total) ⌝ }
-    ensures { λ _. ⌜ now (floors .exit) ≡ written (raisedTo (now (floors .entry)) (now (ceilings .entry)) (now (rises .entry)) n total) n (now (floors .entry)) ⌝ }
+    requires { ⌜ InBounds (box (now floors) (now ceilings) (now rises) n first 0 total) ⌝ }
+    ensures { λ _. ⌜ now (floors .exit) ≡ written (raisedTo (now (floors .entry)) (now (ceilings .entry)) (now (rises .entry)) n first total) n (now (floors .entry)) ⌝ }
 {
     let mut day = Raised {
         level: FREE_LEVEL,
-        rest: lack(floors, n, total),
+        rest: lack(floors, n, first, total),
     };
     let mut k = n;
-    while 0 < k {
+    while first < k {
         k -= 1;
         day = raise_day(wide(floors[k]), wide(ceilings[k]), wide(rises[k]), day);
         floors[k] = level_of(day);

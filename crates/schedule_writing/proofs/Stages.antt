@@ -26,7 +26,7 @@ use Rattle.schedule_writing.proofs.Levels.{Standing, raised-standing, t
 -- ---- a session's ranges, and a value that was checked by them
 
 -- the present ranges, with a total to raise to
-pub present-bounds : {s : Session} {t : ℕ} → SessionInBounds s → t ≤ 2560000 → InBounds (box (s .present .floors) (s .present .ceilings) (s .rises) (s .days) 0 t)
+pub present-bounds : {s : Session} {t : ℕ} → SessionInBounds s → t ≤ 2560000 → InBounds (box (s .present .floors) (s .present .ceilings) (s .rises) (s .days) (s .first) 0 t)
 present-bounds bounds = let b = bounds .present in refit b (b .floors) (b .ceilings) (b .floor) (b .ceiling) (omega arith)
 
 -- a value by the present range, which does not refuse it
@@ -43,7 +43,7 @@ pub record TotalTaken (s : Session) (value : ℤ) (q : Checked) : Type 0 where
 
 -- so it is what writing asks for, and the levels written are the schedule's
 module _ {s : Session} {day : ℕ} {value : ℤ} {q : Checked} (d : DayTaken s day value q) where
-  pub day-asks : InBounds (box (s .present .floors) (s .present .ceilings) (s .rises) (s .days) 0 (s .present .lowest)) × (day < s .days) × (q .code ≤ 5000)
+  pub day-asks : InBounds (box (s .present .floors) (s .present .ceilings) (s .rises) (s .days) (s .first) 0 (s .present .lowest)) × (day < s .days) × (q .code ≤ 5000)
   day-asks =
       let b = d .bounds .present in (
         present-bounds (d .bounds) (b .lowest),
@@ -51,16 +51,16 @@ module _ {s : Session} {day : ℕ} {value : ℤ} {q : Checked} (d : DayTaken s d
         omega (arith, taken-most lowestPoint value _ _ _ (d .right) (d .none) 1000 point-less, b .ceiling day (d .known)),
       )
 
-  pub day-standing : {out : List ℕ} → out ≡ written (levelsThrough (s .present .floors) (s .present .ceilings) (s .rises) (s .days) (s .present .lowest) day (q .code)) (s .days) (s .present .floors)
+  pub day-standing : {out : List ℕ} → out ≡ written (levelsThrough (s .present .floors) (s .present .ceilings) (s .rises) (s .days) (s .first) (s .present .lowest) day (q .code)) (s .days) (s .present .floors)
       → Standing (dayLevels s day value) (s .days) out
   unfolding dayLevels
   day-standing e = rw (← taken-code lowestPoint value _ _ _ (d .right) (d .none)) (through-standing (day-asks .0) (d .known) (day-asks .2) e)
 
 module _ {s : Session} {value : ℤ} {q : Checked} (d : TotalTaken s value q) where
-  pub total-asks : InBounds (box (s .present .floors) (s .present .ceilings) (s .rises) (s .days) 0 (q .code))
+  pub total-asks : InBounds (box (s .present .floors) (s .present .ceilings) (s .rises) (s .days) (s .first) 0 (q .code))
   total-asks = present-bounds (d .bounds) (omega (arith, taken-most lowestTotal value _ _ _ (d .right) (d .none) 512000 total-less, d .bounds .present .highest))
 
-  pub total-standing : {out : List ℕ} → out ≡ written (raisedTo (s .present .floors) (s .present .ceilings) (s .rises) (s .days) (q .code)) (s .days) (s .present .floors)
+  pub total-standing : {out : List ℕ} → out ≡ written (raisedTo (s .present .floors) (s .present .ceilings) (s .rises) (s .days) (s .first) (q .code)) (s .days) (s .present .floors)
       → Standing (totalLevels s value) (s .days) out
   unfolding totalLevels
   total-standing e = rw (← taken-code lowestTotal value _ _ _ (d .right) (d .none)) (raised-standing total-asks e)

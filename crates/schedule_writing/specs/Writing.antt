@@ -37,18 +37,18 @@ totalWriteRefusal s value room =
 
 -- with the total's value: the present floors, raised to it
 unfoldable pub totalLevels : Session → ℤ → ℕ → ℕ
-totalLevels s value = raisedTo (s .present .floors) (s .present .ceilings) (s .rises) (s .days) (code lowestTotal value)
+totalLevels s value = raisedTo (s .present .floors) (s .present .ceilings) (s .rises) (s .days) (s .first) (code lowestTotal value)
 
 -- with a level on a day: it is the day's floor and ceiling, the floors are carried forward, and raised to the total's floor where their sum is below it
-abbrev pub levelsThrough : List ℕ → List ℕ → List ℕ → ℕ → ℕ → ℕ → ℕ → ℕ → ℕ
-levelsThrough floors ceilings rises n lowest day level =
+abbrev pub levelsThrough : List ℕ → List ℕ → List ℕ → ℕ → ℕ → ℕ → ℕ → ℕ → ℕ → ℕ
+levelsThrough floors ceilings rises n first lowest day level =
     let fs : List ℕ = set floors day level in
     let cs : List ℕ = set ceilings day level in
-    raisedTo (forwarded fs rises (firstCrossed (carried fs rises) (at cs) n)) cs rises n lowest
+    raisedTo (forwarded fs rises (firstCrossed (carried fs rises) (at cs) n)) cs rises n first lowest
 
 -- with a day's value: the present floors, with the value's level on the day
 unfoldable pub dayLevels : Session → ℕ → ℤ → ℕ → ℕ
-dayLevels s day value = levelsThrough (s .present .floors) (s .present .ceilings) (s .rises) (s .days) (s .present .lowest) day (code lowestPoint value)
+dayLevels s day value = levelsThrough (s .present .floors) (s .present .ceilings) (s .rises) (s .days) (s .first) (s .present .lowest) day (code lowestPoint value)
 
 -- ---- the lent list afterwards: as it was beside a refusal, else the schedule
 

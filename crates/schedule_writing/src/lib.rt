@@ -84,18 +84,19 @@ pub fn write_through(
     ceilings: &mut [u16; MOST_DAYS],
     rises: &[u16; MOST_DAYS],
     n: usize,
+    first: usize,
     lowest: usize,
     day: usize,
     level: usize,
 )
-    requires { ⌜ InBounds (box (now floors) (now ceilings) (now rises) n 0 lowest) × (day < n) × (level ≤ highestLevel) ⌝ }
-    ensures { λ _. ⌜ now (floors .exit) ≡ written (levelsThrough (now (floors .entry)) (now (ceilings .entry)) (now (rises .entry)) n lowest day level) n (now (floors .entry)) ⌝ }
+    requires { ⌜ InBounds (box (now floors) (now ceilings) (now rises) n first 0 lowest) × (day < n) × (level ≤ highestLevel) ⌝ }
+    ensures { λ _. ⌜ now (floors .exit) ≡ written (levelsThrough (now (floors .entry)) (now (ceilings .entry)) (now (rises .entry)) n first lowest day level) n (now (floors .entry)) ⌝ }
     ensures { λ _. ⌜ now (ceilings .exit) ≡ set (now (ceilings .entry)) day level ⌝ }
 {
     set_level(floors, day, level);
     set_level(ceilings, day, level);
     tighten_carry::carry(floors, ceilings, rises, n);
-    schedule_raising::raise_to(floors, ceilings, rises, n, lowest);
+    schedule_raising::raise_to(floors, ceilings, rises, n, first, lowest);
 }
 
 // Writes a schedule with this value on this day. Document 01's checks 2, 7, 9, 10.
@@ -124,6 +125,7 @@ pub fn write_day(session: Session, day: usize, value: i32, list: &mut [i16]) -> 
         &mut ceilings,
         &rises,
         n,
+        session.first,
         ranges.lowest,
         day,
         level.code,
@@ -150,7 +152,7 @@ pub fn write_total(session: Session, value: i32, list: &mut [i16]) -> u8
     let rises = session.rises;
     let mut floors = ranges.floors;
     let ceilings = ranges.ceilings;
-    schedule_raising::raise_to(&mut floors, &ceilings, &rises, n, total.code);
+    schedule_raising::raise_to(&mut floors, &ceilings, &rises, n, session.first, total.code);
     base_codes::decode_all(&floors, n, Session::LOWEST_POINT, list);
     0
 }

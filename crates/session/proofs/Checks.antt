@@ -18,15 +18,15 @@ use Rattle.base_codes.specs.Code.{within, code, on, every, codeOrZero}
 use Rattle.base_codes.proofs.Every.{not-both, codes-inside}
 use Rattle.base_codes.proofs.Order.{less-test}
 use Rattle.base_codes.specs.declared.CodedNumbers.{CodedNumbers}
-use Rattle.theory_method.specs.Filter.{Box, Tight, InBounds, firstCrossed, zeros}
+use Rattle.theory_method.specs.Filter.{Box, Tight, InBounds, allCounted, firstCrossed, zeros}
 use Rattle.theory_method.specs.Stages.{Crossing, crossing}
 use Rattle.tighten_filtering.specs.Boxed.{boxed}
 use Rattle.session.specs.Profile.{Profile}
-use Rattle.session.specs.Opening.{boxIn, narrowed, numbersOf, openedWith, crossed, earlyOpening, opened, refusedWith, codes, badCount, badLength, badPoint, badRise, badTotal, badRange}
-use Rattle.session.specs.Stages.{lengthsOf, codedNumbers, notCoded, codedWith, codedProfile, codedList, codesCrossed, noRanges, rangesWith, rangesOpened, sessionWith, openedCodes}
+use Rattle.session.specs.Opening.{boxIn, narrowed, numbersOf, openedWith, crossed, earlyOpening, opened, refusedWith, codes, badCount, badLength, badPoint, badRise, badTotal, badRange, badFirst}
+use Rattle.session.specs.Stages.{lengthsOf, codedNumbers, notCoded, codedWith, codedProfile, codedList, codesCrossed, rangeRefusal, noRanges, rangesWith, rangesOpened, sessionWith, openedCodes}
 use Rattle.session.specs.declared.CodedProfile.{CodedProfile}
-use Rattle.session.proofs.Stages.{crossed-told}
-use Rattle.session.proofs.Entered.{Entered, Sized, sized, Unrefused, passed, codes-bounds, or-true, floor-less, ceiling-less, lowest-less, highest-less}
+use Rattle.session.proofs.Stages.{judged}
+use Rattle.session.proofs.Entered.{Entered, Sized, sized, Unrefused, countingAll, passed-all, codes-bounds, or-true, floor-less, ceiling-less, lowest-less, highest-less}
 
 -- ---- a floor above its ceiling
 
@@ -89,9 +89,8 @@ all-false m false false false true t e = absurd (omega arith)
 all-false m false false false false true e = absurd (omega arith)
 all-false m false false false false false e = (refl, refl, refl, refl, refl, refl)
 
-same-ladder : (m : CodedNumbers) (a b c d t x : Bool)
-    → cond a 1 (cond b 2 (cond c 3 (cond d 4 (cond t 5 (cond x 6 0)))))
-    ≡ cond (eqb (ladder m a b c d t .refusal) 0) (cond x 6 0) (ladder m a b c d t .refusal)
+same-ladder : (m : CodedNumbers) (a b c d t : Bool) (x : ℕ)
+    → cond a 1 (cond b 2 (cond c 3 (cond d 4 (cond t 5 x)))) ≡ cond (eqb (ladder m a b c d t .refusal) 0) x (ladder m a b c d t .refusal)
 same-ladder m true b c d t x = refl
 same-ladder m false true c d t x = refl
 same-ladder m false false true d t x = refl
@@ -142,9 +141,9 @@ module _ (p : Profile) where
         h ∙ (rw (told, t) numbers-coded)
 
   -- the checks before 8, by what 1 to 5 say
-  pub early : earlyOpening p ≡ cond (eqb (codedProfile p .refusal) 0) (cond (badRange p) 6 0) (codedProfile p .refusal)
+  pub early : earlyOpening p ≡ cond (eqb (codedProfile p .refusal) 0) (cond (badRange p) 6 (cond (badFirst p) 13 0)) (codedProfile p .refusal)
   unfolding earlyOpening codedProfile codedWith
-  early = same-ladder (codedNumbers (numbersOf p)) (badCount p) (badLength p) (badPoint p) (badRise p) (badTotal p) (badRange p)
+  early = same-ladder (codedNumbers (numbersOf p)) (badCount p) (badLength p) (badPoint p) (badRise p) (badTotal p) (cond (badRange p) 6 (cond (badFirst p) 13 0))
 
   -- 1 to 5 are passed, and the numbers are coded
   pub all-passed : codedProfile p .refusal ≡ 0 → Unrefused p × (codedProfile p .numbers ≡ codedNumbers (numbersOf p))
@@ -154,6 +153,9 @@ module _ (p : Profile) where
       (record { count = f .0; lengths = f .1; points = f .2; rises = f .3; totals = f .4 }, f .5)
 
   module _ (u : Unrefused p) where
+    codes-test : badRange p ≡ codesCrossed (codes lowestPoint (p .floors) (p .days)) (codes lowestPoint (p .ceilings) (p .days)) (p .days) (code lowestTotal (p .lowest)) (code lowestTotal (p .highest))
+    codes-test = range-test (countingAll p) (passed-all p u)
+
     lengths-right : lengthsOf p ≡ 0
     lengths-right = rw (u .count, u .lengths)
 
@@ -165,13 +167,15 @@ module _ (p : Profile) where
     codes-opened : openedCodes (boxIn p) ≡ opened p
     unfolding openedCodes rangesOpened opened earlyOpening
     codes-opened =
-        rw (u .count, u .lengths, u .points, u .rises, u .totals, sym (range-test p (passed p u)))
-        (go (badRange p))
+        rw (u .count, u .lengths, u .points, u .rises, u .totals, sym codes-test)
+        (go (badRange p) (badFirst p))
       where
-        go : (x : Bool) → sessionWith (boxIn p) (cond x (noRanges 6 (boxIn p .floors) (boxIn p .ceilings)) (rangesWith (narrowed p)))
-            ≡ cond (eqb (cond x 6 0) 0) (openedWith (boxIn p) (narrowed p)) (refusedWith (cond x 6 0))
-        go true = refl
-        go false = tight-session (boxIn p) (narrowed p)
+        go : (x y : Bool)
+            → sessionWith (boxIn p) (cond x (noRanges 6 (boxIn p .floors) (boxIn p .ceilings)) (cond y (noRanges 13 (boxIn p .floors) (boxIn p .ceilings)) (rangesWith (narrowed p))))
+            ≡ cond (eqb (cond x 6 (cond y 13 0)) 0) (openedWith (boxIn p) (narrowed p)) (refusedWith (cond x 6 (cond y 13 0)))
+        go true y = refl
+        go false true = refl
+        go false false = tight-session (boxIn p) (narrowed p)
 
 -- ---- a profile by what coding gave, and what its arrays hold
 
@@ -208,20 +212,18 @@ module _ {p : Profile} {fs cs rs : List ℕ} {r : CodedProfile} (d : CodedArrays
     pub days-kept : r .numbers .days ≡ p .days
     days-kept = ap (λ b. b .days) same
 
-    pub in-bounds : InBounds (boxed fs cs rs (r .numbers))
-    in-bounds = rw same (codes-bounds p (passed p (passes .0)))
+    pub in-bounds : InBounds (allCounted (boxed fs cs rs (r .numbers)))
+    in-bounds =
+        let e : allCounted (boxed fs cs rs (r .numbers)) ≡ boxIn (countingAll p) = ap (λ b. allCounted b) same in
+        rw e (codes-bounds (countingAll p) (passed-all p (passes .0)))
 
     pub all-opened : openedCodes (boxed fs cs rs (r .numbers)) ≡ opened p
     all-opened = rw same (codes-opened p (passes .0))
 
-    module _ {days x : Bool} (told : days ≡ ltb (firstCrossed (at fs) (at cs) (r .numbers .days)) (r .numbers .days)) (asked : x ≡ (days || ltb (r .numbers .highest) (r .numbers .lowest))) where
-      early-range : earlyOpening p ≡ cond x 6 0
-      early-range =
-          let e = crossed-told fs cs (r .numbers .days) (r .numbers .lowest) (r .numbers .highest) told asked ∙ ap (λ b. codesCrossed (b .floors) (b .ceilings) (b .days) (b .lowest) (b .highest)) same in
-          rw (early p, ← d .answer, eq-eqb (r .refusal) 0 h, e, ← range-test p (passed p (passes .0)))
-
-      pub early-crossed : x ≡ true → 6 ≡ earlyOpening p
-      early-crossed t = rw (early-range, t)
-
-      pub early-clear : x ≡ false → 0 ≡ earlyOpening p
-      early-clear t = rw (early-range, t)
+    pub early-range : {days : Bool} {x : ℕ} → days ≡ ltb (firstCrossed (at fs) (at cs) (r .numbers .days)) (r .numbers .days) → x ≡ rangeRefusal days (r .numbers) → x ≡ earlyOpening p
+    early-range told asked =
+        let e = judged fs cs rs (r .numbers) told asked ∙ ap judge same in
+        rw (early p, ← d .answer, eq-eqb (r .refusal) 0 h, codes-test p (passes .0)) e
+      where
+        judge : Box → ℕ
+        judge b = cond (codesCrossed (b .floors) (b .ceilings) (b .days) (b .lowest) (b .highest)) 6 (cond (not (ltb (b .first) (b .days))) 13 0)

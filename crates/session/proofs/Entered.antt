@@ -8,7 +8,7 @@ use native.Mathlib.Decide.{decLt}
 use lib.IntN.{ℤ}
 use lib.Dec.{eqb}
 use lib.ListN.{length, length-replicate, getD-replicate}
-use borrow.Author.Tests.{not-false, ltb-false, eqb-true, eqb-false}
+use borrow.Author.Tests.{not-false, ltb-true, ltb-false, eqb-true, eqb-false}
 use Rattle.limits.specs.Limits.{lowestPoint, highestPoint, lowestRise, highestRise, lowestTotal, highestTotal}
 use Rattle.theory_lists.specs.Checks.{cond-zero, or-false}
 use Rattle.theory_lists.specs.Sum.{at}
@@ -19,7 +19,7 @@ use Rattle.base_codes.proofs.Offset.{Less}
 use Rattle.base_codes.proofs.Laws.{point-less, rise-less, total-less, within-less, point-most, rise-most, total-most}
 use Rattle.theory_method.specs.Filter.{InBounds, zeros}
 use Rattle.session.specs.Profile.{Profile}
-use Rattle.session.specs.Opening.{boxIn, earlyOpening, badCount, badLength, badPoint, badRise, badTotal, codes}
+use Rattle.session.specs.Opening.{boxIn, earlyOpening, badCount, badLength, badPoint, badRise, badTotal, badRange, badFirst, codes}
 
 pub or-true : (a b : Bool) → b ≡ true → (a || b) ≡ true
 or-true true b e = refl
@@ -50,9 +50,10 @@ sized p c1 c2 =
       rises = eqb-true _ _ (lengths .1);
     }
 
--- what 1 to 5 let pass
+-- what 1 to 5 and 13 let pass
 pub record Entered (p : Profile) : Type 0 where
   pub sized : Sized p
+  pub counts : p .first < p .days
   pub floor : (k : ℕ) → k < p .days → within lowestPoint highestPoint (on (p .floors) k) ≡ true
   pub ceiling : (k : ℕ) → k < p .days → within lowestPoint highestPoint (on (p .ceilings) k) ≡ true
   pub rise : (k : ℕ) → k < p .days - 1 → within lowestRise highestRise (on (p .rises) k) ≡ true
@@ -67,20 +68,30 @@ pub record Unrefused (p : Profile) : Type 0 where
   pub rises : badRise p ≡ false
   pub totals : badTotal p ≡ false
 
-pub passed : (p : Profile) → Unrefused p → Entered p
-passed p u =
+pub passed : (p : Profile) → Unrefused p → p .first < p .days → Entered p
+passed p u counts =
     let point : ℤ → Bool = within lowestPoint highestPoint in
     let z = sized p (u .count) (u .lengths) in
     let points = and-eq-true-iff (every point (p .floors)) (every point (p .ceilings)) .0 (not-false _ (u .points)) in
     let totals = and-eq-true-iff (within lowestTotal highestTotal (p .lowest)) (within lowestTotal highestTotal (p .highest)) .0 (not-false _ (u .totals)) in
     record {
       sized = z;
+      counts = counts;
       floor = λ k h. every-on point (p .floors) (points .0) k (omega (arith, z .floors));
       ceiling = λ k h. every-on point (p .ceilings) (points .1) k (omega (arith, z .ceilings));
       rise = λ k h. every-on (within lowestRise highestRise) (p .rises) (not-false _ (u .rises)) k (omega (arith, z .rises));
       lowest = totals .0;
       highest = totals .1;
     }
+
+-- the profile with every day counted: what 1 to 5 let pass of it does not wait for 13
+abbrev pub countingAll : Profile → Profile
+countingAll p = record { days = p .days; first = 0; floors = p .floors; ceilings = p .ceilings; rises = p .rises; lowest = p .lowest; highest = p .highest }
+
+pub passed-all : (p : Profile) → Unrefused p → Entered (countingAll p)
+passed-all p u =
+    passed (countingAll p) (record { count = u .count; lengths = u .lengths; points = u .points; rises = u .rises; totals = u .totals })
+    (sized p (u .count) (u .lengths) .some)
 
 pub entered : (p : Profile) → earlyOpening p ≡ 0 → Entered p
 unfolding earlyOpening
@@ -90,7 +101,9 @@ entered p e =
     let c3 = cond-zero (badPoint p) 2 _ (c2 .1) in
     let c4 = cond-zero (badRise p) 3 _ (c3 .1) in
     let c5 = cond-zero (badTotal p) 4 _ (c4 .1) in
-    passed p (record { count = c1 .0; lengths = c2 .0; points = c3 .0; rises = c4 .0; totals = c5 .0 })
+    let c6 = cond-zero (badRange p) 5 _ (c5 .1) in
+    let c13 = cond-zero (badFirst p) 12 _ (c6 .1) in
+    passed p (record { count = c1 .0; lengths = c2 .0; points = c3 .0; rises = c4 .0; totals = c5 .0 }) (ltb-true _ _ (not-false _ (c13 .0)))
 
 -- ---- the codes
 
@@ -120,7 +133,7 @@ module _ (p : Profile) (d : Entered p) where
 
   pub codes-bounds : InBounds (boxIn p)
   codes-bounds = record {
-    some = d .sized .some;
+    counts = d .counts;
     most = d .sized .few;
     floors = length-codes lowestPoint (p .floors) (p .days);
     ceilings = length-codes lowestPoint (p .ceilings) (p .days);

@@ -14,24 +14,25 @@ use Rattle.base_codes.specs.Code.{code}
 use Rattle.theory_method.specs.Filter.{zeros}
 use Rattle.theory_method.proofs.Exact.{exact, exact-in-bounds}
 use Rattle.session.specs.Profile.{Profile}
-use Rattle.session.specs.Opening.{boxIn, earlyOpening, badCount, badLength, badPoint, badRise, badTotal, badRange, opened, openedWith, refusedWith, narrowed, allZero}
+use Rattle.session.specs.Opening.{boxIn, earlyOpening, badCount, badLength, badPoint, badRise, badTotal, badRange, badFirst, opened, openedWith, refusedWith, narrowed, allZero}
 use Rattle.session.specs.Showing.{Fits, SessionInBounds}
 use Rattle.session.proofs.Entered.{entered, codes-bounds}
 
 -- ---- its refusal
 
-pub earlier-few : (p : Profile) → earlyOpening p ≤ 6
+pub early-not-8 : (p : Profile) → earlyOpening p ≡ 8 → ⊥
 unfolding earlyOpening
-earlier-few p = go (badCount p) (badLength p) (badPoint p) (badRise p) (badTotal p) (badRange p)
+early-not-8 p = go (badCount p) (badLength p) (badPoint p) (badRise p) (badTotal p) (badRange p) (badFirst p)
   where
-    go : (a b c d e f : Bool) → cond a 1 (cond b 2 (cond c 3 (cond d 4 (cond e 5 (cond f 6 0))))) ≤ 6
-    go true b c d e f = omega arith
-    go false true c d e f = omega arith
-    go false false true d e f = omega arith
-    go false false false true e f = omega arith
-    go false false false false true f = omega arith
-    go false false false false false true = omega arith
-    go false false false false false false = omega arith
+    go : (a b c d e f g : Bool) → cond {A = ℕ} a 1 (cond b 2 (cond c 3 (cond d 4 (cond e 5 (cond f 6 (cond g 13 0)))))) ≡ 8 → ⊥
+    go true b c d e f g h = omega arith
+    go false true c d e f g h = omega arith
+    go false false true d e f g h = omega arith
+    go false false false true e f g h = omega arith
+    go false false false false true f g h = omega arith
+    go false false false false false true g h = omega arith
+    go false false false false false false true h = omega arith
+    go false false false false false false false h = omega arith
 
 -- other than 8 it is what the checks before 8 say
 pub opened-refusal : (p : Profile) → (opened p .refusal ≡ 8 → ⊥) → opened p .refusal ≡ earlyOpening p
@@ -45,13 +46,13 @@ opened-refusal p h = go (eqb (earlyOpening p) 0) (narrowed p .found) refl refl
 
 -- ---- its session
 
-one-day : Fits zeros 1 allZero
+one-day : Fits zeros 1 0 allZero
 one-day =
     let wide = length-written (λ (k : ℕ). code lowestPoint (pos 0)) 1 zeros ∙ length-replicate {A = ℕ} 512 0 in
     let first : (k : ℕ) → k < 1 → at (written (λ (j : ℕ). code lowestPoint (pos 0)) 1 zeros) k ≤ 5000 =
     λ k h. omega (arith, written-below (λ (j : ℕ). code lowestPoint (pos 0)) 0 1 zeros k h (omega (arith, length-replicate {A = ℕ} 512 0))) in
     record {
-      some = omega arith;
+      counts = omega arith;
       most = omega arith;
       floors = wide;
       ceilings = wide;

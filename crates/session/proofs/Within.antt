@@ -6,5 +6,5 @@ use Rattle.session.specs.Showing.{boxOf}
 use Rattle.session.specs.declared.Ranges.{Ranges}
 
 -- n days' levels are within ranges, and keep the rises
-abbrev pub Within : List ℕ → ℕ → Ranges → (ℕ → ℕ) → Type 0
-Within rs n r = Levels (boxOf rs n r)
+abbrev pub Within : List ℕ → ℕ → ℕ → Ranges → (ℕ → ℕ) → Type 0
+Within rs n first r = Levels (boxOf rs n first r)

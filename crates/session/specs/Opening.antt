@@ -18,18 +18,18 @@ use Rattle.session.specs.declared.Opened.{Opened}
 
 -- what is handed over at opening: a profile's numbers and its lists
 abbrev pub profile : Numbers → List ℤ → List ℤ → List ℤ → Profile
-profile m fs cs rs = record { days = m .days; floors = fs; ceilings = cs; rises = rs; lowest = m .lowest; highest = m .highest }
+profile m fs cs rs = record { days = m .days; first = m .first; floors = fs; ceilings = cs; rises = rs; lowest = m .lowest; highest = m .highest }
 
--- a profile's numbers: the day count and the total's bounds
-abbrev pub numbersWith : ℕ → ℤ → ℤ → Numbers
-numbersWith n lo hi = record { days = n; lowest = lo; highest = hi }
+-- a profile's numbers: the day count, the first counted day and the total's bounds
+abbrev pub numbersWith : ℕ → ℕ → ℤ → ℤ → Numbers
+numbersWith n first lo hi = record { days = n; first = first; lowest = lo; highest = hi }
 
 abbrev pub numbersOf : Profile → Numbers
-numbersOf p = numbersWith (p .days) (p .lowest) (p .highest)
+numbersOf p = numbersWith (p .days) (p .first) (p .lowest) (p .highest)
 
--- what readers give beside a refusal: the day count and the total's bounds are 0
+-- what readers give beside a refusal: all are 0
 abbrev pub noNumbers : Numbers
-noNumbers = numbersWith 0 (pos 0) (pos 0)
+noNumbers = numbersWith 0 0 (pos 0) (pos 0)
 
 -- ---- the refusals
 
@@ -63,6 +63,10 @@ badTotal p = not (within lowestTotal highestTotal (p .lowest) && within lowestTo
 abbrev pub badRange : Profile → Bool
 badRange p = crossed (p .floors) (p .ceilings) || ltZ (p .highest) (p .lowest)
 
+-- 13: the first counted day is not in the profile
+abbrev pub badFirst : Profile → Bool
+badFirst p = not (ltb (p .first) (p .days))
+
 -- the first refusal of opening before 8 that applies, or 0
 unfoldable pub earlyOpening : Profile → ℕ
 earlyOpening p =
@@ -71,7 +75,8 @@ earlyOpening p =
     (cond (badPoint p) 3
     (cond (badRise p) 4
     (cond (badTotal p) 5
-    (cond (badRange p) 6 0)))))
+    (cond (badRange p) 6
+    (cond (badFirst p) 13 0))))))
 
 -- ---- the session
 
@@ -83,15 +88,15 @@ codes low zs n = written (λ k. code low (on zs k)) n zeros
 abbrev pub boxIn : Profile → Box
 boxIn p =
     box (codes lowestPoint (p .floors) (p .days)) (codes lowestPoint (p .ceilings) (p .days))
-    (codes lowestRise (p .rises) (p .days - 1)) (p .days) (code lowestTotal (p .lowest)) (code lowestTotal (p .highest))
+    (codes lowestRise (p .rises) (p .days - 1)) (p .days) (p .first) (code lowestTotal (p .lowest)) (code lowestTotal (p .highest))
 
 -- the ranges of the days and of the total, tightened
 abbrev pub narrowed : Profile → Tight
 narrowed p = tightened (boxIn p)
 
 -- a fresh session: an opened profile with its tightened ranges, not spent
-abbrev pub fresh : ℕ → List ℕ → Ranges → Session
-fresh n rs r = record { days = n; rises = rs; opened = r; present = r; spent = false }
+abbrev pub fresh : ℕ → ℕ → List ℕ → Ranges → Session
+fresh n first rs r = record { days = n; first = first; rises = rs; opened = r; present = r; spent = false }
 
 abbrev pub rangesOf : Tight → Ranges
 rangesOf t = record { floors = t .floors; ceilings = t .ceilings; lowest = t .lowest; highest = t .highest }
@@ -107,11 +112,11 @@ allZero = record {
 
 -- what stands beside a refusal: a spent session of one day with all values 0
 abbrev pub refusedWith : ℕ → Opened
-refusedWith number = record { refusal = number; session = record { days = 1; rises = zeros; opened = allZero; present = allZero; spent = true } }
+refusedWith number = record { refusal = number; session = record { days = 1; first = 0; rises = zeros; opened = allZero; present = allZero; spent = true } }
 
 -- with no earlier refusal: 8 where there is no schedule
 abbrev pub openedWith : Box → Tight → Opened
-openedWith b t = cond (t .found) (record { refusal = 0; session = fresh (b .days) (b .rises) (rangesOf t) }) (refusedWith 8)
+openedWith b t = cond (t .found) (record { refusal = 0; session = fresh (b .days) (b .first) (b .rises) (rangesOf t) }) (refusedWith 8)
 
 unfoldable pub opened : Profile → Opened
 opened p =

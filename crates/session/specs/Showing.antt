@@ -39,15 +39,15 @@ shown s floors ceilings =
     cond (ltb floors (s .days) || ltb ceilings (s .days)) listTooShort
     (record { refusal = 0; lowest = totalFloor s; highest = totalCeiling s; spent = s .spent })
 
--- ranges of n days, with the rises between them, as what tightening takes
-abbrev pub boxOf : List ℕ → ℕ → Ranges → Box
-boxOf rs n r = box (r .floors) (r .ceilings) rs n (r .lowest) (r .highest)
+-- ranges of n days, with the rises between them and the first counted day, as what tightening takes
+abbrev pub boxOf : List ℕ → ℕ → ℕ → Ranges → Box
+boxOf rs n first r = box (r .floors) (r .ceilings) rs n first (r .lowest) (r .highest)
 
--- ranges of n days are in bounds, with the rises between the days
-abbrev pub Fits : List ℕ → ℕ → Ranges → Type 0
-Fits rs n r = InBounds (boxOf rs n r)
+-- ranges of n days are in bounds, with the rises between the days and the first counted day
+abbrev pub Fits : List ℕ → ℕ → ℕ → Ranges → Type 0
+Fits rs n first r = InBounds (boxOf rs n first r)
 
 -- the numbers of a session are in bounds
 pub record SessionInBounds (s : Session) : Type 0 where
-  pub opened : Fits (s .rises) (s .days) (s .opened)
-  pub present : Fits (s .rises) (s .days) (s .present)
+  pub opened : Fits (s .rises) (s .days) (s .first) (s .opened)
+  pub present : Fits (s .rises) (s .days) (s .first) (s .present)

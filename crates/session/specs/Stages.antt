@@ -30,11 +30,11 @@ lengthsOf p = lengthRefusal (p .days) (length (p .floors)) (length (p .ceilings)
 -- ---- 3 to 5, and a profile's numbers as codes
 
 abbrev pub codedNumbers : Numbers → CodedNumbers
-codedNumbers m = record { days = m .days; lowest = code lowestTotal (m .lowest); highest = code lowestTotal (m .highest) }
+codedNumbers m = record { days = m .days; first = m .first; lowest = code lowestTotal (m .lowest); highest = code lowestTotal (m .highest) }
 
 -- beside a refusal all are 0
 abbrev pub notCoded : ℕ → CodedProfile
-notCoded number = record { refusal = number; numbers = record { days = 0; lowest = 0; highest = 0 } }
+notCoded number = record { refusal = number; numbers = record { days = 0; first = 0; lowest = 0; highest = 0 } }
 
 -- by whether a point and a rise are outside their bounds
 unfoldable pub codedWith : Numbers → Bool → Bool → CodedProfile
@@ -55,11 +55,15 @@ codedProfile p =
 abbrev pub codedList : ℕ → ℤ → ℤ → List ℤ → List ℕ → List ℕ
 codedList refusal low high zs = lentList refusal (λ k. codeOrZero low high (on zs k)) (length zs)
 
--- ---- 6 and 8, over codes
+-- ---- 6, 13 and 8, over codes
 
 -- a floor above its ceiling, of a day or the total
 abbrev pub codesCrossed : List ℕ → List ℕ → ℕ → ℕ → ℕ → Bool
 codesCrossed fs cs n L U = ltb (firstCrossed (at fs) (at cs) n) n || ltb U L
+
+-- 6, then 13, or 0, by whether a day's floor is above its ceiling
+abbrev pub rangeRefusal : Bool → CodedNumbers → ℕ
+rangeRefusal crossed m = cond (crossed || ltb (m .highest) (m .lowest)) 6 (cond (not (ltb (m .first) (m .days))) 13 0)
 
 -- what opening over codes gives: its refusal, what the days' ranges are then, and the total's range, 0 beside a refusal
 pub record RangesOpened : Type 0 where
@@ -80,13 +84,14 @@ rangesWith t =
 unfoldable pub rangesOpened : Box → RangesOpened
 rangesOpened b =
     cond (codesCrossed (b .floors) (b .ceilings) (b .days) (b .lowest) (b .highest)) (noRanges 6 (b .floors) (b .ceilings))
-    (rangesWith (tightened b))
+    (cond (not (ltb (b .first) (b .days))) (noRanges 13 (b .floors) (b .ceilings))
+    (rangesWith (tightened b)))
 
 -- a session of ranges that are opened
 abbrev pub sessionWith : Box → RangesOpened → Opened
 sessionWith b r =
     cond (eqb (r .refusal) 0)
-    (record { refusal = 0; session = fresh (b .days) (b .rises) (record { floors = r .floors; ceilings = r .ceilings; lowest = r .lowest; highest = r .highest }) })
+    (record { refusal = 0; session = fresh (b .days) (b .first) (b .rises) (record { floors = r .floors; ceilings = r .ceilings; lowest = r .lowest; highest = r .highest }) })
     (refusedWith (r .refusal))
 
 unfoldable pub openedCodes : Box → Opened

@@ -1,15 +1,14 @@
 // A session: document 01's profile, opened, with its ranges, for one batch.
 ghost use mathlib.Core.Path.{_≡_};
-ghost use mathlib.Core.Bool.{_||_};
 ghost use lib.Dec.{ltb};
 ghost use lib.ListN.{length};
 ghost use Rattle.limits.specs.Limits.{lowestPoint, highestPoint, lowestRise, highestRise};
 ghost use Rattle.theory_lists.specs.Sum.{at};
 ghost use Rattle.theory_lists.specs.Lent.{lentList};
-ghost use Rattle.theory_method.specs.Filter.{InBounds, firstCrossed};
+ghost use Rattle.theory_method.specs.Filter.{InBounds, allCounted, firstCrossed};
 ghost use Rattle.tighten_filtering.specs.Boxed.{boxed};
 ghost use Rattle.session.specs.Opening.{opened, earlyOpening, refusedWith, profile};
-ghost use Rattle.session.specs.Stages.{lengthRefusal, lengthsOf, notCoded, codedWith, codedList, codedProfile, rangesOpened, openedCodes};
+ghost use Rattle.session.specs.Stages.{lengthRefusal, lengthsOf, notCoded, codedWith, codedList, codedProfile, rangeRefusal, rangesOpened, openedCodes};
 ghost use Rattle.session.specs.Showing.{SessionInBounds, shown, listTooShort, floorOn, ceilingOn};
 use base_codes::Coded;
 use base_codes::CodedNumbers;
@@ -17,9 +16,10 @@ use base_codes::code_all;
 use limits::MOST_DAYS;
 use limits::TOTAL_OFFSET;
 
-// A profile's numbers, beside its lists: the day count, and the total's floor and ceiling.
+// A profile's numbers, beside its lists: the day count, the first counted day, and the total's floor and ceiling.
 pub struct Numbers {
     pub days: usize,
+    pub first: usize,
     pub lowest: i32,
     pub highest: i32,
 }
@@ -28,6 +28,7 @@ impl Numbers {
     // What readers give beside a refusal.
     pub const NONE: Numbers = Numbers {
         days: 0,
+        first: 0,
         lowest: 0,
         highest: 0,
     };
@@ -44,6 +45,7 @@ pub struct Ranges {
 // Rises are held plus 2,000. Cells past the last day are 0.
 pub struct Session {
     pub days: usize,
+    pub first: usize,
     pub rises: [u16; MOST_DAYS],
     pub opened: Ranges,
     pub present: Ranges,
@@ -96,6 +98,7 @@ fn refused(number: u8) -> Opened
         refusal: number,
         session: Session {
             days: 1,
+            first: 0,
             rises: [0u16; MOST_DAYS],
             opened: zero,
             present: zero,
@@ -133,6 +136,7 @@ fn not_coded(number: u8) -> CodedProfile
         refusal: number,
         numbers: CodedNumbers {
             days: 0,
+            first: 0,
             lowest: 0,
             highest: 0,
         },
@@ -167,6 +171,7 @@ pub fn code_numbers(numbers: Numbers, bad_point: bool, bad_rise: bool) -> CodedP
         refusal: 0,
         numbers: CodedNumbers {
             days: numbers.days,
+            first: numbers.first,
             lowest,
             highest,
         },
@@ -203,11 +208,17 @@ fn code_profile(
     code_numbers(numbers, bad_floor | bad_ceiling, bad_rise)
 }
 
-// 6: whether a floor is above its ceiling, of a day, which the caller tells, or of the total.
-fn is_range_crossed(crossed: bool, numbers: CodedNumbers) -> bool
-    ensures { λ r. ⌜ r ≡ (crossed || ltb (numbers .highest) (numbers .lowest)) ⌝ }
+// 6 for a floor above its ceiling, of a day, which the caller tells, or of the total, 13 for a first counted day not in the profile, else 0.
+fn range_refusal(crossed: bool, numbers: CodedNumbers) -> u8
+    ensures { λ r. ⌜ r ≡ rangeRefusal crossed numbers ⌝ }
 {
-    crossed | (numbers.highest < numbers.lowest)
+    if crossed | (numbers.highest < numbers.lowest) {
+        return 6;
+    }
+    if numbers.first < numbers.days {
+        return 0;
+    }
+    13
 }
 
 fn no_ranges(number: u8) -> OpenedRanges
@@ -220,8 +231,8 @@ fn no_ranges(number: u8) -> OpenedRanges
     }
 }
 
-// Opens ranges that have passed the checks on lengths and bounds: 6, which leaves them, then 8, which leaves them as
-// `tighten` does. `crossed` is whether a day's floor is above its ceiling.
+// Opens ranges that have passed the checks on lengths and bounds: 6 and 13, which leave them, then 8, which leaves them
+// as `tighten` does. `crossed` is whether a day's floor is above its ceiling.
 pub fn open_ranges(
     floors: &mut [u16; MOST_DAYS],
     ceilings: &mut [u16; MOST_DAYS],
@@ -229,11 +240,12 @@ pub fn open_ranges(
     numbers: CodedNumbers,
     crossed: bool,
 ) -> OpenedRanges
-    requires { ⌜ InBounds (boxed (now floors) (now ceilings) (now rises) numbers) × (crossed ≡ ltb (firstCrossed (at (now floors)) (at (now ceilings)) (numbers .days)) (numbers .days)) ⌝ }
+    requires { ⌜ InBounds (allCounted (boxed (now floors) (now ceilings) (now rises) numbers)) × (crossed ≡ ltb (firstCrossed (at (now floors)) (at (now ceilings)) (numbers .days)) (numbers .days)) ⌝ }
     ensures { λ r. ⌜ record { refusal = r .refusal; floors = now (floors .exit); ceilings = now (ceilings .exit); lowest = r .lowest; highest = r .highest } ≡ rangesOpened (boxed (now (floors .entry)) (now (ceilings .entry)) (now (rises .entry)) numbers) ⌝ }
 {
-    if is_range_crossed(crossed, numbers) {
-        return no_ranges(6);
+    let refusal = range_refusal(crossed, numbers);
+    if refusal != 0 {
+        return no_ranges(refusal);
     }
     let t = tighten_filtering::tighten(floors, ceilings, rises, numbers);
     if t.found {
@@ -246,14 +258,14 @@ pub fn open_ranges(
     no_ranges(8)
 }
 
-// Opens what has passed the checks on lengths and bounds: 6, then 8.
+// Opens what has passed the checks on lengths and bounds: 6, 13, then 8.
 fn open_codes(
     numbers: CodedNumbers,
     floors: [u16; MOST_DAYS],
     ceilings: [u16; MOST_DAYS],
     rises: [u16; MOST_DAYS],
 ) -> Opened
-    requires { ⌜ InBounds (boxed floors ceilings rises numbers) ⌝ }
+    requires { ⌜ InBounds (allCounted (boxed floors ceilings rises numbers)) ⌝ }
     ensures { λ r. ⌜ r ≡ openedCodes (boxed floors ceilings rises numbers) ⌝ }
 {
     let mut low = floors;
@@ -273,6 +285,7 @@ fn open_codes(
         refusal: 0,
         session: Session {
             days: numbers.days,
+            first: numbers.first,
             rises,
             opened: ranges,
             present: ranges,
@@ -281,7 +294,7 @@ fn open_codes(
     }
 }
 
-// The first of document 01's checks 1 to 6 of opening that refuses, or 0.
+// The first of the checks 1 to 6 and 13 of opening that refuses, or 0.
 pub fn early_refusal(numbers: Numbers, floors: &[i16], ceilings: &[i16], rises: &[i16]) -> u8
     ensures { λ r. ⌜ r ≡ earlyOpening (profile numbers (now (floors .entry)) (now (ceilings .entry)) (now (rises .entry))) ⌝ }
 {
@@ -301,10 +314,7 @@ pub fn early_refusal(numbers: Numbers, floors: &[i16], ceilings: &[i16], rises: 
         return coded.refusal;
     }
     let crossed = tighten_carry::is_crossed(&low, &high, coded.numbers.days);
-    if is_range_crossed(crossed, coded.numbers) {
-        return 6;
-    }
-    0
+    range_refusal(crossed, coded.numbers)
 }
 
 fn too_short() -> Shown
@@ -334,7 +344,7 @@ impl Session {
 
     pub const HIGHEST_TOTAL: i32 = limits::HIGHEST_TOTAL;
 
-    // Opens a profile: document 01's checks 1, 2, 3, 4, 5, 6, then 8.
+    // Opens a profile: the checks 1, 2, 3, 4, 5, 6, 13, then 8.
     pub fn open(numbers: Numbers, floors: &[i16], ceilings: &[i16], rises: &[i16]) -> Opened
         ensures { λ r. ⌜ r ≡ opened (profile numbers (now (floors .entry)) (now (ceilings .entry)) (now (rises .entry))) ⌝ }
     {

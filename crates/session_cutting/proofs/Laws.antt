@@ -110,30 +110,30 @@ numbered-accepted s Unknown room = λ z. absurd (omega arith)
 
 -- ---- in bounds
 
-pub clipped-in-bounds : (rs : List ℕ) (n : ℕ) (r : Ranges) (c : Cut) → Fits rs n r → malformed n c ≡ 0 → Fits rs n (clipped r c)
+pub clipped-in-bounds : (rs : List ℕ) (n first : ℕ) (r : Ranges) (c : Cut) → Fits rs n first r → malformed n c ≡ 0 → Fits rs n first (clipped r c)
 unfolding clipped
-clipped-in-bounds rs n r (DayFloor day value) b e =
+clipped-in-bounds rs n first r (DayFloor day value) b e =
     let f = day-formed n day value e in
     let w : ℕ = max (at (r .floors) day) (code lowestPoint value) in
     refit b (length-set (r .floors) day w ∙ b .floors) (b .ceilings)
     (λ k h. by-cell (λ _ a. a ≤ 5000) 0 (r .floors) day w (omega (arith, b .floors, b .most)) (omega (arith, b .floor day (f .0), point-most value (f .1))) k (b .floor k h))
     (b .ceiling) (b .lowest) (b .highest)
-clipped-in-bounds rs n r (DayCeiling day value) b e =
+clipped-in-bounds rs n first r (DayCeiling day value) b e =
     let f = day-formed n day value e in
     let w : ℕ = min (at (r .ceilings) day) (code lowestPoint value) in
     refit b (b .floors) (length-set (r .ceilings) day w ∙ b .ceilings) (b .floor)
     (λ k h. by-cell (λ _ a. a ≤ 5000) 0 (r .ceilings) day w (omega (arith, b .ceilings, b .most)) (omega (arith, b .ceiling day (f .0))) k (b .ceiling k h))
     (b .lowest) (b .highest)
-clipped-in-bounds rs n r (TotalFloor day value) b e =
+clipped-in-bounds rs n first r (TotalFloor day value) b e =
     refit b (b .floors) (b .ceilings) (b .floor) (b .ceiling) (omega (arith, b .lowest, total-most value (total-formed day value e .1))) (b .highest)
-clipped-in-bounds rs n r (TotalCeiling day value) b e = refit b (b .floors) (b .ceilings) (b .floor) (b .ceiling) (b .lowest) (omega (arith, b .highest))
+clipped-in-bounds rs n first r (TotalCeiling day value) b e = refit b (b .floors) (b .ceilings) (b .floor) (b .ceiling) (b .lowest) (omega (arith, b .highest))
 
 pub cut-in-bounds : (s : Session) (c : Cut) (room : ℕ) → SessionInBounds s → SessionInBounds (afterCut s c room .session)
 cut-in-bounds s c room b = go (eqb (earlyCutting s c room) 0) (retightened s (clipped (s .present) c) .found) refl refl
   where
     go : (early found : Bool) → eqb (earlyCutting s c room) 0 ≡ early → retightened s (clipped (s .present) c) .found ≡ found → SessionInBounds (afterCut s c room .session)
     go true true e f =
-        let fits = clipped-in-bounds (s .rises) (s .days) (s .present) c (b .present) (passed s c room e .formed) in
+        let fits = clipped-in-bounds (s .rises) (s .days) (s .first) (s .present) c (b .present) (passed s c room e .formed) in
         rw (accepted s c room e, f) (record { opened = b .opened; present = exact-in-bounds (exact fits f) fits })
     go true false e f = rw (accepted s c room e, f) (record { opened = b .opened; present = b .opened })
     go false found e f = rw (refused-same s c room e) b

@@ -77,8 +77,8 @@ module _ (n : ℕ) (c : Cut) {r : Checked} (e : r ≡ checkedCut n c) where
 
 -- ---- cut_ranges
 
-pub clips-bounds : {rs : List ℕ} {n : ℕ} (r : Ranges) (c : Cut) {k : Ranges} → k ≡ clipped r c → Fits rs n r → malformed n c ≡ 0 → Fits rs n k
-clips-bounds {rs} {n} r c clip bounds e = rw clip (clipped-in-bounds rs n r c bounds e)
+pub clips-bounds : {rs : List ℕ} {n first : ℕ} (r : Ranges) (c : Cut) {k : Ranges} → k ≡ clipped r c → Fits rs n first r → malformed n c ≡ 0 → Fits rs n first k
+clips-bounds {rs} {n} {first} r c clip bounds e = rw clip (clipped-in-bounds rs n first r c bounds e)
 
 -- ---- tighten_again
 

@@ -57,7 +57,7 @@ clipped r (TotalCeiling day value) = record { floors = r .floors; ceilings = r .
 
 -- everything tightened again
 abbrev pub retightened : Session → Ranges → Tight
-retightened s r = tightened (boxOf (s .rises) (s .days) r)
+retightened s r = tightened (boxOf (s .rises) (s .days) (s .first) r)
 
 -- the days whose floor or ceiling differs
 abbrev pub changedDays : ℕ → Ranges → Ranges → List ℕ
@@ -65,10 +65,10 @@ changedDays n before after = daysWhere (differs (before .floors) (before .ceilin
 
 -- a spent session shows the ranges that it had when opened, and holds nothing else of its cuts
 abbrev pub spend : Session → Session
-spend s = record { days = s .days; rises = s .rises; opened = s .opened; present = s .opened; spent = true }
+spend s = record { days = s .days; first = s .first; rises = s .rises; opened = s .opened; present = s .opened; spent = true }
 
 abbrev pub withPresent : Session → Ranges → Session
-withPresent s r = record { days = s .days; rises = s .rises; opened = s .opened; present = r; spent = s .spent }
+withPresent s r = record { days = s .days; first = s .first; rises = s .rises; opened = s .opened; present = r; spent = s .spent }
 
 -- beside a refusal's number the count of changed days is 0
 abbrev pub refusing : ℕ → Session → AfterCut

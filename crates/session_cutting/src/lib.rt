@@ -145,7 +145,7 @@ pub fn cut_ranges(
     value: usize,
 ) -> Totals
     requires { ⌜ InBounds (boxed (now floors) (now ceilings) (now rises) numbers) × (malformed (numbers .days) cut ≡ 0) × Clips cut value ⌝ }
-    ensures { λ r. ⌜ record { found = r .found; floors = now (floors .exit); ceilings = now (ceilings .exit); lowest = r .lowest; highest = r .highest } ≡ tightened (boxOf (now (rises .entry)) (numbers .days) (clipped (record { floors = now (floors .entry); ceilings = now (ceilings .entry); lowest = numbers .lowest; highest = numbers .highest }) cut)) ⌝ }
+    ensures { λ r. ⌜ record { found = r .found; floors = now (floors .exit); ceilings = now (ceilings .exit); lowest = r .lowest; highest = r .highest } ≡ tightened (boxOf (now (rises .entry)) (numbers .days) (numbers .first) (clipped (record { floors = now (floors .entry); ceilings = now (ceilings .entry); lowest = numbers .lowest; highest = numbers .highest }) cut)) ⌝ }
 {
     let n = numbers.days;
     let total = clip(
@@ -158,6 +158,7 @@ pub fn cut_ranges(
     );
     let clipped = CodedNumbers {
         days: n,
+        first: numbers.first,
         lowest: total.lowest,
         highest: total.highest,
     };
@@ -217,6 +218,7 @@ fn tighten_again(session: Session, cut: Cut, value: usize, changed: &mut [u16]) 
     let mut high = ceilings;
     let numbers = CodedNumbers {
         days: n,
+        first: session.first,
         lowest: before.lowest,
         highest: before.highest,
     };

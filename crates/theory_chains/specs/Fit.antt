@@ -67,3 +67,13 @@ fitted-same {v = v} f same e g h =
       within = omega (arith, f .within, same v);
       past = λ u l m. omega (arith, f .past u l (omega arith), same u);
     }
+
+-- where costs are the same at u and u′ with u + e ≡ u′ + f, and the bounds are so apart, the greatest levels are too
+pub fitted-moved : {cost cost′ : ℕ → ℕ} {margin low low′ b b′ v v′ : ℕ} (e f : ℕ) → Fitted cost margin low b v → Fitted cost′ margin low′ b′ v′
+    → ((u u′ : ℕ) → u + e ≡ u′ + f → cost u ≡ cost′ u′) → b + e ≡ b′ + f → v + e ≡ v′ + f
+fitted-moved {margin = margin} {v = v} {v′ = v′} e f one two same top = go (decLt (v + e) (v′ + f)) (decLt (v′ + f) (v + e))
+  where
+    go : Dec (v + e < v′ + f) → Dec (v′ + f < v + e) → v + e ≡ v′ + f
+    go (yes l) d = let u : ℕ = v′ + f - e in absurd (omega (arith, one .past u (omega arith) (omega (arith, two .most)), same u v′ (omega arith), two .within))
+    go (no l) (yes m) = let u : ℕ = v + e - f in absurd (omega (arith, two .past u (omega arith) (omega (arith, one .most)), same v u (omega arith), one .within))
+    go (no l) (no m) = omega arith

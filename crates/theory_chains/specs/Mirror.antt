@@ -61,7 +61,7 @@ pub sum-first : (w : ℕ → Bool) (n : ℕ) (y : ℕ → ℕ) → sum w (suc n)
 sum-first w zero y = omega arith
 sum-first w (suc n) y = omega (arith, sum-first w n y)
 
-sum-weigh-eq : (w u : ℕ → Bool) (n : ℕ) (y z : ℕ → ℕ) → ((k : ℕ) → k < n → weigh (w k) (y k) ≡ weigh (u k) (z k)) → sum w n y ≡ sum u n z
+pub sum-weigh-eq : (w u : ℕ → Bool) (n : ℕ) (y z : ℕ → ℕ) → ((k : ℕ) → k < n → weigh (w k) (y k) ≡ weigh (u k) (z k)) → sum w n y ≡ sum u n z
 sum-weigh-eq w u zero y z h = refl
 sum-weigh-eq w u (suc n) y z h = omega (arith, sum-weigh-eq w u n y z (λ k l. h k (omega arith)), h n (omega arith))
 

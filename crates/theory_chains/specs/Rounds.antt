@@ -36,6 +36,11 @@ module _ (w : ℕ → Bool) (i k v : ℕ) where
       go (yes l) = absurd (omega arith)
       go (no l) = refl
 
+-- the same of days that count alike
+pub from-same : (i k : ℕ) (w u : ℕ → Bool) → w k ≡ u k → from i u k ≡ from i w k
+unfolding from within
+from-same i k w u e = rw e
+
 -- what day i at v puts on the days from i on, over their floors
 abbrev pub overloadFrom : (w : ℕ → Bool) (n : ℕ) (a : ℕ → ℕ) (i v : ℕ) → ℕ
 overloadFrom w n a i v = sum (from i w) n (λ k. v - a k)

@@ -19,7 +19,7 @@ sum w (suc n) y = sum w n y + weigh (w n) (y n)
 abbrev pub all : ℕ → Bool
 all k = true
 
-weigh-le : (b : Bool) {u v : ℕ} → u ≤ v → weigh b u ≤ weigh b v
+pub weigh-le : (b : Bool) {u v : ℕ} → u ≤ v → weigh b u ≤ weigh b v
 weigh-le true h = h
 weigh-le false h = le-refl 0
 
@@ -33,3 +33,12 @@ sum-le w (suc n) y z h =
 pub sum-eq : (w : ℕ → Bool) (n : ℕ) (y z : ℕ → ℕ) → ((k : ℕ) → k < n → y k ≡ z k) → sum w n y ≡ sum w n z
 sum-eq w zero y z h = refl
 sum-eq w (suc n) y z h = cc (sum-eq w n y z (λ k l. h k (omega arith)), h n (omega arith))
+
+-- only the counted days matter
+pub sum-le-counted : (w : ℕ → Bool) (n : ℕ) (y z : ℕ → ℕ) → ((k : ℕ) → k < n → w k ≡ true → y k ≤ z k) → sum w n y ≤ sum w n z
+sum-le-counted w zero y z h = le-refl 0
+sum-le-counted w (suc n) y z h = go (w n) (h n (omega arith)) (sum-le-counted w n y z (λ k l. h k (omega arith)))
+  where
+    go : (b : Bool) → (b ≡ true → y n ≤ z n) → sum w n y ≤ sum w n z → sum w n y + weigh b (y n) ≤ sum w n z + weigh b (z n)
+    go true here before = omega (arith, here refl)
+    go false here before = omega arith

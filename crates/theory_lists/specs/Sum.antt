@@ -5,7 +5,8 @@ use mathlib.Core.List.{List}
 use native.Mathlib.Numerals.{add-one}
 use native.Mathlib.Nat.{add-suc, add-zero, suc-mul}
 use native.Mathlib.Omega.{arith}
-use lib.ListN.{getD}
+use lib.ListN.{length, getD, take, drop, length-take, length-drop}
+use lib.Seq.{getD-take, getD-drop}
 
 -- f i + f (i + 1) + .. , m terms
 unfoldable pub sumFor : (ℕ → ℕ) → ℕ → ℕ → ℕ
@@ -47,6 +48,12 @@ sum-most f i zero t h = omega arith
 sum-most f i (suc m) t h =
     omega (arith, h (i + m) (omega arith) (omega arith), sum-most f i m t (λ k l u. h k l (omega arith)), suc-mul m t)
 
+-- each at most the other's
+pub sum-below : (f g : ℕ → ℕ) (i m : ℕ) → ((k : ℕ) → i ≤ k → k < i + m → f k ≤ g k) → sumFor f i m ≤ sumFor g i m
+unfolding sumFor
+sum-below f g i zero h = omega arith
+sum-below f g i (suc m) h = omega (arith, h (i + m) (omega arith) (omega arith), sum-below f g i m (λ k l u. h k l (omega arith)))
+
 -- a part is at most the whole
 pub sum-part : (f : ℕ → ℕ) (i m d : ℕ) → sumFor f i m ≤ sumFor f i (m + d)
 unfolding sumFor
@@ -81,3 +88,17 @@ sum-last f i (suc m) h =
     let p : suc m - 1 ≡ m = omega arith in
     let q : i + suc m - 1 ≡ i + m = omega arith in
     rw (p, q)
+
+-- two runs with the same terms
+pub sum-same : (f g : ℕ → ℕ) (i j m : ℕ) → ((k : ℕ) → k < m → f (i + k) ≡ g (j + k)) → sumFor f i m ≡ sumFor g j m
+unfolding sumFor
+sum-same f g i j zero h = refl
+sum-same f g i j (suc m) h = omega (arith, sum-same f g i j m (λ k l. h k (omega arith)), h m (omega arith))
+
+-- what a call on `&l[i..e]` says of l
+pub sum-slice : (l : List ℕ) (i e : ℕ) → i ≤ e → e ≤ length l
+    → sumFor (at (take (e - i) (drop i l))) 0 (length (take (e - i) (drop i l))) ≡ sumFor (at l) i (e - i)
+sum-slice l i e h u =
+    let n : length (take (e - i) (drop i l)) ≡ e - i = simp (length-take, length-drop) (omega arith) in
+    rw n (sum-same (at (take (e - i) (drop i l))) (at l) 0 i (e - i)
+    (λ k p. let z : 0 + k ≡ k = omega arith in rw (z, getD-take, getD-drop)))

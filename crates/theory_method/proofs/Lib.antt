@@ -1,2 +1,3 @@
 pub mod Passes
+pub mod Counting
 pub mod Exact

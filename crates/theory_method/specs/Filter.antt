@@ -6,28 +6,34 @@ use mathlib.Core.List.{List}
 use lib.Dec.{ltb}
 use lib.ListN.{length, replicate}
 use Rattle.limits.specs.Limits.{mostDays, levelOffset, highestLevel, riseOffset, highestRiseCode, highestTotalCode}
-use Rattle.theory_lists.specs.Sum.{sumFor, at, above}
+use Rattle.theory_lists.specs.Sum.{at}
 use Rattle.theory_lists.specs.Written.{written}
 use Rattle.theory_lists.specs.First.{firstWhere}
-use Rattle.theory_chains.specs.Sum.{sum, all}
+use Rattle.theory_chains.specs.Sum.{sum}
 use Rattle.theory_chains.specs.Fit.{fit}
 use Rattle.theory_method.specs.Shift.{shift}
+use Rattle.theory_method.specs.Counted.{counted, runSum}
 
--- what tightening takes: the days' floors, ceilings and rises as codes, how many days there are, and the total's bounds, as held
+-- what tightening takes: the days' floors, ceilings and rises as codes, how many days there are, the first counted day, and the total's bounds, as held
 pub record Box : Type 0 where
   pub floors : List ℕ
   pub ceilings : List ℕ
   pub rises : List ℕ
   pub days : ℕ
+  pub first : ℕ
   pub lowest : ℕ
   pub highest : ℕ
 
-abbrev pub box : List ℕ → List ℕ → List ℕ → ℕ → ℕ → ℕ → Box
-box fs cs rs n L U = record { floors = fs; ceilings = cs; rises = rs; days = n; lowest = L; highest = U }
+abbrev pub box : List ℕ → List ℕ → List ℕ → ℕ → ℕ → ℕ → ℕ → Box
+box fs cs rs n first L U = record { floors = fs; ceilings = cs; rises = rs; days = n; first = first; lowest = L; highest = U }
 
--- 1 to 512 days, and codes no higher than their highest
+-- the same with every day counted
+abbrev pub allCounted : Box → Box
+allCounted b = box (b .floors) (b .ceilings) (b .rises) (b .days) 0 (b .lowest) (b .highest)
+
+-- up to 512 days, the first counted day among them, and codes no higher than their highest
 pub record InBounds (b : Box) : Type 0 where
-  pub some : 0 < b .days
+  pub counts : b .first < b .days
   pub most : b .days ≤ mostDays
   pub floors : length (b .floors) ≡ mostDays
   pub ceilings : length (b .ceilings) ≡ mostDays
@@ -55,20 +61,20 @@ firstCrossed a b = firstWhere (λ k. ltb (b k) (a k))
 abbrev pub shifted : List ℕ → List ℕ → ℕ → ℕ → ℕ
 shifted l rs n k = at l k + shift (at rs) n k
 
--- the overload of day i at a shifted level v: by how much v is above the floors from day i on
-abbrev pub overload : List ℕ → List ℕ → ℕ → ℕ → ℕ → ℕ
-overload fs rs n i v = sumFor (above (shifted fs rs n) v) i (n - i)
+-- the overload of day i at a shifted level v: by how much v is above the floors of the counted days w from day i on
+abbrev pub overload : List ℕ → List ℕ → ℕ → (ℕ → Bool) → ℕ → ℕ → ℕ
+overload fs rs n w i v = runSum w (λ k. v - shifted fs rs n k) i (n - i)
 
 -- the ceiling of the m-th day from the end, shifted: the greatest level up to its own and the next day's lowered ceiling whose overload
 -- is within the margin
-unfoldable pub loweredFrom : List ℕ → List ℕ → List ℕ → ℕ → ℕ → ℕ → ℕ
-loweredFrom fs cs rs n margin zero = shifted cs rs n (n - 1)
-loweredFrom fs cs rs n margin (suc m) =
-    fit (overload fs rs n (n - suc m)) margin (shifted fs rs n (n - suc m)) (min (loweredFrom fs cs rs n margin m) (shifted cs rs n (n - suc m)))
+unfoldable pub loweredFrom : List ℕ → List ℕ → List ℕ → ℕ → (ℕ → Bool) → ℕ → ℕ → ℕ
+loweredFrom fs cs rs n w margin zero = shifted cs rs n (n - 1)
+loweredFrom fs cs rs n w margin (suc m) =
+    fit (overload fs rs n w (n - suc m)) margin (shifted fs rs n (n - suc m)) (min (loweredFrom fs cs rs n w margin m) (shifted cs rs n (n - suc m)))
 
 -- the lowered ceiling of day k, as shown
-abbrev pub lowered : List ℕ → List ℕ → List ℕ → ℕ → ℕ → ℕ → ℕ
-lowered fs cs rs n margin k = loweredFrom fs cs rs n margin (n - k) - shift (at rs) n k
+abbrev pub lowered : List ℕ → List ℕ → List ℕ → ℕ → (ℕ → Bool) → ℕ → ℕ → ℕ
+lowered fs cs rs n w margin k = loweredFrom fs cs rs n w margin (n - k) - shift (at rs) n k
 
 -- ---- floors, as the mirror: days from the other end, levels from the other end of the scale
 
@@ -82,18 +88,23 @@ reversed rs n k = at rs (n - (k + 2))
 abbrev pub zeros : List ℕ
 zeros = replicate mostDays 0
 
-unfoldable pub raised : List ℕ → List ℕ → List ℕ → ℕ → ℕ → List ℕ
-raised fs cs rs n margin =
+-- the counted days come first there
+unfoldable pub raised : List ℕ → List ℕ → List ℕ → ℕ → ℕ → ℕ → List ℕ
+raised fs cs rs n first margin =
     let low : List ℕ = written (mirrored cs n) n zeros in
     let high : List ℕ = written (mirrored fs n) n zeros in
     let back : List ℕ = written (reversed rs n) (n - 1) zeros in
-    written (mirrored (written (lowered low high back n margin) n high) n) n fs
+    written (mirrored (written (lowered low high back n (counted 0 (n - first)) margin) n high) n) n fs
 
 -- ---- all of it
 
--- a held total is the sum of the levels plus 1,000 for each day that the profile has less than 512
-abbrev pub held : ℕ → (ℕ → ℕ) → ℕ
-held n x = sum all n x + levelOffset * (mostDays - n)
+-- 1,000 for each day that the counted ones are less than 512
+unfoldable pub spare : ℕ → ℕ → ℕ
+spare n first = levelOffset * (mostDays - (n - first))
+
+-- a held total is the sum of the counted levels, and that
+abbrev pub held : ℕ → ℕ → (ℕ → ℕ) → ℕ
+held n first x = sum (counted first n) n x + spare n first
 
 -- what tightening gives: whether there is a schedule, the ranges of the days, and the total's
 pub record Tight : Type 0 where
@@ -107,34 +118,34 @@ abbrev pub none : Box → Tight
 none b = record { found = false; floors = b .floors; ceilings = b .ceilings; lowest = 0; highest = 0 }
 
 abbrev pub withFloors : Box → List ℕ → Box
-withFloors b fs = box fs (b .ceilings) (b .rises) (b .days) (b .lowest) (b .highest)
+withFloors b fs = box fs (b .ceilings) (b .rises) (b .days) (b .first) (b .lowest) (b .highest)
 
 abbrev pub withCeilings : Box → List ℕ → Box
-withCeilings b cs = box (b .floors) cs (b .rises) (b .days) (b .lowest) (b .highest)
+withCeilings b cs = box (b .floors) cs (b .rises) (b .days) (b .first) (b .lowest) (b .highest)
 
 -- the floors carried up to day r, where carrying stops
 abbrev pub forwarded : List ℕ → List ℕ → ℕ → List ℕ
 forwarded fs rs r = written (carried fs rs) r fs
 
-abbrev pub loweredAll : List ℕ → List ℕ → List ℕ → ℕ → ℕ → List ℕ
-loweredAll fs cs rs n margin = written (lowered fs cs rs n margin) n cs
+abbrev pub loweredAll : List ℕ → List ℕ → List ℕ → ℕ → (ℕ → Bool) → ℕ → List ℕ
+loweredAll fs cs rs n w margin = written (lowered fs cs rs n w margin) n cs
 
 -- with the ceilings lowered: the total's range, and the floors
 unfoldable pub tightFloors : Box → Tight
 tightFloors b =
-    let bottom : ℕ = held (b .days) (at (b .floors)) in
-    let top : ℕ = held (b .days) (at (b .ceilings)) in
+    let bottom : ℕ = held (b .days) (b .first) (at (b .floors)) in
+    let top : ℕ = held (b .days) (b .first) (at (b .ceilings)) in
     let lowest : ℕ = max (b .lowest) bottom in
     let highest : ℕ = min (b .highest) top in
     cond (ltb highest lowest) (none b)
-    (record { found = true; floors = raised (b .floors) (b .ceilings) (b .rises) (b .days) (top - lowest); ceilings = b .ceilings; lowest = lowest; highest = highest })
+    (record { found = true; floors = raised (b .floors) (b .ceilings) (b .rises) (b .days) (b .first) (top - lowest); ceilings = b .ceilings; lowest = lowest; highest = highest })
 
 -- with the floors carried: the ceilings, and onward
 unfoldable pub tightCeilings : Box → Tight
 tightCeilings b =
-    let bottom : ℕ = held (b .days) (at (b .floors)) in
+    let bottom : ℕ = held (b .days) (b .first) (at (b .floors)) in
     cond (ltb (b .highest) bottom) (none b)
-    (tightFloors (withCeilings b (loweredAll (b .floors) (b .ceilings) (b .rises) (b .days) (b .highest - bottom))))
+    (tightFloors (withCeilings b (loweredAll (b .floors) (b .ceilings) (b .rises) (b .days) (counted (b .first) (b .days)) (b .highest - bottom))))
 
 unfoldable pub tightened : Box → Tight
 tightened b =

@@ -12,14 +12,16 @@ use lib.Dec.{ltb}
 use lib.ListN.{length, length-replicate, getD-replicate}
 use borrow.Author.Tests.{ltb-true, ltb-false}
 use Rattle.limits.specs.Limits.{mostDays, highestLevel, riseOffset, highestRiseCode, highestShift}
-use Rattle.theory_lists.specs.Sum.{at, above, sum-most}
+use Rattle.theory_lists.specs.Sum.{at, sum-most}
 use Rattle.theory_lists.specs.First.{first}
 use Rattle.theory_lists.specs.Written.{written, length-written, written-below, written-past}
+use Rattle.theory_chains.specs.Sum.{weigh}
 use Rattle.theory_chains.specs.Chain.{Chain}
 use Rattle.theory_chains.specs.Ceilings.{chain-up}
 use Rattle.theory_chains.specs.Rounds.{free}
 use Rattle.theory_chains.specs.Fit.{Fitted, fitted}
 use Rattle.theory_method.specs.Shift.{shift, shift-step, shift-high}
+use Rattle.theory_method.specs.Counted.{counted, weigh-none}
 use Rattle.theory_method.specs.Filter.{box, InBounds, carried, firstCrossed, shifted, overload, loweredFrom, lowered, mirrored, reversed, zeros, forwarded, loweredAll, raised}
 
 -- levels that obey the least rises
@@ -74,14 +76,14 @@ module _ (fs rs : List ℕ) where
   carried-rise k = rw add-one (omega arith)
 
 -- (i) floors carried past no ceiling
-module _ {fs cs rs : List ℕ} {n L U : ℕ} (b : InBounds (box fs cs rs n L U)) (uncrossed : n ≤ firstCrossed (carried fs rs) (at cs) n) where
+module _ {fs cs rs : List ℕ} {n first L U : ℕ} (b : InBounds (box fs cs rs n first L U)) (uncrossed : n ≤ firstCrossed (carried fs rs) (at cs) n) where
   pub forwarded-at : (k : ℕ) → k < n → at (forwarded fs rs n) k ≡ carried fs rs k
   forwarded-at k h = written-below (carried fs rs) 0 n fs k h (omega (arith, b .floors, b .most))
 
   pub ready : Ready (forwarded fs rs n) cs rs n
   ready =
       record {
-        some = b .some;
+        some = omega (arith, b .counts);
         most = b .most;
         floors = length-written (carried fs rs) n fs ∙ b .floors;
         ceilings = b .ceilings;
@@ -111,29 +113,29 @@ module _ {fs cs rs : List ℕ} {n : ℕ} (r : Ready fs cs rs n) where
       nears : (k : ℕ) → suc k < n → shifted fs rs n (suc k) ≤ shifted fs rs n k + 16777216
       nears k h = omega (arith, r .fits (suc k) h, r .ceiling (suc k) h, shift-most (suc k))
 
-  module _ (margin : ℕ) where
+  module _ (w : ℕ → Bool) (margin : ℕ) where
     abbrev low-from : ℕ → ℕ
-    low-from = loweredFrom fs cs rs n margin
+    low-from = loweredFrom fs cs rs n w margin
 
     -- from the floor on no overload
-    floor-free : (i : ℕ) → i < n → overload fs rs n i (shifted fs rs n i) ≤ margin
+    floor-free : (i : ℕ) → i < n → overload fs rs n w i (shifted fs rs n i) ≤ margin
     floor-free i h =
         omega (
           arith,
-          sum-most (above (shifted fs rs n) (shifted fs rs n i)) i (n - i) 0
-              (λ k l u. omega (arith, chain-up n free (shifted fs rs n) floors-chain i k l (omega arith))),
+          sum-most (λ k. weigh (w k) (shifted fs rs n i - shifted fs rs n k)) i (n - i) 0
+              (λ k l u. weigh-none (w k) (omega (arith, chain-up n free (shifted fs rs n) floors-chain i k l (omega arith)))),
         )
 
     -- a day whose floor is not above the next day's lowered ceiling
     from-next : (m : ℕ) → m < n → shifted fs rs n (n - suc m) ≤ low-from m
-        → Fitted (overload fs rs n (n - suc m)) margin (shifted fs rs n (n - suc m)) (min (low-from m) (shifted cs rs n (n - suc m))) (low-from (suc m))
+        → Fitted (overload fs rs n w (n - suc m)) margin (shifted fs rs n (n - suc m)) (min (low-from m) (shifted cs rs n (n - suc m))) (low-from (suc m))
     unfolding loweredFrom
     from-next m h up =
-        fitted (overload fs rs n (n - suc m)) margin (shifted fs rs n (n - suc m)) (floor-free (n - suc m) (omega arith))
+        fitted (overload fs rs n w (n - suc m)) margin (shifted fs rs n (n - suc m)) (floor-free (n - suc m) (omega arith))
         (min (low-from m) (shifted cs rs n (n - suc m))) (omega (arith, up, r .fits (n - suc m) (omega arith)))
 
     from-fitted : (m : ℕ) → m < n
-        → Fitted (overload fs rs n (n - suc m)) margin (shifted fs rs n (n - suc m)) (min (low-from m) (shifted cs rs n (n - suc m))) (low-from (suc m))
+        → Fitted (overload fs rs n w (n - suc m)) margin (shifted fs rs n (n - suc m)) (min (low-from m) (shifted cs rs n (n - suc m))) (low-from (suc m))
     unfolding loweredFrom
     from-fitted zero h = from-next 0 h (omega (arith, r .fits (n - 1) (omega arith)))
     from-fitted (suc m) h =
@@ -143,48 +145,48 @@ module _ {fs cs rs : List ℕ} {n : ℕ} (r : Ready fs cs rs n) where
 
     -- each shifted ceiling is the greatest level up to the next day's and its own whose overload is within the margin
     pub day-fitted : (k : ℕ) → k < n
-        → Fitted (overload fs rs n k) margin (shifted fs rs n k) (min (loweredFrom fs cs rs n margin (n - (k + 1))) (shifted cs rs n k)) (loweredFrom fs cs rs n margin (n - k))
+        → Fitted (overload fs rs n w k) margin (shifted fs rs n k) (min (loweredFrom fs cs rs n w margin (n - (k + 1))) (shifted cs rs n k)) (loweredFrom fs cs rs n w margin (n - k))
     day-fitted k h =
         let here : n - suc (n - (k + 1)) ≡ k = omega arith in
         let count : suc (n - (k + 1)) ≡ n - k = omega arith in
         rw (here, count) at (from-fitted (n - (k + 1)) (omega arith))
 
     -- past the last day there is only its own ceiling
-    pub last-lowered : loweredFrom fs cs rs n margin 0 ≡ shifted cs rs n (n - 1)
+    pub last-lowered : loweredFrom fs cs rs n w margin 0 ≡ shifted cs rs n (n - 1)
     unfolding loweredFrom
     last-lowered = refl
 
     -- as shown: the shift is taken off again
-    pub lowered-shifted : (k : ℕ) → k < n → lowered fs cs rs n margin k + shift (at rs) n k ≡ loweredFrom fs cs rs n margin (n - k)
+    pub lowered-shifted : (k : ℕ) → k < n → lowered fs cs rs n w margin k + shift (at rs) n k ≡ loweredFrom fs cs rs n w margin (n - k)
     lowered-shifted k h = omega (arith, day-fitted k h .least)
 
-    pub lowered-at : (k : ℕ) → k < n → at (loweredAll fs cs rs n margin) k ≡ lowered fs cs rs n margin k
-    lowered-at k h = written-below (lowered fs cs rs n margin) 0 n cs k h (omega (arith, r .ceilings, r .most))
+    pub lowered-at : (k : ℕ) → k < n → at (loweredAll fs cs rs n w margin) k ≡ lowered fs cs rs n w margin k
+    lowered-at k h = written-below (lowered fs cs rs n w margin) 0 n cs k h (omega (arith, r .ceilings, r .most))
 
     -- (ii) the lowered ceilings are between the floors and the old ones, and obey the least rises
-    pub lowered-above : (k : ℕ) → k < n → at fs k ≤ at (loweredAll fs cs rs n margin) k
+    pub lowered-above : (k : ℕ) → k < n → at fs k ≤ at (loweredAll fs cs rs n w margin) k
     lowered-above k h = omega (arith, lowered-at k h, lowered-shifted k h, day-fitted k h .least)
 
-    pub lowered-below : (k : ℕ) → k < n → at (loweredAll fs cs rs n margin) k ≤ at cs k
+    pub lowered-below : (k : ℕ) → k < n → at (loweredAll fs cs rs n w margin) k ≤ at cs k
     lowered-below k h = omega (arith, lowered-at k h, lowered-shifted k h, day-fitted k h .most)
 
-    pub lowered-rising : Rising (loweredAll fs cs rs n margin) rs n
+    pub lowered-rising : Rising (loweredAll fs cs rs n w margin) rs n
     lowered-rising k h =
         omega (
           arith,
           lowered-at k (omega arith),
           lowered-at (k + 1) h,
-          shifted-rise (lowered fs cs rs n margin k) (lowered fs cs rs n margin (k + 1)) k h .1
+          shifted-rise (lowered fs cs rs n w margin k) (lowered fs cs rs n w margin (k + 1)) k h .1
               (omega (arith, lowered-shifted k (omega arith), lowered-shifted (k + 1) h, day-fitted k (omega arith) .most)),
         )
 
-    pub lowered-ready : Ready fs (loweredAll fs cs rs n margin) rs n
+    pub lowered-ready : Ready fs (loweredAll fs cs rs n w margin) rs n
     lowered-ready =
         record {
           some = r .some;
           most = r .most;
           floors = r .floors;
-          ceilings = length-written (lowered fs cs rs n margin) n cs ∙ r .ceilings;
+          ceilings = length-written (lowered fs cs rs n w margin) n cs ∙ r .ceilings;
           rises = r .rises;
           fits = lowered-above;
           ceiling = λ k h. omega (arith, lowered-below k h, r .ceiling k h);
@@ -248,7 +250,7 @@ mirrored-ready {fs} {cs} {rs} {n} r down =
         )
 
 -- the raised floors are the mirror of the ceilings that the pass makes there
-pub raised-is : (fs cs rs : List ℕ) (n margin : ℕ)
-    → raised fs cs rs n margin ≡ written (mirrored (loweredAll (mirroredAll cs n) (mirroredAll fs n) (reversedAll rs n) n margin) n) n fs
+pub raised-is : (fs cs rs : List ℕ) (n first margin : ℕ)
+    → raised fs cs rs n first margin ≡ written (mirrored (loweredAll (mirroredAll cs n) (mirroredAll fs n) (reversedAll rs n) n (counted 0 (n - first)) margin) n) n fs
 unfolding raised
-raised-is fs cs rs n margin = refl
+raised-is fs cs rs n first margin = refl

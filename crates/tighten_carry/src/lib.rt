@@ -1,62 +1,62 @@
-// Floors carried forward, and whether a floor is above its ceiling.
+// Floors carried forward, ceilings carried back, and whether a floor is above its ceiling. A rise code is the rise plus 2,000.
 ghost use mathlib.Core.Path.{_≡_};
-ghost use Prim.Native.Nat.{_*_, _≤_, max};
+ghost use Prim.Native.Nat.{_≤_, _<_};
 ghost use lib.Dec.{ltb};
 ghost use Rattle.limits.specs.Limits.{mostDays};
 ghost use Rattle.theory_lists.specs.Sum.{at};
 ghost use Rattle.theory_lists.specs.Written.{written};
-ghost use Rattle.theory_chains.specs.Sum.{sum, all};
 ghost use Rattle.theory_method.specs.Filter.{carried, firstCrossed};
+ghost use Rattle.tighten_carry.specs.Back.{carriedBack};
+use base_numbers::larger;
+use base_numbers::smaller;
 use base_numbers::word;
 use limits::MOST_DAYS;
 use limits::RISE_OFFSET;
 
-// The days that were carried, and the sum of their floors.
-pub struct Carried {
-    pub days: usize,
-    pub sum: usize,
-}
-
-fn larger(x: u32, y: u32) -> u32
-    ensures { λ r. ⌜ r ≡ max x y ⌝ }
-{
-    if x < y { y } else { x }
-}
-
-// Carries the floors forward, up to the first day whose carried floor is above its ceiling, or all n. `up` is the least
-// level of day i plus 2,000, as a rise code is the rise plus 2,000.
+// Carries the floors forward, up to the first day whose carried floor is above its ceiling: the result, or n. `up` is the
+// least level of day i plus 2,000.
 pub fn carry(
     floors: &mut [u16; MOST_DAYS],
     ceilings: &[u16; MOST_DAYS],
     rises: &[u16; MOST_DAYS],
     n: usize,
-) -> Carried
+) -> usize
     requires { ⌜ n ≤ mostDays ⌝ }
-    ensures { λ r. ⌜ r .days ≡ firstCrossed (carried (now (floors .entry)) (now (rises .entry))) (at (now (ceilings .entry))) n ⌝ }
-    ensures { λ r. ⌜ now (floors .exit) ≡ written (carried (now (floors .entry)) (now (rises .entry))) (r .days) (now (floors .entry)) ⌝ }
-    ensures { λ r. ⌜ (r .sum ≡ sum all (r .days) (carried (now (floors .entry)) (now (rises .entry)))) × (r .sum ≤ r .days * 65535) ⌝ }
+    ensures { λ r. ⌜ r ≡ firstCrossed (carried (now (floors .entry)) (now (rises .entry))) (at (now (ceilings .entry))) n ⌝ }
+    ensures { λ r. ⌜ now (floors .exit) ≡ written (carried (now (floors .entry)) (now (rises .entry))) r (now (floors .entry)) ⌝ }
 {
     let mut up = 0u32;
-    let mut sum = 0u32;
     let mut i = 0u32;
     let end = n as u32;
     while i < end {
         let k = i as usize;
         let floor = larger(word(floors[k]) + RISE_OFFSET as u32, up) - RISE_OFFSET as u32;
         if word(ceilings[k]) < floor {
-            return Carried {
-                days: k,
-                sum: sum as usize,
-            };
+            return k;
         }
         floors[k] = floor as u16;
-        sum += floor;
         up = floor + word(rises[k]);
         i += 1;
     }
-    Carried {
-        days: n,
-        sum: sum as usize,
+    n
+}
+
+// Carries back from day n to the days before it: each level is at most the one after less the rise between them.
+pub fn carry_back(levels: &mut [u16; MOST_DAYS], rises: &[u16; MOST_DAYS], n: usize)
+    requires { ⌜ n < mostDays ⌝ }
+    ensures { λ _. ⌜ now (levels .exit) ≡ written (carriedBack (now (levels .entry)) (now (rises .entry)) n) n (now (levels .entry)) ⌝ }
+{
+    let mut high = word(levels[n]);
+    let mut i = n as u32;
+    while 0 < i {
+        i -= 1;
+        let k = i as usize;
+        let rise = word(rises[k]);
+        high = smaller(
+            word(levels[k]),
+            larger(high + RISE_OFFSET as u32, rise) - rise,
+        );
+        levels[k] = high as u16;
     }
 }
 

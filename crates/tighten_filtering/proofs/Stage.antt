@@ -1,5 +1,5 @@
 -- What the stages of tightening leave for one another: a record for each stage, and the laws that the next needs and that each return is by.
-use Prim.Native.Nat.{ℕ, _+_, _-_, _*_, _≤_, _<_, min, max}
+use Prim.Native.Nat.{ℕ, _-_, _≤_, _<_, min, max}
 use mathlib.Core.Path.{_≡_, sym, _∙_}
 use mathlib.Core.Bool.{Bool, true, false}
 use mathlib.Core.List.{List}
@@ -8,9 +8,9 @@ use lib.Dec.{ltb}
 use borrow.Author.Tests.{lt-ltb, le-ltb}
 use Rattle.theory_lists.specs.Sum.{at}
 use Rattle.theory_lists.specs.Written.{written}
-use Rattle.theory_chains.specs.Sum.{sum, all, sum-eq}
+use Rattle.theory_method.specs.Counted.{counted}
 use Rattle.theory_method.specs.Filter.{Box, withFloors, withCeilings, InBounds, carried, firstCrossed, forwarded, lowered, raised, held, none, tightFloors, tightCeilings, tightened}
-use Rattle.theory_method.specs.Stages.{Ready, ready, forwarded-at, crossing, lowered-ready, lowered-rising}
+use Rattle.theory_method.specs.Stages.{Ready, ready, crossing, lowered-ready, lowered-rising}
 use Rattle.tighten_passes.specs.View.{FloorsReady}
 
 -- ---- tighten
@@ -24,14 +24,14 @@ pub record Carried (b : Box) (fs : List ℕ) : Type 0 where
 -- their total is at most the highest, and the ceilings are lowered by what is left
 pub record Lowered (b : Box) (fs : List ℕ) (s : ℕ) (cs : List ℕ) : Type 0 where
   pub before : Carried b fs
-  pub bottom : s ≡ held (b .days) (at fs)
+  pub bottom : s ≡ held (b .days) (b .first) (at fs)
   pub under : s ≤ b .highest
-  pub ceilings : cs ≡ written (lowered fs (b .ceilings) (b .rises) (b .days) (b .highest - s)) (b .days) (b .ceilings)
+  pub ceilings : cs ≡ written (lowered fs (b .ceilings) (b .rises) (b .days) (counted (b .first) (b .days)) (b .highest - s)) (b .days) (b .ceilings)
 
 -- the total's range is narrowed
 pub record Narrowed (b : Box) (fs : List ℕ) (s : ℕ) (cs : List ℕ) (t l u : ℕ) : Type 0 where
   pub before : Lowered b fs s cs
-  pub top : t ≡ held (b .days) (at cs)
+  pub top : t ≡ held (b .days) (b .first) (at cs)
   pub low : l ≡ max (b .lowest) s
   pub high : u ≡ min (b .highest) t
 
@@ -55,18 +55,6 @@ module _ {b : Box} (h : InBounds b) {r : ℕ} (er : r ≡ firstCrossed (carried 
     pub carries : Carried b fs
     carries = record { bounds = h; clear = rw er at clear; floors = rw every at ef }
 
-    -- the sum t of the carried floors is small, and held it is the total's floor
-    module _ {t : ℕ} (et : (t ≡ sum all r (carried (b .floors) (b .rises))) × (t ≤ r * 65535)) where
-      pub carried-small : (b .days ≤ 512) × (t ≤ b .days * 65535)
-      carried-small = (h .most, omega (arith, every, et .1))
-
-      pub carried-held : {s : ℕ} → s ≡ t + 1000 * (512 - b .days) → s ≡ held (b .days) (at fs)
-      carried-held es =
-          let same : sum all (b .days) (at fs) ≡ sum all (b .days) (carried (b .floors) (b .rises)) =
-          rw (carries .floors) (sum-eq all (b .days) _ _ (forwarded-at h (carries .clear))) in
-          let total : t ≡ sum all (b .days) (carried (b .floors) (b .rises)) = rw every at (et .0) in
-          omega (arith, same, total, es)
-
 module _ {b : Box} {fs : List ℕ} (d : Carried b fs) where
   pub carried-ready : Ready fs (b .ceilings) (b .rises) (b .days)
   carried-ready = rw (d .floors) (ready (d .bounds) (d .clear))
@@ -77,10 +65,10 @@ module _ {b : Box} {fs : List ℕ} (d : Carried b fs) where
       let t : ltb (firstCrossed (carried (b .floors) (b .rises)) (at (b .ceilings)) (b .days)) (b .days) ≡ false = le-ltb _ _ (d .clear) in
       rw (t, d .floors)
 
-  pub tight-over : {bottom : ℕ} → bottom ≡ held (b .days) (at fs) → b .highest < bottom → none (withFloors b fs) ≡ tightened b
+  pub tight-over : {bottom : ℕ} → bottom ≡ held (b .days) (b .first) (at fs) → b .highest < bottom → none (withFloors b fs) ≡ tightened b
   unfolding tightCeilings
   tight-over eb l =
-      let t : ltb (b .highest) (held (b .days) (at fs)) ≡ true = lt-ltb _ _ (rw eb at l) in
+      let t : ltb (b .highest) (held (b .days) (b .first) (at fs)) ≡ true = lt-ltb _ _ (rw eb at l) in
       let z : tightCeilings (withFloors b fs) ≡ none (withFloors b fs) = rw t in
       sym z ∙ after-carrying
 
@@ -88,18 +76,18 @@ module _ {b : Box} {fs : List ℕ} {bottom : ℕ} {cs : List ℕ} (d : Lowered b
   pub lowered-raisable : FloorsReady fs cs (b .rises) (b .days)
   lowered-raisable =
       let r = carried-ready (d .before) in
-      rw (d .ceilings) (record { ready = lowered-ready r (b .highest - bottom); rising = lowered-rising r (b .highest - bottom) })
+      rw (d .ceilings) (record { ready = lowered-ready r (counted (b .first) (b .days)) (b .highest - bottom); rising = lowered-rising r (counted (b .first) (b .days)) (b .highest - bottom) })
 
   after-lowering : tightFloors (within b fs cs) ≡ tightened b
   unfolding tightCeilings
   after-lowering =
-      let t : ltb (b .highest) (held (b .days) (at fs)) ≡ false = le-ltb _ _ (rw (d .bottom) at (d .under)) in
+      let t : ltb (b .highest) (held (b .days) (b .first) (at fs)) ≡ false = le-ltb _ _ (rw (d .bottom) at (d .under)) in
       let z : tightCeilings (withFloors b fs) ≡ tightFloors (within b fs cs) = rw (t, d .ceilings, d .bottom) in
       sym z ∙ after-carrying (d .before)
 
 module _ {b : Box} {fs : List ℕ} {bottom : ℕ} {cs : List ℕ} {top low high : ℕ} (d : Narrowed b fs bottom cs top low high) where
   abbrev apart : Bool
-  apart = ltb (min (b .highest) (held (b .days) (at cs))) (max (b .lowest) (held (b .days) (at fs)))
+  apart = ltb (min (b .highest) (held (b .days) (b .first) (at cs))) (max (b .lowest) (held (b .days) (b .first) (at fs)))
 
   pub tight-apart : high < low → none (within b fs cs) ≡ tightened b
   unfolding tightFloors
@@ -109,10 +97,10 @@ module _ {b : Box} {fs : List ℕ} {bottom : ℕ} {cs : List ℕ} {top low high 
       sym z ∙ after-lowering (d .before)
 
   pub tight-found : low ≤ high
-      → record { found = true; floors = raised fs cs (b .rises) (b .days) (top - low); ceilings = cs; lowest = low; highest = high } ≡ tightened b
+      → record { found = true; floors = raised fs cs (b .rises) (b .days) (b .first) (top - low); ceilings = cs; lowest = low; highest = high } ≡ tightened b
   unfolding tightFloors
   tight-found l =
       let t : apart ≡ false = le-ltb _ _ (rw (d .high, d .low, d .top, d .before .bottom) at l) in
-      let z : tightFloors (within b fs cs) ≡ record { found = true; floors = raised fs cs (b .rises) (b .days) (top - low); ceilings = cs; lowest = low; highest = high }
+      let z : tightFloors (within b fs cs) ≡ record { found = true; floors = raised fs cs (b .rises) (b .days) (b .first) (top - low); ceilings = cs; lowest = low; highest = high }
       = rw (t, d .high, d .low, d .top, d .before .bottom) in
       sym z ∙ after-lowering (d .before)

@@ -5,4 +5,4 @@ use Rattle.theory_method.specs.Filter.{Box, box}
 use Rattle.base_codes.specs.declared.CodedNumbers.{CodedNumbers}
 
 abbrev pub boxed : List ℕ → List ℕ → List ℕ → CodedNumbers → Box
-boxed fs cs rs m = box fs cs rs (m .days) (m .lowest) (m .highest)
+boxed fs cs rs m = box fs cs rs (m .days) (m .first) (m .lowest) (m .highest)

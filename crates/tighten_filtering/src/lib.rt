@@ -3,7 +3,6 @@ ghost use mathlib.Core.Path.{_≡_};
 ghost use mathlib.Core.Bool.{false};
 ghost use Rattle.theory_method.specs.Filter.{InBounds, tightened};
 ghost use Rattle.tighten_filtering.specs.Boxed.{boxed};
-use base_arrays::held_sum;
 use base_arrays::held_total;
 use base_codes::CodedNumbers;
 use base_numbers::max;
@@ -42,23 +41,23 @@ pub fn tighten(
     ensures { λ r. ⌜ record { found = r .found; floors = now (floors .exit); ceilings = now (ceilings .exit); lowest = r .lowest; highest = r .highest } ≡ tightened (boxed (now (floors .entry)) (now (ceilings .entry)) (now (rises .entry)) numbers) ⌝ }
 {
     let n = numbers.days;
+    let first = numbers.first;
     let highest = numbers.highest;
-    let carried = carry(floors, ceilings, rises, n);
-    if carried.days < n {
+    if carry(floors, ceilings, rises, n) < n {
         return none();
     }
-    let bottom = held_sum(carried.sum, n);
+    let bottom = held_total(floors, n, first);
     if highest < bottom {
         return none();
     }
-    lower_ceilings(floors, ceilings, rises, n, (highest - bottom) as u32);
-    let top = held_total(ceilings, n);
+    lower_ceilings(floors, ceilings, rises, n, first, (highest - bottom) as u32);
+    let top = held_total(ceilings, n, first);
     let low = max(numbers.lowest, bottom);
     let high = min(highest, top);
     if high < low {
         return none();
     }
-    raise_floors(floors, ceilings, rises, n, (top - low) as u32);
+    raise_floors(floors, ceilings, rises, n, first, (top - low) as u32);
     Totals {
         found: true,
         lowest: low,

@@ -6,12 +6,13 @@ use native.Mathlib.Omega.{arith}
 use native.Mathlib.Decide.{decLt}
 use lib.Dec.{ltb}
 use borrow.Author.Tests.{ltb-true, ltb-false}
+use Rattle.theory_method.specs.Counted.{countIn}
 use Rattle.tighten_passes.specs.Round.{below, window, over, step, rounded}
 
-pub rounded-is : (a : ℕ → ℕ) (n i margin v : ℕ)
-    → rounded a n i margin v ≡ v - step (over a n i v - margin) (window a n i v) (v - a (i + window a n i v - 1))
+pub rounded-is : (w : ℕ → Bool) (a : ℕ → ℕ) (n i margin v : ℕ)
+    → rounded w a n i margin v ≡ v - step (over w a n i v - margin) (countIn w i (window a n i v)) (v - a (i + window a n i v - 1))
 unfolding rounded
-rounded-is a n i margin v = refl
+rounded-is w a n i margin v = refl
 
 module _ (a : ℕ → ℕ) (i v : ℕ) where
   pub below-most : (m : ℕ) → below a i v m ≤ m

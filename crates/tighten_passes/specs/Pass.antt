@@ -1,9 +1,10 @@
--- What the functions of a pass hand on, over n days of floors and rise codes. Levels are shifted.
+-- What the functions of a pass hand on, over n days of floors and rise codes, all of which count. Levels are shifted.
 use Prim.Native.Nat.{ℕ, _+_, _-_, _*_, _≤_, _<_, min}
 use mathlib.Core.Path.{_≡_}
 use mathlib.Core.List.{List}
 use Rattle.limits.specs.Limits.{mostDays, highestLevel, highestShift, highestHeld}
 use Rattle.theory_lists.specs.Sum.{sumFor, at}
+use Rattle.theory_chains.specs.Sum.{all}
 use Rattle.theory_chains.specs.Fit.{Fitted}
 use Rattle.theory_method.specs.Shift.{shift}
 use Rattle.theory_method.specs.Filter.{shifted}
@@ -49,12 +50,12 @@ pub record Overloaded (fs rs : List ℕ) (n i margin v past c room top e : ℕ) 
 
 -- what a round leaves of v: the level u and its days
 pub record Rounded (fs rs : List ℕ) (n i margin v u past c room top e : ℕ) : Type 0 where
-  pub level : u ≡ rounded (shifted fs rs n) n i margin v
+  pub level : u ≡ rounded all (shifted fs rs n) n i margin v
   pub window : Found fs rs n i margin u past c room top e
 
 -- what the rounds leave: the greatest level up to cap within the margin, and its days
 pub record Lowest (fs rs : List ℕ) (n i margin cap u past c room top e : ℕ) : Type 0 where
-  pub level : Fitted (over (shifted fs rs n) n i) margin (shifted fs rs n i) cap u
+  pub level : Fitted (over all (shifted fs rs n) n i) margin (shifted fs rs n i) cap u
   pub window : Found fs rs n i margin u past c room top e
 
 -- what is handed on to day i, with the next day at v: the window of the next day and day i itself

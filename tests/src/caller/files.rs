@@ -29,6 +29,7 @@ impl Caller {
             cuts: LentNumber::new(),
             total_floor: LentNumber::new(),
             total_ceiling: LentNumber::new(),
+            first: LentNumber::new(),
         };
         let number = entries::read_file(&mut file, &mut lists, &mut numbers);
         self.answered(Entry::ReadFile, number, &expected)?;
@@ -77,5 +78,7 @@ fn read_contents(lists: &FileLists, numbers: &FileNumbers, read: Option<&Content
     let least = read.map_or(0, |c| c.lists.total_floor);
     numbers.total_floor.holds("total_floor", least)?;
     let most = read.map_or(0, |c| c.lists.total_ceiling);
-    numbers.total_ceiling.holds("total_ceiling", most)
+    numbers.total_ceiling.holds("total_ceiling", most)?;
+    let first = read.map_or(0, |c| c.lists.first);
+    numbers.first.holds("first_counted_day", first)
 }

@@ -79,6 +79,7 @@ impl Caller {
             rises: self.lend(&lists.rises),
             total_floor: lists.total_floor,
             total_ceiling: lists.total_ceiling,
+            first: lists.first,
         }
     }
 

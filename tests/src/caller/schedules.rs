@@ -4,7 +4,7 @@ use super::{Caller, Held};
 use crate::entries;
 use crate::lent::{same, Checked, Lent, LentNumber};
 use crate::oracle::calls::{elements, InspectCall, WriteDayCall, WriteTotalCall};
-use crate::oracle::profile::{first_broken, sum, Ranges, Rule};
+use crate::oracle::profile::{first_broken, Profile, Ranges, Rule};
 use crate::tally::Entry;
 
 impl Caller {
@@ -21,7 +21,7 @@ impl Caller {
         let number = entries::write_day(&mut session, call.day, call.value, &mut schedule);
         self.answered(Entry::WriteDay, number, &expected)?;
         session.holds("session", &[])?;
-        let written = written_schedule(&schedule, expected.ok(), held.oracle.rises())?;
+        let written = written_schedule(&schedule, expected.ok(), held.oracle.profile())?;
         if let Some(schedule) = &written {
             let setpoint = schedule[call.day];
             same("the setpoint on the day", setpoint, call.value as i64)?;
@@ -42,9 +42,10 @@ impl Caller {
         let number = entries::write_total(&mut session, call.value, &mut schedule);
         self.answered(Entry::WriteTotal, number, &expected)?;
         session.holds("session", &[])?;
-        let written = written_schedule(&schedule, expected.ok(), held.oracle.rises())?;
+        let written = written_schedule(&schedule, expected.ok(), held.oracle.profile())?;
         if let Some(schedule) = &written {
-            same("the sum", sum(schedule), call.value as i64)?;
+            let counted = held.oracle.profile().counted_sum(schedule);
+            same("the counted sum", counted, call.value as i64)?;
         }
         Ok(written)
     }
@@ -78,7 +79,7 @@ impl Caller {
 fn written_schedule(
     list: &Lent,
     present: Option<&Ranges>,
-    rises: &[i64],
+    profile: &Profile,
 ) -> Checked<Option<Vec<i64>>> {
     let Some(present) = present else {
         list.holds("schedule", &[])?;
@@ -86,7 +87,7 @@ fn written_schedule(
     };
     list.guarded("schedule")?;
     let schedule = elements(list.data());
-    match first_broken(present, rises, &schedule) {
+    match first_broken(present, profile, &schedule) {
         Rule::Kept => Ok(Some(schedule)),
         broken => Err(format!("the schedule {schedule:?} breaks {broken:?}")),
     }

@@ -33,7 +33,7 @@ pub fn profile(random: &mut Random, lists: &mut ProfileLists) {
     let point_out = [-1_001, 4_001, i16::MIN, i16::MAX];
     let rise_out = [-2_001, 2_001, i16::MIN, i16::MAX];
     let total_out = [-512_001, 2_048_001, i32::MIN, i32::MAX];
-    match random.below(11) {
+    match random.below(13) {
         0 => lists.days = random.pick(&HUGE),
         1 => {
             lists.days = [
@@ -50,6 +50,8 @@ pub fn profile(random: &mut Random, lists: &mut ProfileLists) {
         7 => put_anywhere(random, &mut lists.rises, &rise_out),
         8 => lists.total_floor = random.pick(&total_out),
         9 => lists.total_ceiling = random.pick(&total_out),
+        10 => lists.first = random.pick(&[lists.days, lists.days.saturating_add(1), 65_535]),
+        11 => lists.first = random.pick(&HUGE),
         _ => cross(random, lists),
     }
 }

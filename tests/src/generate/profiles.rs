@@ -19,6 +19,28 @@ pub fn clip(value: i64, bounds: &RangeInclusive<i64>) -> i64 {
     value.clamp(*bounds.start(), *bounds.end())
 }
 
+/// The first counted day of so many: often 0, and each other one.
+fn first(random: &mut Random, days: usize) -> usize {
+    match random.below(6) {
+        0..=1 => 0,
+        2 => days - 1,
+        3 => random.below(4).min(days - 1),
+        _ => random.below(days),
+    }
+}
+
+/// The same profile counted from another day on. The total's range is moved by the floors that count
+/// no more, so that it limits the days as it did.
+pub fn counted_from(profile: &Profile, first: usize) -> Profile {
+    let mut moved = profile.clone();
+    moved.first = first;
+    let floors = profile.ranges.floors();
+    let step = moved.counted_sum(&floors) - profile.counted_sum(&floors);
+    let Range { floor, ceiling } = profile.ranges.total;
+    moved.ranges.total = total(floor + step, ceiling + step);
+    moved
+}
+
 /// One to six days with few setpoints each.
 pub fn small(random: &mut Random) -> Profile {
     let days = random.between(1, 6) as usize;
@@ -58,8 +80,9 @@ fn free(random: &mut Random, days: usize, base: i64, most_width: i64) -> Profile
             Range { floor, ceiling }
         })
         .collect();
-    let floors: i64 = ranges.iter().map(|range| range.floor).sum();
-    let ceilings: i64 = ranges.iter().map(|range| range.ceiling).sum();
+    let first = first(random, days);
+    let floors: i64 = ranges[first..].iter().map(|range| range.floor).sum();
+    let ceilings: i64 = ranges[first..].iter().map(|range| range.ceiling).sum();
     let least = random.between(floors - 2, ceilings + 1);
     let most = least + random.between(0, 2 + (ceilings - floors) / 2);
     Profile {
@@ -68,6 +91,7 @@ fn free(random: &mut Random, days: usize, base: i64, most_width: i64) -> Profile
             total: total(least, most),
         },
         rises: (1..days).map(|_| random.between(-3, 2)).collect(),
+        first,
     }
 }
 
@@ -91,14 +115,17 @@ fn around(random: &mut Random, schedule: &[i64], slack: &Slack) -> Profile {
         .windows(2)
         .map(|pair| clip(pair[1] - pair[0] - random.between(0, slack.rise), &RISES))
         .collect();
-    let least = sum(schedule) - random.between(0, slack.total);
-    let most = sum(schedule) + random.between(0, slack.total);
+    let first = first(random, schedule.len());
+    let counted = sum(&schedule[first..]);
+    let least = counted - random.between(0, slack.total);
+    let most = counted + random.between(0, slack.total);
     Profile {
         ranges: Ranges {
             days,
             total: total(least, most),
         },
         rises,
+        first,
     }
 }
 
@@ -226,7 +253,9 @@ fn extreme(random: &mut Random, days: usize) -> Profile {
         2 => (1..days).map(|day| [2_000, -2_000][day % 2]).collect(),
         _ => vec![*RISES.end(); days - 1],
     };
-    let (least, most) = (floor * days as i64, ceiling * days as i64);
+    let first = first(random, days);
+    let counted = (days - first) as i64;
+    let (least, most) = (floor * counted, ceiling * counted);
     let totals = [
         (*TOTALS.start(), *TOTALS.end()),
         (*TOTALS.start(), least),
@@ -244,6 +273,7 @@ fn extreme(random: &mut Random, days: usize) -> Profile {
             },
         },
         rises,
+        first,
     }
 }
 

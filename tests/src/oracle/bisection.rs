@@ -4,22 +4,24 @@
 //! sequences that never fall. Once floors are carried forward and ceilings backward, the sequences
 //! through value v on day i have as least sum that of the floors before i, v, and the larger of v
 //! and the floor on each later day; as greatest sum that of the smaller of v and the ceiling on
-//! each earlier day, v, and the ceilings after i. Every sum between is reached, since one setpoint
-//! can be raised by 1 at a time. So v has a schedule exactly if its least sum is at most the
-//! total's ceiling and its greatest at least the total's floor, and both sums grow with v.
+//! each earlier day, v, and the ceilings after i; each over the counted days among these. Every sum
+//! between is reached, since one setpoint can be raised by 1 at a time. So v has a schedule exactly
+//! if its least sum is at most the total's ceiling and its greatest at least the total's floor, and
+//! neither sum falls as v grows.
 
-use super::profile::{sum, Cut, Kind, Profile, Range, Ranges};
+use super::profile::{Cut, Kind, Profile, Range, Ranges};
 
 /// The lowest and highest values that the schedules which keep every cut take; `None` if there is
 /// no such schedule.
 pub fn ranges(profile: &Profile, cuts: &[Cut]) -> Option<Ranges> {
     let bounds = clipped(&profile.ranges, cuts);
     let shifts = shifts(&profile.rises);
+    let shift = profile.counted_sum(&shifts);
     let moved = Range {
-        floor: bounds.total.floor - sum(&shifts),
-        ceiling: bounds.total.ceiling - sum(&shifts),
+        floor: bounds.total.floor - shift,
+        ceiling: bounds.total.ceiling - shift,
     };
-    let chain = Chain::new(&bounds, &shifts)?;
+    let chain = Chain::new(&bounds, &shifts, profile.first)?;
     let total = chain.total(moved)?;
     let shift_back = |(day, &shift): (usize, &i64)| {
         let range = chain.day(day, total);
@@ -31,8 +33,8 @@ pub fn ranges(profile: &Profile, cuts: &[Cut]) -> Option<Ranges> {
     Some(Ranges {
         days: shifts.iter().enumerate().map(shift_back).collect(),
         total: Range {
-            floor: total.floor + sum(&shifts),
-            ceiling: total.ceiling + sum(&shifts),
+            floor: total.floor + shift,
+            ceiling: total.ceiling + shift,
         },
     })
 }
@@ -63,8 +65,9 @@ fn shifts(rises: &[i64]) -> Vec<i64> {
 }
 
 /// The bounds of sequences that never fall: carried, so that neither floors nor ceilings fall.
-/// `floors_before[i]` is the sum of the first i floors.
+/// `floors_before[i]` is the sum of the floors of the counted days before day i.
 struct Chain {
+    first: usize,
     floors: Vec<i64>,
     ceilings: Vec<i64>,
     floors_before: Vec<i64>,
@@ -73,7 +76,7 @@ struct Chain {
 
 impl Chain {
     /// `None` if a floor is above its ceiling.
-    fn new(bounds: &Ranges, shifts: &[i64]) -> Option<Chain> {
+    fn new(bounds: &Ranges, shifts: &[i64], first: usize) -> Option<Chain> {
         let shifted = |values: Vec<i64>| -> Vec<i64> {
             let pairs = values.iter().zip(shifts);
             pairs.map(|(value, shift)| value - shift).collect()
@@ -90,8 +93,9 @@ impl Chain {
             return None;
         }
         Some(Chain {
-            floors_before: sums_before(&floors),
-            ceilings_before: sums_before(&ceilings),
+            floors_before: sums_before(&floors, first),
+            ceilings_before: sums_before(&ceilings, first),
+            first,
             floors,
             ceilings,
         })
@@ -99,6 +103,11 @@ impl Chain {
 
     fn days(&self) -> usize {
         self.floors.len()
+    }
+
+    /// How many of the days from one on and before another count.
+    fn counted(&self, from: usize, to: usize) -> i64 {
+        (to.max(self.first) - from.max(self.first)) as i64
     }
 
     /// The sums that sequences have within the total's bounds; `None` if there are none.
@@ -124,22 +133,22 @@ impl Chain {
         let lower = self.floors[day + 1..].partition_point(|&floor| floor < value);
         let higher_from = day + 1 + lower;
         let higher = self.floors_before[self.days()] - self.floors_before[higher_from];
-        self.floors_before[day] + value * (1 + lower as i64) + higher
+        self.floors_before[day] + value * self.counted(day, higher_from) + higher
     }
 
     /// The greatest sum of a sequence that has this value on this day.
     fn greatest_sum(&self, day: usize, value: i64) -> i64 {
         let lower = self.ceilings[..day].partition_point(|&ceiling| ceiling < value);
-        let limited = (day - lower) as i64;
         let after = self.ceilings_before[self.days()] - self.ceilings_before[day + 1];
-        self.ceilings_before[lower] + value * (limited + 1) + after
+        self.ceilings_before[lower] + value * self.counted(lower, day + 1) + after
     }
 }
 
-fn sums_before(values: &[i64]) -> Vec<i64> {
+fn sums_before(values: &[i64], first: usize) -> Vec<i64> {
     let mut sums = vec![0];
-    for value in values {
-        sums.push(sums[sums.len() - 1] + value);
+    for (day, value) in values.iter().enumerate() {
+        let counted = if day < first { 0 } else { *value };
+        sums.push(sums[day] + counted);
     }
     sums
 }

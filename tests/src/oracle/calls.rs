@@ -15,6 +15,7 @@ pub struct ProfileLists {
     pub rises: Vec<u8>,
     pub total_floor: i32,
     pub total_ceiling: i32,
+    pub first: usize,
 }
 
 impl ProfileLists {
@@ -27,6 +28,7 @@ impl ProfileLists {
             rises: bytes_of(&profile.rises),
             total_floor: ranges.total.floor as i32,
             total_ceiling: ranges.total.ceiling as i32,
+            first: profile.first,
         }
     }
 }
@@ -35,8 +37,8 @@ impl fmt::Debug for ProfileLists {
     fn fmt(&self, out: &mut fmt::Formatter) -> fmt::Result {
         writeln!(
             out,
-            "days {}, total {}..{}",
-            self.days, self.total_floor, self.total_ceiling
+            "days {}, total {}..{}, first counted day {}",
+            self.days, self.total_floor, self.total_ceiling, self.first
         )?;
         let lists = [
             ("floors", &self.floors),

@@ -11,6 +11,7 @@ pub enum Cause {
     Rise,
     Total,
     FloorAboveCeiling,
+    FirstDay,
     UnknownKind,
     DayOfTotalCut,
     Day,
@@ -41,6 +42,7 @@ impl Cause {
             Cause::OutsideRange => 10,
             Cause::FileUnderHeader | Cause::FileOffset | Cause::FileLength => 11,
             Cause::UnknownKind | Cause::DayOfTotalCut | Cause::LastRise => 12,
+            Cause::FirstDay => 13,
         }
     }
 }

@@ -1,6 +1,6 @@
 //! Exact ranges by search: all schedules of a small profile that keep every cut.
 
-use super::profile::{sum, Cut, Profile, Range, Ranges};
+use super::profile::{Cut, Profile, Range, Ranges};
 
 /// A profile is small if its ranges hold at most this many sequences of setpoints.
 const MOST_SEQUENCES: i64 = 4_000;
@@ -18,8 +18,8 @@ pub fn is_small(profile: &Profile) -> bool {
 pub fn ranges(profile: &Profile, cuts: &[Cut]) -> Option<Ranges> {
     let mut taken = None;
     visit(profile, &mut Vec::new(), &mut |schedule| {
-        if cuts.iter().all(|cut| cut.is_kept_by(schedule)) {
-            include(&mut taken, schedule);
+        if cuts.iter().all(|cut| cut.is_kept_by(profile, schedule)) {
+            include(&mut taken, schedule, profile.counted_sum(schedule));
         }
     });
     taken
@@ -29,7 +29,7 @@ pub fn ranges(profile: &Profile, cuts: &[Cut]) -> Option<Ranges> {
 fn visit(profile: &Profile, setpoints: &mut Vec<i64>, found: &mut dyn FnMut(&[i64])) {
     let day = setpoints.len();
     if day == profile.ranges.days.len() {
-        if profile.ranges.total.holds(sum(setpoints)) {
+        if profile.ranges.total.holds(profile.counted_sum(setpoints)) {
             found(setpoints);
         }
         return;
@@ -44,15 +44,15 @@ fn visit(profile: &Profile, setpoints: &mut Vec<i64>, found: &mut dyn FnMut(&[i6
     }
 }
 
-fn include(taken: &mut Option<Ranges>, schedule: &[i64]) {
+fn include(taken: &mut Option<Ranges>, schedule: &[i64], total: i64) {
     let ranges = taken.get_or_insert_with(|| Ranges {
         days: schedule.iter().map(|&setpoint| only(setpoint)).collect(),
-        total: only(sum(schedule)),
+        total: only(total),
     });
     for (day, &setpoint) in schedule.iter().enumerate() {
         widen(&mut ranges.days[day], setpoint);
     }
-    widen(&mut ranges.total, sum(schedule));
+    widen(&mut ranges.total, total);
 }
 
 fn only(value: i64) -> Range {

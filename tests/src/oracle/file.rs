@@ -4,7 +4,7 @@ use super::calls::{
     elements, signed_4, unsigned_2, CutNumbers, ProfileLists, ReadFileCall, WriteFileCall,
 };
 use super::causes::{refuse_if, Cause};
-use super::{judging, CUT_BYTES, DAY_BYTES, HEADER_BYTES, MOST_CUTS};
+use super::{judging, CUT_BYTES, DAYS_OFFSET, DAY_BYTES, HEADER_BYTES, MOST_CUTS};
 
 /// What a file holds; `cuts` has 8 bytes for each cut.
 #[derive(Clone, PartialEq, Eq, Debug)]
@@ -30,26 +30,26 @@ pub fn read(call: &ReadFileCall) -> Result<Contents, Cause> {
     Ok(contents)
 }
 
-/// 11 (under 16 bytes), 1, 11 (offsets, length).
+/// 11 (under 18 bytes), 1, 11 (offsets, length).
 fn layout(file: &[u8]) -> Result<(), Cause> {
-    refuse_if(file.len() < HEADER_BYTES, Cause::FileUnderHeader)?;
+    refuse_if(file.len() < DAYS_OFFSET, Cause::FileUnderHeader)?;
     let (days, cuts) = (unsigned_2(file, 0), unsigned_2(file, 2));
     judging::day_count(days)?;
     refuse_if(cuts > MOST_CUTS, Cause::CutCount)?;
     let wrong_offset =
-        unsigned_2(file, 4) != HEADER_BYTES || unsigned_2(file, 6) != offset_of_cuts(days);
+        unsigned_2(file, 4) != DAYS_OFFSET || unsigned_2(file, 6) != offset_of_cuts(days);
     refuse_if(wrong_offset, Cause::FileOffset)?;
     let length = offset_of_cuts(days) + CUT_BYTES * cuts;
     refuse_if(file.len() != length, Cause::FileLength)
 }
 
 fn offset_of_cuts(days: usize) -> usize {
-    HEADER_BYTES + DAY_BYTES * days
+    DAYS_OFFSET + DAY_BYTES * days
 }
 
 fn contents(file: &[u8]) -> Contents {
     let days = unsigned_2(file, 0);
-    let day_fields = file[HEADER_BYTES..offset_of_cuts(days)].chunks_exact(DAY_BYTES);
+    let day_fields = file[DAYS_OFFSET..offset_of_cuts(days)].chunks_exact(DAY_BYTES);
     let field = |place: usize, count: usize| -> Vec<u8> {
         let fields = day_fields.clone().take(count);
         fields
@@ -64,6 +64,7 @@ fn contents(file: &[u8]) -> Contents {
             rises: field(4, days - 1),
             total_floor: signed_4(file, 8),
             total_ceiling: signed_4(file, 12),
+            first: unsigned_2(file, HEADER_BYTES),
         },
         cuts: file[offset_of_cuts(days)..].to_vec(),
     }
@@ -90,7 +91,7 @@ pub fn bytes(lists: &ProfileLists, cuts: &[u8]) -> Vec<u8> {
     let counts = [
         lists.days,
         cuts.len() / CUT_BYTES,
-        HEADER_BYTES,
+        DAYS_OFFSET,
         offset_of_cuts(lists.days),
     ];
     for count in counts {
@@ -98,6 +99,7 @@ pub fn bytes(lists: &ProfileLists, cuts: &[u8]) -> Vec<u8> {
     }
     file.extend_from_slice(&lists.total_floor.to_le_bytes());
     file.extend_from_slice(&lists.total_ceiling.to_le_bytes());
+    file.extend_from_slice(&(lists.first as u16).to_le_bytes());
     let (floors, ceilings) = (elements(&lists.floors), elements(&lists.ceilings));
     let rises = elements(&lists.rises);
     for day in 0..lists.days {

@@ -10,7 +10,7 @@ pub fn day_count(days: usize) -> Result<(), Cause> {
     refuse_if(days == 0 || days > MOST_DAYS, Cause::DayCount)
 }
 
-/// The lists of a profile whose day count was judged before: 2, 3, 4, 5, 6.
+/// The lists of a profile whose day count was judged before: 2, 3, 4, 5, 6, 13.
 pub fn profile(lists: &ProfileLists) -> Result<Profile, Cause> {
     let wrong_length = lists.floors.len() != 2 * lists.days
         || lists.ceilings.len() != 2 * lists.days
@@ -31,6 +31,7 @@ pub fn profile(lists: &ProfileLists) -> Result<Profile, Cause> {
         .iter()
         .any(|day| day.floor > day.ceiling);
     refuse_if(above || floor > ceiling, Cause::FloorAboveCeiling)?;
+    refuse_if(lists.first >= lists.days, Cause::FirstDay)?;
     Ok(profile)
 }
 
@@ -48,6 +49,7 @@ fn profile_of(lists: &ProfileLists) -> Profile {
             },
         },
         rises: elements(&lists.rises),
+        first: lists.first,
     }
 }
 

@@ -41,11 +41,19 @@ impl Ranges {
     }
 }
 
-/// `rises[i]` is the least rise from day i to day i + 1.
+/// `rises[i]` is the least rise from day i to day i + 1; `first` is the first counted day.
 #[derive(Clone, PartialEq, Eq, Debug)]
 pub struct Profile {
     pub ranges: Ranges,
     pub rises: Vec<i64>,
+    pub first: usize,
+}
+
+impl Profile {
+    /// The total of a schedule: its sum from the first counted day on.
+    pub fn counted_sum(&self, schedule: &[i64]) -> i64 {
+        sum(&schedule[self.first..])
+    }
 }
 
 #[derive(Clone, Copy, PartialEq, Eq, Debug)]
@@ -79,12 +87,12 @@ pub struct Cut {
 }
 
 impl Cut {
-    pub fn is_kept_by(&self, schedule: &[i64]) -> bool {
+    pub fn is_kept_by(&self, profile: &Profile, schedule: &[i64]) -> bool {
         match self.kind {
             Kind::DayFloor => schedule[self.day] >= self.value,
             Kind::DayCeiling => schedule[self.day] <= self.value,
-            Kind::TotalFloor => sum(schedule) >= self.value,
-            Kind::TotalCeiling => sum(schedule) <= self.value,
+            Kind::TotalFloor => profile.counted_sum(schedule) >= self.value,
+            Kind::TotalCeiling => profile.counted_sum(schedule) <= self.value,
         }
     }
 }
@@ -117,18 +125,18 @@ impl Rule {
 }
 
 /// Days in order, then rises in order, then the total.
-pub fn first_broken(ranges: &Ranges, rises: &[i64], schedule: &[i64]) -> Rule {
+pub fn first_broken(ranges: &Ranges, profile: &Profile, schedule: &[i64]) -> Rule {
     for (day, range) in ranges.days.iter().enumerate() {
         if !range.holds(schedule[day]) {
             return Rule::Day(day);
         }
     }
-    for (day, rise) in rises.iter().enumerate() {
+    for (day, rise) in profile.rises.iter().enumerate() {
         if schedule[day + 1] < schedule[day] + rise {
             return Rule::Rise(day);
         }
     }
-    if !ranges.total.holds(sum(schedule)) {
+    if !ranges.total.holds(profile.counted_sum(schedule)) {
         return Rule::Total;
     }
     Rule::Kept

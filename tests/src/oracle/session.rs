@@ -71,7 +71,7 @@ impl Session {
         self.schedule_length(call.session_length, call.schedule.len())?;
         let present = self.present.as_ref().ok_or(Cause::Spent)?;
         let schedule = elements(&call.schedule);
-        Ok(first_broken(present, self.rises(), &schedule))
+        Ok(first_broken(present, &self.profile, &schedule))
     }
 
     fn schedule_length(&self, session: usize, schedule: usize) -> Result<(), Cause> {
@@ -85,10 +85,6 @@ impl Session {
 
     pub fn profile(&self) -> &Profile {
         &self.profile
-    }
-
-    pub fn rises(&self) -> &[i64] {
-        &self.profile.rises
     }
 
     pub fn cuts(&self) -> &[Cut] {

@@ -9,7 +9,7 @@ use crate::oracle::calls::{
 use crate::oracle::file::{self, Contents};
 use crate::oracle::profile::{Profile, KINDS};
 use crate::oracle::session::Session;
-use crate::oracle::{CUT_BYTES, DAY_BYTES, HEADER_BYTES, MOST_CUTS};
+use crate::oracle::{CUT_BYTES, DAYS_OFFSET, DAY_BYTES, HEADER_BYTES, MOST_CUTS};
 use crate::random::Random;
 
 pub fn case(caller: &mut Caller, random: &mut Random, _: usize) -> Checked {
@@ -125,7 +125,7 @@ fn write_damaged(caller: &mut Caller, random: &mut Random, mut contents: Content
             _ => damage_cuts_length(random, &mut contents.cuts),
         }
     }
-    let file_length = HEADER_BYTES + DAY_BYTES * contents.lists.days.min(513) + contents.cuts.len();
+    let file_length = DAYS_OFFSET + DAY_BYTES * contents.lists.days.min(513) + contents.cuts.len();
     let call = WriteFileCall {
         file_length: length_near(random, file_length),
         lists: contents.lists,
@@ -158,7 +158,7 @@ fn damage_cuts_length(random: &mut Random, cuts: &mut Vec<u8>) {
 /// One fault in a file's bytes.
 fn damage_file(random: &mut Random, file: &mut Vec<u8>) {
     let length = file.len();
-    match random.below(10) {
+    match random.below(11) {
         0 => file.truncate(random.below(length + 1)),
         1 => file.truncate(length.saturating_sub(1)),
         2 => file.push(random.next() as u8),
@@ -167,7 +167,8 @@ fn damage_file(random: &mut Random, file: &mut Vec<u8>) {
         5 => put_2(file, 4 + 2 * random.below(2), random.below(64) as u16),
         6 => damage_last_rise(random, file),
         7 => damage_file_cut(random, file),
-        8 => {
+        8 => put_first_day(random, file),
+        9 => {
             let count = random.below(80);
             *file = random.bytes(count);
         }
@@ -186,6 +187,13 @@ fn put_2(file: &mut [u8], place: usize, value: u16) {
     }
 }
 
+/// A first counted day in the profile or past it.
+fn put_first_day(random: &mut Random, file: &mut [u8]) {
+    let days = header_field(file, 0) as u16;
+    let past = [days.saturating_sub(1), days, days.saturating_add(1), 65_535];
+    put_2(file, HEADER_BYTES, random.pick(&past));
+}
+
 /// 0 where the file ends before it.
 fn header_field(file: &[u8], place: usize) -> usize {
     if file.len() >= place + 2 {
@@ -196,13 +204,13 @@ fn header_field(file: &[u8], place: usize) -> usize {
 }
 
 fn damage_last_rise(random: &mut Random, file: &mut [u8]) {
-    let end_of_days = HEADER_BYTES + DAY_BYTES * header_field(file, 0);
+    let end_of_days = DAYS_OFFSET + DAY_BYTES * header_field(file, 0);
     put_2(file, end_of_days - 2, random.pick(&[1, 256, 65_535]));
 }
 
 fn damage_file_cut(random: &mut Random, file: &mut [u8]) {
     let days = header_field(file, 0);
-    let end_of_days = HEADER_BYTES + DAY_BYTES * days;
+    let end_of_days = DAYS_OFFSET + DAY_BYTES * days;
     if let Some(cuts) = file.get_mut(end_of_days..) {
         damage_cut(random, days, cuts);
     }

@@ -10,6 +10,9 @@ use crate::oracle::SESSION_BYTES;
 use crate::random::Random;
 use crate::tally::Entry;
 
+/// Where a session's first counted day stands.
+const FIRST_DAY: usize = SESSION_BYTES - 2;
+
 /// Strings made from one true session.
 const STRINGS: usize = 100;
 
@@ -47,7 +50,7 @@ fn true_session(caller: &mut Caller, random: &mut Random) -> Checked<(Vec<u8>, u
 }
 
 /// Random bytes; random bytes after the beginning of a true session; a true session with some bits
-/// turned; one with the same two bytes again and again.
+/// turned; one with the same two bytes again and again. In some, any number is the first counted day.
 fn foreign(random: &mut Random, string: usize, session: &[u8]) -> Vec<u8> {
     let mut bytes = session.to_vec();
     match string % 4 {
@@ -70,6 +73,10 @@ fn foreign(random: &mut Random, string: usize, session: &[u8]) -> Vec<u8> {
                 bytes[place..place + 2].copy_from_slice(&pair.to_le_bytes());
             }
         }
+    }
+    if random.one_in(3) {
+        let first: u16 = random.pick(&[0, 1, 5, 511, 512, 513, 0x7FFF, 0xFFFF]);
+        bytes[FIRST_DAY..].copy_from_slice(&first.to_le_bytes());
     }
     bytes
 }

@@ -25,6 +25,7 @@ struct Effort {
 
 pub fn small_case(caller: &mut Caller, random: &mut Random, _: usize) -> Checked {
     let profile = profiles::small(random);
+    every_first_day(caller, &profile)?;
     let effort = Effort {
         operations: 12,
         gentle: random.one_in(2),
@@ -68,12 +69,31 @@ fn session(
     other_order(caller, random, &held)
 }
 
+/// Opens the profile with every first counted day, and with the day past its last. Each session is
+/// another one, also where the ranges are the same.
+fn every_first_day(caller: &mut Caller, profile: &Profile) -> Checked {
+    let mut opened: Vec<Vec<u8>> = Vec::new();
+    for first in 0..=profile.ranges.days.len() {
+        let opening = OpenCall::of(&profiles::counted_from(profile, first));
+        let Some(held) = caller.open(&opening)? else {
+            continue;
+        };
+        if opened.contains(&held.bytes) {
+            return Err(format!(
+                "{opening:?}difference: another first counted day gave the same session"
+            ));
+        }
+        opened.push(held.bytes);
+    }
+    Ok(())
+}
+
 /// A session holds the tightened ranges and not those that were entered: opening what it shows
 /// gives an equal one.
 fn open_shown(caller: &mut Caller, held: &Held) -> Checked {
     let shown = Profile {
         ranges: held.oracle.shown().clone(),
-        rises: held.oracle.rises().to_vec(),
+        ..held.oracle.profile().clone()
     };
     let opening = OpenCall::of(&shown);
     let Some(again) = caller.open(&opening)? else {

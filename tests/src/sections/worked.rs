@@ -1,22 +1,25 @@
-//! Document 01's profiles worked by hand, its file and its limits. They test the oracle too: what
-//! is expected stands here as in the document, but for the counts of changed days of C, which it
-//! does not give.
+//! Document 01's profiles worked by hand, those of request One, its file with the first counted day,
+//! and its limits. They test the oracle too: what is expected stands here as in the document, but
+//! for the counts of changed days of C, which it does not give.
 
 use crate::caller::{Caller, Held};
-use crate::lent::{same, Checked};
-use crate::oracle::calls::{CutCall, CutNumbers, OpenCall, ReadFileCall};
+use crate::lent::{same, same_bytes, Checked};
+use crate::oracle::calls::{CutCall, CutNumbers, OpenCall, ReadFileCall, WriteFileCall};
 use crate::oracle::causes::Cause;
+use crate::oracle::file;
 use crate::oracle::profile::{Profile, Range, Ranges};
 use crate::oracle::session::Session;
-use crate::oracle::{CUT_BYTES, SESSION_BYTES};
+use crate::oracle::{CUT_BYTES, DAYS_OFFSET, HEADER_BYTES, SESSION_BYTES};
 use crate::random::Random;
 
-pub const CASES: usize = EXAMPLES.len() + 2;
+pub const CASES: usize = EXAMPLES.len() + 4;
 
 pub fn case(caller: &mut Caller, _: &mut Random, case: usize) -> Checked {
     match case.checked_sub(EXAMPLES.len()) {
         None => example(caller, &EXAMPLES[case]),
-        Some(0) => file(caller),
+        Some(0) => files(caller),
+        Some(1) => refused_files(caller),
+        Some(2) => room(caller),
         Some(_) => limits(caller),
     }
 }
@@ -24,7 +27,7 @@ pub fn case(caller: &mut Caller, _: &mut Random, case: usize) -> Checked {
 type Bounds = (i64, i64);
 
 enum End {
-    Refused,
+    Refused(u8),
     Spent,
     /// The ranges of the days and of the total, and how many days each cut changed.
     Shown(&'static [Bounds], Bounds, &'static [usize]),
@@ -35,6 +38,7 @@ struct Example {
     name: &'static str,
     days: &'static [Bounds],
     rises: &'static [i64],
+    first: usize,
     total: Bounds,
     cuts: &'static [(usize, usize, i32)],
     end: End,
@@ -50,6 +54,7 @@ const EXAMPLES: &[Example] = &[
         name: "A",
         days: OF_A,
         rises: &[],
+        first: 0,
         total: (10, 12),
         cuts: &[],
         end: End::Shown(&[(2, 4), (4, 5), (4, 6)], (10, 12), &[]),
@@ -58,6 +63,7 @@ const EXAMPLES: &[Example] = &[
         name: "B, first cut",
         days: OF_A,
         rises: &[],
+        first: 0,
         total: (10, 12),
         cuts: &[(DAY_FLOOR, 0, 3)],
         end: End::Shown(&[(3, 4), (4, 4), (4, 5)], (11, 12), &[3]),
@@ -66,6 +72,7 @@ const EXAMPLES: &[Example] = &[
         name: "B",
         days: OF_A,
         rises: &[],
+        first: 0,
         total: (10, 12),
         cuts: &[(DAY_FLOOR, 0, 3), (TOTAL_CEILING, 0, 11)],
         end: End::Shown(&[(3, 3), (4, 4), (4, 4)], (11, 11), &[3, 2]),
@@ -74,6 +81,7 @@ const EXAMPLES: &[Example] = &[
         name: "C",
         days: OF_A,
         rises: &[],
+        first: 0,
         total: (10, 12),
         cuts: &[(TOTAL_CEILING, 0, 11), (DAY_FLOOR, 0, 3)],
         end: End::Shown(&[(3, 3), (4, 4), (4, 4)], (11, 11), &[3, 2]),
@@ -82,6 +90,7 @@ const EXAMPLES: &[Example] = &[
         name: "D",
         days: OF_A,
         rises: &[],
+        first: 0,
         total: (10, 12),
         cuts: &[(TOTAL_CEILING, 0, 11), (DAY_FLOOR, 0, 4)],
         end: End::Spent,
@@ -90,6 +99,7 @@ const EXAMPLES: &[Example] = &[
         name: "E",
         days: &[(2, 6), (4, 7), (4, 7), (5, 7), (6, 9), (7, 9)],
         rises: &[],
+        first: 0,
         total: (28, 29),
         cuts: &[],
         end: End::Shown(
@@ -102,6 +112,7 @@ const EXAMPLES: &[Example] = &[
         name: "F",
         days: &[(1, 5), (4, 5), (6, 6), (6, 7)],
         rises: &[],
+        first: 0,
         total: (17, 18),
         cuts: &[],
         end: End::Shown(&[(1, 2), (4, 5), (6, 6), (6, 7)], (17, 18), &[]),
@@ -110,6 +121,7 @@ const EXAMPLES: &[Example] = &[
         name: "G",
         days: &[(0, 5), (0, 5)],
         rises: &[],
+        first: 0,
         total: (9, 10),
         cuts: &[],
         end: End::Shown(&[(4, 5), (5, 5)], (9, 10), &[]),
@@ -118,6 +130,7 @@ const EXAMPLES: &[Example] = &[
         name: "H",
         days: &[(0, 6), (1, 7)],
         rises: &[1],
+        first: 0,
         total: (6, 13),
         cuts: &[],
         end: End::Shown(&[(0, 6), (4, 7)], (6, 13), &[]),
@@ -126,6 +139,7 @@ const EXAMPLES: &[Example] = &[
         name: "I",
         days: &[(3, 8)],
         rises: &[],
+        first: 0,
         total: (5, 6),
         cuts: &[],
         end: End::Shown(&[(5, 6)], (5, 6), &[]),
@@ -134,23 +148,124 @@ const EXAMPLES: &[Example] = &[
         name: "J",
         days: &[(5, 9), (0, 4)],
         rises: &[],
+        first: 0,
         total: (0, 20),
         cuts: &[],
-        end: End::Refused,
+        end: End::Refused(8),
     },
     Example {
         name: "J with rise -1",
         days: &[(5, 9), (0, 4)],
         rises: &[-1],
+        first: 0,
         total: (0, 20),
         cuts: &[],
         end: End::Shown(&[(5, 5), (4, 4)], (9, 9), &[]),
+    },
+    Example {
+        name: "K",
+        days: OF_A,
+        rises: &[],
+        first: 1,
+        total: (10, 12),
+        cuts: &[],
+        end: End::Shown(&[(2, 6), (4, 6), (5, 7)], (10, 12), &[]),
+    },
+    Example {
+        name: "L",
+        days: &[(0, 5), (0, 10)],
+        rises: &[],
+        first: 1,
+        total: (8, 10),
+        cuts: &[],
+        end: End::Shown(&[(0, 5), (8, 10)], (8, 10), &[]),
+    },
+    Example {
+        name: "K with total 8 to 9",
+        days: OF_A,
+        rises: &[],
+        first: 1,
+        total: (8, 9),
+        cuts: &[],
+        end: End::Shown(&[(2, 4), (4, 4), (4, 5)], (8, 9), &[]),
+    },
+    Example {
+        name: "H counted from day 1",
+        days: &[(0, 6), (1, 7)],
+        rises: &[1],
+        first: 1,
+        total: (5, 6),
+        cuts: &[],
+        end: End::Shown(&[(0, 5), (5, 6)], (5, 6), &[]),
+    },
+    Example {
+        name: "a filling day below zero",
+        days: &[(-100, 100), (-100, 100)],
+        rises: &[],
+        first: 1,
+        total: (50, 60),
+        cuts: &[],
+        end: End::Shown(&[(-100, 60), (50, 60)], (50, 60), &[]),
+    },
+    Example {
+        name: "A counted from day 2",
+        days: OF_A,
+        rises: &[],
+        first: 2,
+        total: (10, 12),
+        cuts: &[],
+        end: End::Refused(8),
+    },
+    Example {
+        name: "A counted from day 3",
+        days: OF_A,
+        rises: &[],
+        first: 3,
+        total: (10, 12),
+        cuts: &[],
+        end: End::Refused(13),
+    },
+    Example {
+        name: "A counted from day 3, its total crossed",
+        days: OF_A,
+        rises: &[],
+        first: 3,
+        total: (12, 10),
+        cuts: &[],
+        end: End::Refused(6),
+    },
+    Example {
+        name: "A counted from day 65,535",
+        days: OF_A,
+        rises: &[],
+        first: 65_535,
+        total: (10, 12),
+        cuts: &[],
+        end: End::Refused(13),
+    },
+    Example {
+        name: "J counted from day 2",
+        days: &[(5, 9), (0, 4)],
+        rises: &[],
+        first: 2,
+        total: (0, 20),
+        cuts: &[],
+        end: End::Refused(13),
+    },
+    Example {
+        name: "J counted from day 1",
+        days: &[(5, 9), (0, 4)],
+        rises: &[],
+        first: 1,
+        total: (0, 20),
+        cuts: &[],
+        end: End::Refused(8),
     },
 ];
 
 fn example(caller: &mut Caller, example: &Example) -> Checked {
     run_example(caller, example)
-        .map_err(|difference| format!("document 01's {}: {difference}", example.name))
+        .map_err(|difference| format!("worked by hand, {}: {difference}", example.name))
 }
 
 fn run_example(caller: &mut Caller, example: &Example) -> Checked {
@@ -159,13 +274,11 @@ fn run_example(caller: &mut Caller, example: &Example) -> Checked {
     let profile = Profile {
         ranges: ranges(example.days, example.total),
         rises,
+        first: example.first,
     };
-    let Some(mut held) = caller.open(&OpenCall::of(&profile))? else {
-        return same(
-            "a refused opening",
-            matches!(example.end, End::Refused),
-            true,
-        );
+    let opening = OpenCall::of(&profile);
+    let Some(mut held) = caller.open(&opening)? else {
+        return refused_as(&opening, &example.end);
     };
     let opened = held.oracle.shown().clone();
     let mut changed = Vec::new();
@@ -173,7 +286,7 @@ fn run_example(caller: &mut Caller, example: &Example) -> Checked {
         changed.push(apply(caller, &mut held, CutNumbers { kind, day, value })?);
     }
     let (shown, spent, counts) = match example.end {
-        End::Refused => return Err("opened, and not refused".into()),
+        End::Refused(_) => return Err("opened, and not refused".into()),
         End::Spent => (opened, true, changed.as_slice()),
         End::Shown(days, total, counts) => (ranges(days, total), false, counts),
     };
@@ -199,33 +312,104 @@ fn apply(caller: &mut Caller, held: &mut Held, cut: CutNumbers) -> Checked<usize
     caller.cut(held, &call)
 }
 
-const FILE: [u8; 50] = [
-    0x03, 0x00, 0x02, 0x00, 0x10, 0x00, 0x22, 0x00, 0x0A, 0x00, 0x00, 0x00, 0x0C, 0x00, 0x00, 0x00,
-    0x02, 0x00, 0x06, 0x00, 0x00, 0x00, 0x04, 0x00, 0x07, 0x00, 0x00, 0x00, 0x04, 0x00, 0x07, 0x00,
-    0x00, 0x00, 0x00, 0x00, 0x00, 0x00, 0x03, 0x00, 0x00, 0x00, 0x03, 0x00, 0x00, 0x00, 0x0B, 0x00,
-    0x00, 0x00,
+/// Document 01's file, with the first counted day after its header.
+const FILE: [u8; 52] = [
+    0x03, 0x00, 0x02, 0x00, 0x12, 0x00, 0x24, 0x00, 0x0A, 0x00, 0x00, 0x00, 0x0C, 0x00, 0x00, 0x00,
+    0x00, 0x00, 0x02, 0x00, 0x06, 0x00, 0x00, 0x00, 0x04, 0x00, 0x07, 0x00, 0x00, 0x00, 0x04, 0x00,
+    0x07, 0x00, 0x00, 0x00, 0x00, 0x00, 0x00, 0x00, 0x03, 0x00, 0x00, 0x00, 0x03, 0x00, 0x00, 0x00,
+    0x0B, 0x00, 0x00, 0x00,
 ];
 
-/// The document's file ends in the ranges that it prints.
-fn file(caller: &mut Caller) -> Checked {
-    let call = ReadFileCall {
-        file: FILE.to_vec(),
-        floors_length: 6,
-        ceilings_length: 6,
-        rises_length: 4,
-        cuts_length: 16,
-    };
-    let contents = caller.read_file(&call)?.ok_or("the file was refused")?;
+/// The file with each first counted day, and what it ends in.
+fn files(caller: &mut Caller) -> Checked {
+    let ends = [
+        End::Shown(&[(3, 3), (4, 4), (4, 4)], (11, 11), &[]),
+        End::Shown(&[(3, 5), (4, 5), (5, 7)], (10, 11), &[]),
+        End::Refused(8),
+        End::Refused(13),
+    ];
+    for (first, end) in ends.iter().enumerate() {
+        let mut file = FILE;
+        file[HEADER_BYTES] = first as u8;
+        file_ends(caller, &file, end)
+            .map_err(|difference| format!("the file counted from day {first}: {difference}"))?;
+    }
+    Ok(())
+}
+
+fn file_ends(caller: &mut Caller, file: &[u8], end: &End) -> Checked {
+    let contents = caller.read_file(&reading(file))?;
+    let contents = contents.ok_or("the file was refused")?;
     let opening = OpenCall {
         session_length: SESSION_BYTES,
         lists: contents.lists,
     };
-    let mut held = caller.open(&opening)?.ok_or("the opening was refused")?;
+    let Some(mut held) = caller.open(&opening)? else {
+        return refused_as(&opening, end);
+    };
+    let End::Shown(days, total, _) = *end else {
+        return Err("opened, and not refused".into());
+    };
     for cut in contents.cuts.chunks_exact(CUT_BYTES) {
         apply(caller, &mut held, CutNumbers::of_bytes(cut))?;
     }
-    let printed = ranges(&[(3, 3), (4, 4), (4, 4)], (11, 11));
-    same("the file's ranges", held.oracle.shown(), &printed)
+    same("the ranges", held.oracle.shown(), &ranges(days, total))
+}
+
+fn reading(file: &[u8]) -> ReadFileCall {
+    ReadFileCall {
+        file: file.to_vec(),
+        floors_length: 6,
+        ceilings_length: 6,
+        rises_length: 4,
+        cuts_length: 16,
+    }
+}
+
+/// The file's first 17 bytes, and document 01's own, which has no first counted day.
+fn refused_files(caller: &mut Caller) -> Checked {
+    let mut older = [&FILE[..HEADER_BYTES], &FILE[DAYS_OFFSET..]].concat();
+    older[4] = 0x10;
+    older[6] = 0x22;
+    for bytes in [&FILE[..DAYS_OFFSET - 1], &older] {
+        let call = reading(bytes);
+        caller.read_file(&call)?;
+        let number = file::read(&call).err().map(Cause::number);
+        same("the refusal of a file", number, Some(11))?;
+    }
+    Ok(())
+}
+
+/// The file is written into 52 bytes, and not into 51.
+fn room(caller: &mut Caller) -> Checked {
+    let contents = caller.read_file(&reading(&FILE))?;
+    let contents = contents.ok_or("the file was refused")?;
+    for (file_length, number) in [(51, Some(2)), (52, None)] {
+        let call = WriteFileCall {
+            lists: contents.lists.clone(),
+            cuts: contents.cuts.clone(),
+            file_length,
+        };
+        let written = caller.write_file(&call)?;
+        let refusal = file::write(&call).err().map(Cause::number);
+        same("the refusal to write", refusal, number)?;
+        if let Some(bytes) = written {
+            same_bytes("the written file", &bytes, &FILE)?;
+        }
+    }
+    Ok(())
+}
+
+/// The number that refuses an opening.
+fn refusal(opening: &OpenCall) -> Option<u8> {
+    Session::open(opening).err().map(Cause::number)
+}
+
+fn refused_as(opening: &OpenCall, end: &End) -> Checked {
+    let End::Refused(number) = *end else {
+        return Err("refused, and not opened".into());
+    };
+    same("the refusal", refusal(opening), Some(number))
 }
 
 /// Day counts and points at their bounds and one past them.
@@ -239,16 +423,16 @@ fn limits(caller: &mut Caller) -> Checked {
         (1, -1_000, 0, None),
         (1, -1_001, 0, Some(3)),
     ];
-    for (days, floor, ceiling, refusal) in cases {
+    for (days, floor, ceiling, number) in cases {
         let bounds = vec![(floor, ceiling); days];
         let profile = Profile {
             ranges: ranges(&bounds, (-512_000, 2_048_000)),
             rises: vec![0; days.saturating_sub(1)],
+            first: 0,
         };
         let call = OpenCall::of(&profile);
         caller.open(&call)?;
-        let number = Session::open(&call).err().map(Cause::number);
-        same("the refusal at a limit", number, refusal)?;
+        same("the refusal at a limit", refusal(&call), number)?;
     }
     Ok(())
 }

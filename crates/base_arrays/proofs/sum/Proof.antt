@@ -1,5 +1,6 @@
--- `sum` meets its contract: at its loop's head stands the sum of the first `count` levels (`Summed` of Laws). The measure is the days left.
+-- `sum` meets its contract: at its loop's head stands the sum of the first `count` levels (`Summed` of Laws). The measure is the levels left.
 use Prim.Native.Nat.{_-_}
+use lib.ListN.{length}
 use Rattle.theory_lists.specs.Sum.{at}
 use Rattle.base_arrays.proofs.Laws.{Summed, summed-none, summed-more, summed-all}
 use borrow.Author.Needs.{needs}
@@ -7,10 +8,10 @@ use Rattle.base_arrays.proofs.sum.Statement.{statement}
 use Rattle.base_arrays.proofs.sum.Tie as tie
 
 abbrev Inv-loop : tie.InvT-loop
-Inv-loop levels n total₀ count₀ end total count = Summed (at levels) n count total
+Inv-loop levels total₀ count₀ end total count = Summed (at levels) (length levels) count total
 
 abbrev μ-loop : tie.MeasureT-loop
-μ-loop levels n total₀ count₀ end total count = n - count
+μ-loop levels total₀ count₀ end total count = length levels - count
 
 loop-holds : tie.Need-loop-holds Inv-loop μ-loop
 loop-holds c = summed-none

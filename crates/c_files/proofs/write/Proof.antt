@@ -7,6 +7,7 @@ use lib.ListN.{length}
 use borrow.Author.Needs.{needs}
 use Rattle.base_little_endian.specs.Fields.{Bytes}
 use Rattle.session.specs.Opening.{earlyOpening}
+use Rattle.session.proofs.Entered.{entered}
 use Rattle.c_lists.specs.Profiles.{ByteProfile, byteProfile, byteLengthRefusal, profileOf}
 use Rattle.c_lists.proofs.Laws.{Held, held}
 use Rattle.c_files.specs.Writing.{lengthsRefusal}
@@ -257,8 +258,9 @@ returns-4 c =
 put-header-requires : tie.Need-put-header-requires
 put-header-requires c κs =
     let e = at-roomy c in
-    let s = sizes (the-lists (at-checked e)) in
-    (s .lists .few, s .few, omega (arith, at-offset e .day-offset .ensures, e .if4 .left))
+    let k = at-checked e in
+    let s = sizes (the-lists k) in
+    (s .lists .few, entered _ (checked k .opens .profile) .counts, s .few, omega (arith, at-offset e .day-offset .ensures, e .if4 .left))
 
 array-share-prefix-low-2 : tie.Need-array-share-prefix-low-2
 array-share-prefix-low-2 c = low (the-floors (at-checked (from-header (at-header c)))) .room

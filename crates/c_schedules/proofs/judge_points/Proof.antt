@@ -6,13 +6,16 @@ use Rattle.c_schedules.proofs.Laws.{Loaded, loads, points-judged}
 use Rattle.c_schedules.proofs.judge_points.Statement.{statement}
 use Rattle.c_schedules.proofs.judge_points.Tie as tie
 
--- ---- the places on the way: the days are read, the rises and the present ranges are loaded, the points are coded, the total is read
+-- ---- the places on the way: the days and the first counted day are read, the rises and the present ranges are loaded, the points are coded, the total is read
 
 abbrev at-start : tie.After-days-of → tie.Start
 at-start c = c .before .before .before
 
-abbrev at-days : tie.After-load-present → tie.After-days-of
-at-days c = c .before .before .before .before
+abbrev at-days : tie.After-first-of → tie.After-days-of
+at-days c = c .before
+
+abbrev at-first : tie.After-load-present → tie.After-first-of
+at-first c = c .before .before .before .before
 
 abbrev at-loaded : tie.After-code-points → tie.After-load-present
 at-loaded c = c .before .before
@@ -26,12 +29,12 @@ at-total c = c .before .before .before .before
 -- ---- what is loaded
 
 abbrev from-loaded : tie.After-load-present → tie.Start
-from-loaded c = at-start (at-days c)
+from-loaded c = at-start (at-days (at-first c))
 
 loaded : (c : tie.After-load-present)
     → let l = c .load-present .last in
-    Loaded (decoding (from-loaded c .args .session .now)) (at-days c .days-of .result) (l .1 .0) (l .1 .1 .0) (l .1 .1 .1 .0)
-loaded c = loads (from-loaded c .args .session .now) (at-days c .days-of .ensures) (c .load-present .ensures)
+    Loaded (decoding (from-loaded c .args .session .now)) (at-days (at-first c) .days-of .result) (at-first c .first-of .result) (l .1 .0) (l .1 .1 .0) (l .1 .1 .1 .0)
+loaded c = loads (from-loaded c .args .session .now) (at-days (at-first c) .days-of .ensures) (at-first c .first-of .ensures) (c .load-present .ensures)
 
 -- ---- the answers
 
@@ -45,7 +48,7 @@ judge-codes-requires c κs =
     let t = at-total c in
     let l = loaded (at-loaded (at-coded t)) in
     let p = l .bounds .present in
-    (omega (arith, l .days, p .some), omega (arith, l .days, p .most), omega (arith, t .total-of .ensures .0, p .lowest), omega (arith, t .total-of .ensures .1, p .highest))
+    (omega (arith, l .days, l .first, p .counts), omega (arith, l .days, p .most), omega (arith, t .total-of .ensures .0, p .lowest), omega (arith, t .total-of .ensures .1, p .highest))
 
 returns : tie.Need-returns
 returns c =
@@ -58,6 +61,7 @@ pub judge-points-spec : {M : Type 1} → statement M
 judge-points-spec =
     tie.close
     (tie.spec
+    (λ c. search needs)
     (λ c. search needs)
     (λ c. search needs)
     code-points-requires

@@ -5,13 +5,16 @@ use Rattle.c_schedules.proofs.Laws.{Loaded, loads, day-loaded, day-leve
 use Rattle.c_schedules.proofs.load_levels.Statement.{statement}
 use Rattle.c_schedules.proofs.load_levels.Tie as tie
 
--- ---- the places on the way: the days are read, the rises and the present ranges are loaded; then those of each subject
+-- ---- the places on the way: the days and the first counted day are read, the rises and the present ranges are loaded; then those of each subject
 
 abbrev at-start : tie.After-days-of → tie.Start
 at-start c = c .before .before
 
-abbrev at-days : tie.After-load-present → tie.After-days-of
-at-days c = c .before .before .before .before
+abbrev at-days : tie.After-first-of → tie.After-days-of
+at-days c = c .before
+
+abbrev at-first : tie.After-load-present → tie.After-first-of
+at-first c = c .before .before .before .before
 
 abbrev at-loaded : tie.After-subject → tie.After-load-present
 at-loaded c = c .before .before
@@ -31,12 +34,12 @@ at-total c = c .before .before .before
 -- ---- what is loaded
 
 abbrev from-loaded : tie.After-load-present → tie.Start
-from-loaded c = at-start (at-days c)
+from-loaded c = at-start (at-days (at-first c))
 
 loaded : (c : tie.After-load-present)
     → let l = c .load-present .last in
-    Loaded (decoding (from-loaded c .args .session .now)) (at-days c .days-of .result) (l .1 .0) (l .1 .1 .0) (l .1 .1 .1 .0)
-loaded c = loads (from-loaded c .args .session .now) (at-days c .days-of .ensures) (c .load-present .ensures)
+    Loaded (decoding (from-loaded c .args .session .now)) (at-days (at-first c) .days-of .result) (at-first c .first-of .result) (l .1 .0) (l .1 .1 .0) (l .1 .1 .1 .0)
+loaded c = loads (from-loaded c .args .session .now) (at-days (at-first c) .days-of .ensures) (at-first c .first-of .ensures) (c .load-present .ensures)
 
 -- ---- the answers
 
@@ -70,6 +73,7 @@ pub load-levels-spec : {M : Type 1} → statement M
 load-levels-spec =
     tie.close
     (tie.spec
+    (λ c. search needs)
     (λ c. search needs)
     (λ c. search needs)
     (λ c. search needs)

@@ -16,7 +16,7 @@ use Rattle.c_sessions.proofs.Cutting.{Loaded, loaded-bounds, loaded-tig
 use Rattle.c_sessions.proofs.cut_present.Statement.{statement}
 use Rattle.c_sessions.proofs.cut_present.Tie as tie
 
--- ---- the places on the way, each from the next: three arrays are lent, rises and ranges are loaded, the days and the total are read; the ranges are cut; there is a schedule; it is stored
+-- ---- the places on the way, each from the next: three arrays are lent, rises and ranges are loaded, the days, the first counted day and the total are read; the ranges are cut; there is a schedule; it is stored
 
 abbrev at-start : tie.After-ceilings → tie.Start
 at-start c = c .before .before .before .before .before .before
@@ -27,8 +27,11 @@ at-arrays c = c .before
 abbrev at-ranges : tie.After-days-of → tie.After-load-present
 at-ranges c = c .before .before
 
-abbrev at-days : tie.After-total-of → tie.After-days-of
+abbrev at-days : tie.After-first-of → tie.After-days-of
 at-days c = c .before .before
+
+abbrev at-first : tie.After-total-of → tie.After-first-of
+at-first c = c .before .before
 
 abbrev at-loaded : tie.After-rises2 → tie.After-total-of
 at-loaded c = c .before .before .before
@@ -51,7 +54,7 @@ at-stored c = c .before .before .before .before
 -- ---- what is handed over, and what was loaded
 
 abbrev from-loaded : tie.After-total-of → tie.Start
-from-loaded c = at-start (at-arrays (at-ranges (at-days c)))
+from-loaded c = at-start (at-arrays (at-ranges (at-days (at-first c))))
 
 abbrev bytes : tie.After-total-of → List ℕ
 bytes c = from-loaded c .args .session .now
@@ -60,19 +63,21 @@ abbrev the-cut : tie.After-total-of → Cut
 the-cut c = from-loaded c .args .cut
 
 abbrev numbers : tie.After-total-of → CodedNumbers
-numbers c = record { days = at-days c .days-of .result; lowest = c .total-of .result .lowest; highest = c .total-of .result .highest }
+numbers c = record { days = at-days (at-first c) .days-of .result; first = at-first c .first-of .result; lowest = c .total-of .result .lowest; highest = c .total-of .result .highest }
 
 loaded : (c : tie.After-total-of)
-    → let l = at-ranges (at-days c) .load-present .last in
+    → let l = at-ranges (at-days (at-first c)) .load-present .last in
     Loaded (bytes c) (l .1 .1 .0) (l .1 .1 .1 .0) (l .1 .0) (numbers c)
 loaded c =
-    let d = at-days c in
+    let f = at-first c in
+    let d = at-days f in
     let e = at-ranges d .load-present .ensures in
     record {
       rises = e .0;
       floors = e .1 .0;
       ceilings = e .1 .1;
       days = d .days-of .ensures;
+      first = f .first-of .ensures;
       lowest = c .total-of .ensures .0;
       highest = c .total-of .ensures .1;
     }
@@ -123,6 +128,7 @@ pub cut-present-spec : {M : Type 1} → statement M
 cut-present-spec =
     tie.close
     (tie.spec
+    (λ c. search needs)
     (λ c. search needs)
     (λ c. search needs)
     (λ c. search needs)

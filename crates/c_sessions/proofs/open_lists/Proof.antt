@@ -60,7 +60,8 @@ ranges c = let o = c .open-ranges in record { floors = o .last .0; ceilings = o 
 
 session-opened : (c : tie.Else2)
     → let k = at-coded (at-passed (at-opened c)) in
-    let s = fresh (k .code-lists .result .profile .numbers .days) (steps k) (ranges (at-opened c)) in
+    let m = k .code-lists .result .profile .numbers in
+    let s = fresh (m .days) (m .first) (steps k) (ranges (at-opened c)) in
     _≡_ {A = Opened} (record { refusal = 0; session = s }) (opened (profileOf (handed (from-coded k))))
 session-opened c =
     let o = at-opened c in
@@ -91,7 +92,7 @@ store-fresh-requires : tie.Need-store-fresh-requires
 store-fresh-requires c κs =
     let e = from-stored c in
     let k = at-coded (at-passed (at-opened e)) in
-    (fresh-in-bounds (handed (from-coded k)) _ _ _ (session-opened e), from-coded k .pre .0)
+    (fresh-in-bounds (handed (from-coded k)) _ _ _ _ (session-opened e), from-coded k .pre .0)
 
 returns-3 : tie.Need-returns-3
 returns-3 c =

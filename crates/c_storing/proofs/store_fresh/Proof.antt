@@ -1,9 +1,9 @@
 -- `store_fresh` meets its contract: each call stores the next part of the encoding after those before it (`laid-more`), and the last one ends it
 -- (`sets-whole`).
 use mathlib.Core.List.{List, _++_}
-use mathlib.Core.Path.{_≡_, sym, _∙_}
+use mathlib.Core.Path.{_≡_, ap, sym, _∙_}
 use Prim.Native.Nat.{ℕ}
-use lib.ListN.{length-append}
+use lib.ListN.{length, length-append}
 use lib.Seq.{sets}
 use Rattle.base_little_endian.specs.Fields.{u16Bytes}
 use Rattle.base_little_endian.proofs.Laws.{u16-length}
@@ -17,7 +17,7 @@ use native.Mathlib.Omega.{arith}
 use Rattle.c_storing.proofs.store_fresh.Statement.{statement}
 use Rattle.c_storing.proofs.store_fresh.Tie as tie
 
--- ---- the places on the way, each from the next: a part is stored, from the count of days to the ranges at present
+-- ---- the places on the way, each from the next: a part is stored, from the count of days to the first counted day
 
 abbrev at-start : tie.After-narrow → tie.Start
 at-start c = c .before .before .before
@@ -40,18 +40,24 @@ at-rises c = c .before .before .before .before
 abbrev at-opened : tie.After-put-ranges-arg2 → tie.After-put-ranges
 at-opened c = c .before .before .before
 
-abbrev at-present : tie.After-slice-known8 → tie.After-put-ranges2
-at-present c = c .before .before
+abbrev at-present : tie.After-put-u16-arg3 → tie.After-put-ranges2
+at-present c = c .before .before .before
+
+abbrev at-first : tie.After-slice-known9 → tie.After-put-u163
+at-first c = c .before .before
 
 abbrev from-opened : tie.After-put-ranges-arg2 → tie.Start
 from-opened c = at-start (at-count (at-mark (at-opening (at-totals (at-rises (at-opened c)))) .before) .before)
+
+abbrev from-present : tie.After-put-u16-arg3 → tie.Start
+from-present c = from-opened (at-present c .before)
 
 -- the session that is stored
 abbrev stored : tie.Start → Session
 stored s =
     let a = s .args in
     let m = a .numbers in
-    fresh (m .days) (a .rises .now) (record { floors = a .floors .now; ceilings = a .ceilings .now; lowest = m .lowest; highest = m .highest })
+    fresh (m .days) (m .first) (a .rises .now) (record { floors = a .floors .now; ceilings = a .ceilings .now; lowest = m .lowest; highest = m .highest })
 
 -- ---- what was stored first
 
@@ -61,15 +67,28 @@ count c = rw (c .before .narrow .ensures) at (c .put-u16 .ensures)
 mark : (c : tie.After-put-u162) → c .put-u162 .last .0 ≡ sets (at-count (c .before) .put-u16 .last .0) 2 (u16Bytes 0)
 mark c = rw (c .before .mark .ensures) at (c .put-u162 .ensures)
 
+-- and last
+counted : (c : tie.After-put-u163)
+    → let p = c .before .before in
+    c .put-u163 .last .0 ≡ sets (at-present p .put-ranges2 .last .1 .1 .1 .1 .0) 5140 (u16Bytes (from-present p .args .numbers .first))
+counted c = rw (c .before .narrow2 .ensures) at (c .put-u163 .ensures)
+
 -- ---- the answers
 
 put-ranges-requires-2 : tie.Need-put-ranges-requires-2
 put-ranges-requires-2 c κs = (from-opened c .pre .0 .most, omega (arith, from-opened c .pre .1))
 
-returns : tie.Need-returns
+narrow-requires-2 : tie.Need-narrow-requires-2
+narrow-requires-2 c κs = let b = from-present c .pre .0 in omega (arith, b .counts, b .most)
+
+put-u16-requires-3 : tie.Need-put-u16-requires-3
+put-u16-requires-3 c κs = omega (arith, from-present (c .before) .pre .1)
+
+-- the bytes once all is stored
+whole : (c : tie.After-put-u163) → c .put-u163 .last .0 ≡ encoding (stored (from-present (c .before .before)))
 unfolding encoding
-returns c =
-    let p = at-present c in
+whole c =
+    let p = at-present (c .before .before) in
     let o = at-opened (p .before) in
     let r = at-rises o in
     let t = at-totals r in
@@ -88,8 +107,18 @@ returns c =
     let opened = laid-more spent total (u .put-totals .ensures) (totals-length _ _) in
     let present = laid-more opened total (t .put-totals2 .ensures) (totals-length _ _) in
     let rises = laid-more present (block (s .rises)) (r .put-block .ensures) (block-length _ _ few) in
-    let first = laid-more rises ranges (o .put-ranges .ensures) {v = 2048} (simp (length-append, block-length)) in
-    laid-last first ranges (p .put-ranges2 .ensures) ∙ sets-whole (encoding s) l (encoding-length s few ∙ sym (start .pre .1))
+    let earlier = laid-more rises ranges (o .put-ranges .ensures) {v = 2048} (simp (length-append, block-length)) in
+    let later = laid-more earlier ranges (p .put-ranges2 .ensures) {v = 2048} (simp (length-append, block-length)) in
+    laid-last later (u16Bytes (s .first)) (counted c) ∙ sets-whole (encoding s) l (encoding-length s few ∙ sym (start .pre .1))
+
+same-length : tie.Need-same-length
+same-length c =
+    let f = at-first c in
+    let start = from-present (f .before .before) in
+    ap length (whole f) ∙ encoding-length (stored start) (start .pre .0 .most) ∙ sym (start .pre .1)
+
+returns : tie.Need-returns
+returns c = whole (at-first c)
 
 pub store-fresh-spec : {M : Type 1} → statement M
 store-fresh-spec =
@@ -104,5 +133,7 @@ store-fresh-spec =
     (λ c. search needs)
     (λ c. search needs)
     put-ranges-requires-2
-    (λ c. search needs)
+    narrow-requires-2
+    put-u16-requires-3
+    same-length
     returns)

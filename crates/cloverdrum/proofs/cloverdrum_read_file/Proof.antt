@@ -24,15 +24,15 @@ from-told c = at-read (at-lists (at-given c))
 
 -- the total's bounds fit 32 bits
 lowest-fits : (c : tie.After-struct-told2) → SFits w32 (from-told c .read .result .numbers .lowest)
-lowest-fits c = sfits-of {w = w32} (c .struct-told2 .given .1 .0 .1)
+lowest-fits c = sfits-of {w = w32} (c .struct-told2 .given .1 .1 .0 .1)
 
 highest-fits : (c : tie.After-struct-told2) → SFits w32 (from-told c .read .result .numbers .highest)
-highest-fits c = sfits-of {w = w32} (c .struct-told2 .given .1 .1 .0 .1)
+highest-fits c = sfits-of {w = w32} (c .struct-told2 .given .1 .1 .1 .0 .1)
 
 -- what is lent back
 lent : {q z : Contents} {l h : ℤ} → l ≡ q .numbers .lowest → h ≡ q .numbers .highest → q ≡ z
-    → record { refusal = q .refusal; numbers = record { days = q .numbers .days; lowest = l; highest = h }; cuts = q .cuts } ≡ z
-lent {q} el eh p = (λ i. record { refusal = q .refusal; numbers = record { days = q .numbers .days; lowest = el i; highest = eh i }; cuts = q .cuts }) ∙ p
+    → record { refusal = q .refusal; numbers = record { days = q .numbers .days; first = q .numbers .first; lowest = l; highest = h }; cuts = q .cuts } ≡ z
+lent {q} el eh p = (λ i. record { refusal = q .refusal; numbers = record { days = q .numbers .days; first = q .numbers .first; lowest = el i; highest = eh i }; cuts = q .cuts }) ∙ p
 
 returns : tie.Need-returns
 returns c = let e = from-told c .read .ensures in (lent (toZ-ofZ (lowest-fits c)) (toZ-ofZ (highest-fits c)) (e .0), e .1)

@@ -11,7 +11,7 @@ use Rattle.file_parts.proofs.put_days.Statement.{statement}
 use Rattle.file_parts.proofs.put_days.Tie as tie
 
 abbrev Inv-loop : tie.InvT-loop
-Inv-loop floors ceilings rises days out₀ k₀ out k = Stored (λ j. dayBytes (on floors j) (on ceilings j) (on rises j)) days 16 out₀ k (16 + k * 6) out
+Inv-loop floors ceilings rises days out₀ k₀ out k = Stored (λ j. dayBytes (on floors j) (on ceilings j) (on rises j)) days 18 out₀ k (18 + k * 6) out
 
 abbrev μ-loop : tie.MeasureT-loop
 μ-loop floors ceilings rises days out₀ k₀ out k = days - k

@@ -3,7 +3,7 @@ use mathlib.Core.Path.{_≡_, sym, _∙_}
 use native.Mathlib.Omega.{arith}
 use Rattle.session.specs.Profile.{Profile}
 use Rattle.session.specs.Opening.{profile, earlyOpening}
-use Rattle.session.proofs.Entered.{Sized, entered}
+use Rattle.session.proofs.Entered.{Entered, Sized, entered}
 use Rattle.file_writing.proofs.Answers.{Opens, Checked, too-many, bad-profile, bad-cut, too-short, entry-day, written}
 use borrow.Author.Needs.{needs}
 use Rattle.file_writing.proofs.write.Statement.{statement}
@@ -68,8 +68,11 @@ opens c = let p = at-profile (test-profile (c .before)) in record { few = at-few
 checked : (c : tie.Else3) → Checked (given (from-checked c)) (from-checked c .args .sheet)
 checked c = let o = test-cuts (c .before) in record { opens = opens o; formed = sym (test-profile (o .before) .entries-refusal .ensures) ∙ c .if3 .left }
 
+right : (c : tie.Else3) → Entered (given (from-checked c))
+right c = entered _ (checked c .opens .profile)
+
 sizes : (c : tie.Else3) → Sized (given (from-checked c))
-sizes c = entered _ (checked c .opens .profile) .sized
+sizes c = right c .sized
 
 -- ---- refused
 
@@ -101,7 +104,7 @@ put-header-requires : tie.Need-put-header-requires
 put-header-requires c κs =
     let r = at-room c in
     let k = test-room (r .before) in
-    (sizes k .few, checked k .opens .few, omega (arith, r .if4 .left, r .before .day-offset .ensures))
+    (sizes k .few, right k .counts, checked k .opens .few, omega (arith, r .if4 .left, r .before .day-offset .ensures))
 
 put-days-requires : tie.Need-put-days-requires
 put-days-requires c κs =

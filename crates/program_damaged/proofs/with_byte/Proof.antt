@@ -1,4 +1,4 @@
--- `with_byte` meets its contract: the list of 76 bytes keeps its length, so there is room for the file.
+-- `with_byte` meets its contract: the list of 78 bytes keeps its length, so there is room for the file.
 use Prim.Native.Nat.{_≤_}
 use mathlib.Core.Path.{sym}
 use lib.ListN.{length, set, length-set}

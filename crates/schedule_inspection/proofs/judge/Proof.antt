@@ -26,7 +26,7 @@ at-coded c = c .before .before .before .before .before
 numbered : (c : tie.After-code-all)
     → let a = at-start (at-copied c) .args in
     let s = a .session in
-    judgedCodes (c .code-all .last .1 .1 .1 .0) (s .present .floors) (s .present .ceilings) (s .rises) (s .days) (s .present .lowest) (s .present .highest)
+    judgedCodes (c .code-all .last .1 .1 .1 .0) (s .present .floors) (s .present .ceilings) (s .rises) (s .days) (s .first) (s .present .lowest) (s .present .highest)
     ≡ judged s (a .list .now)
 numbered c =
     let p = at-start (at-copied c) .pre in

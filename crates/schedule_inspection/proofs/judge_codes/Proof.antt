@@ -25,16 +25,16 @@ rises-kept : (c : tie.Else2)
 rises-kept c = record { before = days-kept (at-days (c .before)); rises = omega (arith, c .before .first-fallen .ensures, c .if2 .left) }
 
 returns : tie.Need-returns
-returns c = day-broken _ _ _ _ _ _ _ (c .before .first-outside .ensures) (c .if1 .taken)
+returns c = day-broken _ _ _ _ _ _ _ _ (c .before .first-outside .ensures) (c .if1 .taken)
 
 returns-2 : tie.Need-returns-2
-returns-2 c = rise-broken _ _ _ _ _ _ _ (days-kept (at-days (c .before))) (c .before .first-fallen .ensures) (c .if2 .taken)
+returns-2 c = rise-broken _ _ _ _ _ _ _ _ (days-kept (at-days (c .before))) (c .before .first-fallen .ensures) (c .if2 .taken)
 
 returns-3 : tie.Need-returns-3
-returns-3 c = total-broken _ _ _ _ _ _ _ (rises-kept (at-rises (c .before))) (c .before .is-total-outside .ensures) (c .if3 .taken)
+returns-3 c = total-broken _ _ _ _ _ _ _ _ (rises-kept (at-rises (c .before))) (c .before .is-total-outside .ensures) (c .if3 .taken)
 
 returns-4 : tie.Need-returns-4
-returns-4 c = none-broken _ _ _ _ _ _ _ (rises-kept (at-rises (c .before))) (c .before .is-total-outside .ensures) (c .if3 .left)
+returns-4 c = none-broken _ _ _ _ _ _ _ _ (rises-kept (at-rises (c .before))) (c .before .is-total-outside .ensures) (c .if3 .left)
 
 pub judge-codes-spec : {M : Type 1} → statement M
 judge-codes-spec =

@@ -1,5 +1,5 @@
 -- `raise_to` meets its contract. At its loop's head the days from k on hold the definition's levels; the measure is k. What a turn reads is said once.
-use Prim.Native.Nat.{_-_}
+use Prim.Native.Nat.{_-_, _≤_}
 use native.Mathlib.Omega.{arith}
 use Rattle.theory_lists.specs.Sum.{at}
 use Rattle.theory_method.specs.Filter.{held}
@@ -9,13 +9,13 @@ use Rattle.schedule_raising.proofs.raise_to.Statement.{statement}
 use Rattle.schedule_raising.proofs.raise_to.Tie as tie
 
 abbrev Inv-loop : tie.InvT-loop
-Inv-loop floors₀ ceilings rises n total day₀ k₀ floors day k = Raising floors₀ ceilings rises n (total - held n (at floors₀)) floors day k
+Inv-loop floors₀ ceilings rises n first total day₀ k₀ floors day k = Raising floors₀ ceilings rises n (total - held n first (at floors₀)) floors day k × (first ≤ k)
 
 abbrev μ-loop : tie.MeasureT-loop
-μ-loop floors₀ ceilings rises n total day₀ k₀ floors day k = k
+μ-loop floors₀ ceilings rises n first total day₀ k₀ floors day k = k
 
 loop-holds : tie.Need-loop-holds Inv-loop μ-loop
-loop-holds c = raising-start (c .lack .ensures .0) (omega arith)
+loop-holds c = (raising-start (c .lack .ensures .0) (omega arith), omega (arith, c .before .before .pre .counts))
 
 -- ---- the places of a turn: it begins, the day's floor, ceiling and rise are read
 
@@ -31,14 +31,14 @@ at-turn c = c .before .before
 read : (c : tie.After-wide3 Inv-loop μ-loop)
     → let h = at-turn (at-floor c) .before in
     let a = at-start h .args in
-    Reading (a .floors .now) (a .ceilings .now) (a .rises .now) (a .n) (a .total - held (a .n) (at (a .floors .now))) 0 (a .total) (h .loop .floors) (h .loop .day) (h .loop .k)
+    Reading (a .floors .now) (a .ceilings .now) (a .rises .now) (a .n) (a .first) (a .total - held (a .n) (a .first) (at (a .floors .now))) 0 (a .total) (h .loop .floors) (h .loop .day) (h .loop .k)
     (at-floor c .wide .result) (c .before .before .wide2 .result) (c .wide3 .result)
 read c =
     let f = at-floor c in
     let t = at-turn f in
     record {
       bounds = at-start (t .before) .pre;
-      head = t .before .loop .inv;
+      head = t .before .loop .inv .0;
       more = t .loop-test .taken;
       floor = f .wide .ensures .0;
       ceiling = c .before .before .wide2 .ensures .0;
@@ -52,10 +52,10 @@ level-of-requires : tie.Need-level-of-requires Inv-loop μ-loop
 level-of-requires c κs = raising-level (read (c .before)) (c .raise-day .ensures)
 
 loop-again : tie.Need-loop-again Inv-loop μ-loop
-loop-again c = raising-turn (read (c .before .before)) (c .before .raise-day .ensures) (c .level-of .ensures)
+loop-again c = (raising-turn (read (c .before .before)) (c .before .raise-day .ensures) (c .level-of .ensures), omega (arith, read (c .before .before) .more))
 
 returns : tie.Need-returns Inv-loop μ-loop
-returns c = raising-end (c .before .loop .inv) (c .loop-test .left)
+returns c = let h = c .before in raising-end (at-start h .args .first) (h .loop .inv .0) (h .loop .inv .1) (c .loop-test .left)
 
 pub raise-to-spec : {M : Type 1} → statement M
 raise-to-spec =

@@ -24,7 +24,7 @@ at-carried c = c .before .before
 
 level-set : (c : tie.After-set-level2)
     → let a = at-start (at-floor c) .args in
-    LevelSet (a .floors .now) (a .ceilings .now) (a .rises .now) (a .n) (a .lowest) (a .day) (a .level) (at-floor c .set-level .last .0) (c .set-level2 .last .0)
+    LevelSet (a .floors .now) (a .ceilings .now) (a .rises .now) (a .n) (a .first) (a .lowest) (a .day) (a .level) (at-floor c .set-level .last .0) (c .set-level2 .last .0)
 level-set c =
     let p = at-start (at-floor c) .pre in
     record { bounds = p .0; known = p .1; small = p .2; floors = at-floor c .set-level .ensures; ceilings = c .set-level2 .ensures }
@@ -32,13 +32,13 @@ level-set c =
 level-carried : (c : tie.After-carry)
     → let k = at-ceiling (c .before) in
     let a = at-start (at-floor k) .args in
-    LevelCarried (a .floors .now) (a .ceilings .now) (a .rises .now) (a .n) (a .lowest) (a .day) (a .level) (at-floor k .set-level .last .0) (k .set-level2 .last .0)
-    (c .carry .result .days) (c .carry .last .0)
-level-carried c = record { before = level-set (at-ceiling (c .before)); first = c .carry .ensures .0; forward = c .carry .ensures .1 .0 }
+    LevelCarried (a .floors .now) (a .ceilings .now) (a .rises .now) (a .n) (a .first) (a .lowest) (a .day) (a .level) (at-floor k .set-level .last .0) (k .set-level2 .last .0)
+    (c .carry .result) (c .carry .last .0)
+level-carried c = record { before = level-set (at-ceiling (c .before)); stop = c .carry .ensures .0; forward = c .carry .ensures .1 }
 
 levels : (c : tie.After-raise-to)
     → let a = at-start (at-floor (at-ceiling (at-carried (c .before) .before))) .args in
-    c .raise-to .last .0 ≡ written (levelsThrough (a .floors .now) (a .ceilings .now) (a .rises .now) (a .n) (a .lowest) (a .day) (a .level)) (a .n) (a .floors .now)
+    c .raise-to .last .0 ≡ written (levelsThrough (a .floors .now) (a .ceilings .now) (a .rises .now) (a .n) (a .first) (a .lowest) (a .day) (a .level)) (a .n) (a .floors .now)
 levels c = through-raised (level-carried (at-carried (c .before))) (c .raise-to .ensures)
 
 carry-requires : tie.Need-carry-requires

@@ -31,10 +31,10 @@ inside : (c : tie.Else2) → let a = at-start c .args in Inside (a .bad-point) (
 inside c = record { points = c .before .if1 .left; rises = c .if2 .left }
 
 lowest-called : (c : tie.After-code) → Called (handed (at-inside c) .lowest) (c .code .result)
-lowest-called c = record { fits = sfits-of {w = w32} (c .before .struct-told .given .1 .0 .1); gave = c .code .ensures }
+lowest-called c = record { fits = sfits-of {w = w32} (c .before .struct-told .given .1 .1 .0 .1); gave = c .code .ensures }
 
 highest-called : (c : tie.After-code2) → Called (handed (at-inside (at-lowest (from-highest c))) .highest) (c .code2 .result)
-highest-called c = record { fits = sfits-of {w = w32} (c .before .struct-told2 .given .1 .1 .0 .1); gave = c .code2 .ensures }
+highest-called c = record { fits = sfits-of {w = w32} (c .before .struct-told2 .given .1 .1 .1 .0 .1); gave = c .code2 .ensures }
 
 -- ---- the needs
 

@@ -1,9 +1,9 @@
--- `early_refusal` meets its contract: what 1 to 5 say of the profile, and 6 of its codes where they pass (laws of Checks).
+-- `early_refusal` meets its contract: what 1 to 5 say of the profile, and 6 and 13 of its codes where they pass (laws of Checks).
 use denote.Ref.{now}
 use borrow.Author.Needs.{needs}
 use Rattle.session.specs.Profile.{Profile}
 use Rattle.session.specs.Opening.{profile}
-use Rattle.session.proofs.Checks.{CodedArrays, early-refused, early-crossed, early-clear, in-bounds}
+use Rattle.session.proofs.Checks.{CodedArrays, early-refused, early-range, in-bounds}
 use Rattle.session.proofs.early_refusal.Statement.{statement}
 use Rattle.session.proofs.early_refusal.Tie as tie
 
@@ -38,15 +38,9 @@ is-crossed-requires c κs = let e = c .before .before in in-bounds (coded (at-co
 
 returns-2 : tie.Need-returns-2
 returns-2 c =
-    let k = c .before .before in
+    let k = c .before in
     let e = at-passed k in
-    early-crossed (coded (at-coded e)) (e .if1 .left) (k .is-crossed .ensures) (c .before .is-range-crossed .ensures) (c .if2 .taken)
-
-returns-3 : tie.Need-returns-3
-returns-3 c =
-    let k = c .before .before in
-    let e = at-passed k in
-    early-clear (coded (at-coded e)) (e .if1 .left) (k .is-crossed .ensures) (c .before .is-range-crossed .ensures) (c .if2 .left)
+    early-range (coded (at-coded e)) (e .if1 .left) (k .is-crossed .ensures) (c .range-refusal .ensures)
 
 pub early-refusal-spec : {M : Type 1} → statement M
-early-refusal-spec = tie.close (tie.spec (λ c. search needs) returns is-crossed-requires (λ c. search needs) returns-2 returns-3)
+early-refusal-spec = tie.close (tie.spec (λ c. search needs) returns is-crossed-requires (λ c. search needs) returns-2)

@@ -1,7 +1,7 @@
 -- `cut_ranges` meets its contract: the arrays are the clipped ranges, which are in bounds, and then the tightened ones.
 use mathlib.Core.Path.{_≡_, ap, _∙_}
 use borrow.Author.Needs.{needs}
-use Rattle.theory_method.specs.Filter.{tightened}
+use Rattle.theory_method.specs.Filter.{Tight, tightened}
 use Rattle.session.specs.Showing.{boxOf}
 use Rattle.session.specs.declared.Ranges.{Ranges}
 use Rattle.session_cutting.specs.Cutting.{clipped}
@@ -36,7 +36,8 @@ returns : tie.Need-returns
 returns c =
     let k = at-clipped (c .before) in
     let a = at-start k .args in
-    c .tighten .ensures ∙ ap (λ r. tightened (boxOf (a .rises .now) (a .numbers .days) r)) (is-clipped k)
+    let tight : Ranges → Tight = λ r. tightened (boxOf (a .rises .now) (a .numbers .days) (a .numbers .first) r) in
+    _∙_ {b = tight (clips k)} (c .tighten .ensures) (ap tight (is-clipped k))
 
 pub cut-ranges-spec : {M : Type 1} → statement M
 cut-ranges-spec = tie.close (tie.spec (λ c. search needs) tighten-requires returns)

@@ -1,4 +1,4 @@
--- `carry` meets its contract. At its loop's head, `Upto` of Laws, the floors below i are carried, uncrossed and added up; the measure is the days left.
+-- `carry` meets its contract. At its loop's head, `Upto` of Laws, the floors below i are carried and uncrossed; the measure is the days left.
 -- What a turn reads, and what it then stores, is said once each.
 use Prim.Native.Nat.{_-_}
 use mathlib.Core.Path.{ap}
@@ -8,10 +8,10 @@ use Rattle.tighten_carry.proofs.carry.Statement.{statement}
 use Rattle.tighten_carry.proofs.carry.Tie as tie
 
 abbrev Inv-loop : tie.InvT-loop
-Inv-loop floors₀ ceilings rises n up₀ sum₀ i₀ end floors up sum i = Upto floors₀ ceilings rises n i up sum floors
+Inv-loop floors₀ ceilings rises n up₀ i₀ end floors up i = Upto floors₀ ceilings rises n i up floors
 
 abbrev μ-loop : tie.MeasureT-loop
-μ-loop floors₀ ceilings rises n up₀ sum₀ i₀ end floors up sum i = n - i
+μ-loop floors₀ ceilings rises n up₀ i₀ end floors up i = n - i
 
 loop-holds : tie.Need-loop-holds Inv-loop μ-loop
 loop-holds c = upto-none
@@ -31,7 +31,7 @@ turn : (c : tie.After-word2 Inv-loop μ-loop)
     → let f = at-floor c in
     let h = at-turn (f .before) .before in
     let a = h .before .args in
-    Turn (a .floors .now) (a .ceilings .now) (a .rises .now) (a .n) (h .loop .i) (h .loop .up) (h .loop .sum) (h .loop .floors) (f .before .word .result) (c .word2 .result) (f .larger .result - 2000)
+    Turn (a .floors .now) (a .ceilings .now) (a .rises .now) (a .n) (h .loop .i) (h .loop .up) (h .loop .floors) (f .before .word .result) (c .word2 .result) (f .larger .result - 2000)
 turn c =
     let f = at-floor c in
     let t = at-turn (f .before) in
@@ -49,7 +49,7 @@ kept : (c : tie.After-word3 Inv-loop μ-loop)
     let f = at-floor d in
     let h = at-turn (f .before) .before in
     let a = h .before .args in
-    Kept (a .floors .now) (a .ceilings .now) (a .rises .now) (a .n) (h .loop .i) (h .loop .up) (h .loop .sum) (h .loop .floors) (f .before .word .result) (d .word2 .result) (f .larger .result - 2000) (c .word3 .result)
+    Kept (a .floors .now) (a .ceilings .now) (a .rises .now) (a .n) (h .loop .i) (h .loop .up) (h .loop .floors) (f .before .word .result) (d .word2 .result) (f .larger .result - 2000) (c .word3 .result)
 kept c =
     let k = at-kept c in
     record {
@@ -87,7 +87,6 @@ carry-spec =
     (λ c. search needs)
     (λ c. search needs)
     (λ c. search needs)
-    (λ c. search needs)
     returns
     (λ c. search needs)
     (λ c. search needs)
@@ -98,7 +97,5 @@ carry-spec =
     (λ c. search needs)
     (λ c. search needs)
     (λ c. search needs)
-    (λ c. search needs)
     loop-again
-    (λ c. search needs)
     returns-2)

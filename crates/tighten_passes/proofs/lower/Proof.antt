@@ -9,11 +9,11 @@ use Rattle.tighten_passes.proofs.lower.Statement.{statement}
 use Rattle.tighten_passes.proofs.lower.Tie as tie
 
 abbrev Inv-loop : tie.InvT-loop
-Inv-loop floors rises n i margin back at₀ at =
-    Stand (viewed back floors n) (viewedRises back rises n) n i margin (at₀ .v) (at .v) (at .past) (at .count) (at .room) (at .top) (at .end)
+Inv-loop floors rises n days i margin back at₀ at =
+    Stand (viewed back floors n) (viewedRises back rises n days) days i margin (at₀ .v) (at .v) (at .past) (at .count) (at .room) (at .top) (at .end)
 
 abbrev μ-loop : tie.MeasureT-loop
-μ-loop floors rises n i margin back at₀ at = at .v
+μ-loop floors rises n days i margin back at₀ at = at .v
 
 -- ---- the places on the way: before the loop, and a turn's head
 

@@ -8,11 +8,11 @@ use Rattle.tighten_passes.proofs.lower_ceilings.Statement.{statement}
 use Rattle.tighten_passes.proofs.lower_ceilings.Tie as tie
 
 abbrev Inv-loop : tie.InvT-loop
-Inv-loop floors ceilings₀ rises n margin days i₀ here₀ day₀ ceilings i here day =
-    Lowering floors ceilings₀ rises n margin ceilings here (day .v) (day .past) (day .count) (day .room) (day .top) (day .end) i
+Inv-loop floors ceilings₀ rises n first margin days from i₀ here₀ day₀ ceilings i here day =
+    Lowering floors ceilings₀ rises n first margin ceilings here (day .v) (day .past) (day .count) (day .room) (day .top) (day .end) i
 
 abbrev μ-loop : tie.MeasureT-loop
-μ-loop floors ceilings₀ rises n margin days i₀ here₀ day₀ ceilings i here day = i
+μ-loop floors ceilings₀ rises n first margin days from i₀ here₀ day₀ ceilings i here day = i
 
 -- ---- the places on the way: the last day's shift is known, its ceiling is read, the loop's head; then in a turn: the ceiling is read, the floor is read, the
 -- day is lowered
@@ -41,6 +41,9 @@ at-lowered c = c .before
 abbrev at-more : tie.After-word6 Inv-loop μ-loop → tie.Else1 Inv-loop μ-loop
 at-more c = c .before .before
 
+abbrev at-end : tie.After-carry-back Inv-loop μ-loop → tie.Then1 Inv-loop μ-loop
+at-end c = c .before .before
+
 few : (h : tie.At-loop Inv-loop μ-loop) → h .loop .i < mostDays
 few h = omega (arith, before-loop h .pre .0 .most, h .loop .inv .inside)
 
@@ -51,7 +54,7 @@ loop-holds c =
     let l = at-last c in
     let s = at-shift l in
     rw (c .start .ensures)
-    (lowering-start (at-start s .pre .0) (s .before .word .ensures .0) (s .shift-before .ensures) (l .word2 .ensures .0) (c .before .word3 .ensures .0))
+    (lowering-start (at-start s .pre .0) (at-start s .pre .1) (s .before .word .ensures .0) (s .shift-before .ensures) (l .word2 .ensures .0) (c .before .word3 .ensures .0))
 
 add-ceiling : tie.Need-add-ceiling Inv-loop μ-loop
 add-ceiling c = let h = at-head c in omega (arith, lowering-most (before-loop h .pre .0) (h .loop .inv), c .word4 .ensures .1)
@@ -64,7 +67,7 @@ lower-ceiling-requires c κs =
     let y = at-ceiling c in
     let h = at-head y in
     let p = before-loop h .pre in
-    (plain-sight (p .0), lowering-enters (p .0) (h .loop .inv) (y .word4 .ensures .0) (c .word5 .ensures .0) (p .1))
+    (plain-sight (p .0), lowering-enters (p .0) (h .loop .inv) (y .word4 .ensures .0) (c .word5 .ensures .0) (p .2))
 
 shown-requires : tie.Need-shown-requires Inv-loop μ-loop
 shown-requires c κs =
@@ -83,7 +86,7 @@ shift-before-requires-2 c κs =
     let m = at-more c in
     let h = at-head (at-ceiling (at-lowered (m .before) .before)) in
     let g = before-loop h .pre .0 in
-    (lowering-most g (h .loop .inv), c .word6 .ensures .1, omega (arith, lowering-least g (h .loop .inv) (omega (arith, m .if1 .left))))
+    (lowering-most g (h .loop .inv), c .word6 .ensures .1, omega (arith, lowering-least g (h .loop .inv) (omega (arith, m .if1 .left, h .loop .inv .late))))
 
 loop-again : tie.Need-loop-again Inv-loop μ-loop
 loop-again c =
@@ -92,15 +95,20 @@ loop-again c =
     let y = at-ceiling (l .before) in
     let h = at-head y in
     lowering-turn (before-loop h .pre .0) (h .loop .inv) (y .word4 .ensures .0) (l .before .word5 .ensures .0) (l .lower-ceiling .ensures) (m .before .shown .ensures)
-    (omega (arith, m .if1 .left)) (c .before .word6 .ensures .0) (c .shift-before2 .ensures)
+    (m .if1 .left) (c .before .word6 .ensures .0) (c .shift-before2 .ensures)
+
+carry-back-requires : tie.Need-carry-back-requires Inv-loop μ-loop
+carry-back-requires c κs = let p = before-loop (at-head (at-ceiling (at-lowered (c .before .before) .before))) .pre in omega (arith, p .0 .most, p .1)
 
 returns : tie.Need-returns Inv-loop μ-loop
 returns c =
-    let l = at-lowered (c .before) in
+    let s = at-end c .before in
+    let l = at-lowered s in
     let y = at-ceiling (l .before) in
     let h = at-head y in
-    lowering-end (before-loop h .pre .0) (h .loop .inv) (y .word4 .ensures .0) (l .before .word5 .ensures .0) (l .lower-ceiling .ensures) (c .before .shown .ensures)
-    (c .if1 .taken)
+    let p = before-loop h .pre in
+    lowering-end (p .0) (h .loop .inv) (y .word4 .ensures .0) (l .before .word5 .ensures .0) (l .lower-ceiling .ensures) (s .shown .ensures) (p .1) (at-end c .if1 .taken)
+    (c .carry-back .ensures)
 
 pub lower-ceilings-spec : {M : Type 1} → statement M
 lower-ceilings-spec =
@@ -108,6 +116,7 @@ lower-ceilings-spec =
     (tie.spec
     Inv-loop
     μ-loop
+    (λ c. search needs)
     (λ c. search needs)
     (λ c. search needs)
     (λ c. search needs)
@@ -147,4 +156,5 @@ lower-ceilings-spec =
     shift-before-requires-2
     (λ c. search needs)
     loop-again
+    carry-back-requires
     returns)

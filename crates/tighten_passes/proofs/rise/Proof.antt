@@ -8,7 +8,7 @@ returns : tie.Need-returns
 returns c =
     let t = c .before .before in
     let s = t .before in
-    (rise-back (s .pre .0) (s .args .rises .now) (s .args .k) (t .if1 .taken) (s .pre .1) (c .word .ensures .0), c .word .ensures .1)
+    (rise-back (s .pre .0) (s .args .rises .now) (s .args .k) (t .if1 .taken) (c .word .ensures .0), c .word .ensures .1)
 
 returns-2 : tie.Need-returns-2
 returns-2 c =

@@ -8,11 +8,11 @@ use Rattle.tighten_passes.proofs.settle.Statement.{statement}
 use Rattle.tighten_passes.proofs.settle.Tie as tie
 
 abbrev Inv-loop : tie.InvT-loop
-Inv-loop floors rises n i margin back at₀ at =
-    (at .v ≡ at₀ .v) × Open (viewed back floors n) (viewedRises back rises n) n i margin (at₀ .v) (at .past) (at .count) (at .room) (at .top) (at .end)
+Inv-loop floors rises n days i margin back at₀ at =
+    (at .v ≡ at₀ .v) × Open (viewed back floors n) (viewedRises back rises n days) days i margin (at₀ .v) (at .past) (at .count) (at .room) (at .top) (at .end)
 
 abbrev μ-loop : tie.MeasureT-loop
-μ-loop floors rises n i margin back at₀ at = at .past
+μ-loop floors rises n days i margin back at₀ at = at .past
 
 loop-holds : tie.Need-loop-holds Inv-loop μ-loop
 loop-holds c = (refl, c .pre .1)

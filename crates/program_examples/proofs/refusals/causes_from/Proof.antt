@@ -5,8 +5,8 @@ use borrow.Author.Needs.{needs}
 use Rattle.program_examples.proofs.refusals.causes_from.Statement.{statement}
 use Rattle.program_examples.proofs.refusals.causes_from.Tie as tie
 
-slice-aggregate-refusal-3 : tie.Need-slice-aggregate-refusal-3
-slice-aggregate-refusal-3 c = sym (length-take-le _ _ (search needs))
+slice-aggregate-open-3 : tie.Need-slice-aggregate-open-3
+slice-aggregate-open-3 c = sym (length-take-le _ _ (search needs))
 
 pub causes-from-spec : {M : Type 1} → statement M
 causes-from-spec =
@@ -22,6 +22,7 @@ causes-from-spec =
     (λ c. search needs)
     (λ c. search needs)
     (λ c. search needs)
-    slice-aggregate-refusal-3
+    (λ c. search needs)
+    slice-aggregate-open-3
     (λ c. search needs)
     (λ c. search needs))

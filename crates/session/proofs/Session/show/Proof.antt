@@ -26,7 +26,7 @@ abbrev at-ceilings : tie.After-decode2 → tie.After-decode-all2
 at-ceilings c = c .before .before .before
 
 -- the present ranges are in bounds
-abbrev present : (c : tie.Else2) → let s = at-start c .args .self in Fits (s .rises) (s .days) (s .present)
+abbrev present : (c : tie.Else2) → let s = at-start c .args .self in Fits (s .rises) (s .days) (s .first) (s .present)
 present c = at-start c .pre .present
 
 returns : tie.Need-returns
