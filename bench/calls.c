@@ -29,9 +29,16 @@ const struct call calls[CALLS] = {
     {"open_13", OPEN, 0, CLOVERDRUM_BAD_FIRST_DAY},
     {"open_8", OPEN, 0, CLOVERDRUM_NO_SCHEDULE},
     {"nothing", NOTHING, 0, CLOVERDRUM_OK},
+    {"every_day", CUT, 0, CLOVERDRUM_OK},
+    {"nothing", NOTHING, 0, CLOVERDRUM_OK},
 };
 
 const int32_t sizes[SIZES] = {16, 64, 256, 512};
+
+const struct call *calls_of(size_t which)
+{
+    return which < PROFILES ? calls : &calls[EVERY_DAY];
+}
 
 enum { UNKNOWN_KIND = CLOVERDRUM_TOTAL_CEILING + 1, POINT_BYTES = 2, CUT_BYTES = 8, DAYS_OFFSET = 18, DAY_BYTES = 6 };
 
@@ -74,7 +81,7 @@ static void spend(void)
 
 static void prepare_cut(const struct call *call)
 {
-    cut = middle_cut(call->kind);
+    cut = call == &calls[EVERY_DAY] ? cut_of_every_day() : middle_cut(call->kind);
     switch (call->answer) {
     case CLOVERDRUM_BAD_KIND: cut.kind = UNKNOWN_KIND; break;
     case CLOVERDRUM_BAD_DAY: cut.day = profile.days; break;
@@ -161,6 +168,8 @@ void check(const struct call *call)
         fail("the written schedule is not kept");
     if (is_cut || (call->entry == OPEN && is_taken))
         compare(is_cut && is_taken);
+    if (call == &calls[EVERY_DAY] && changed_days() != (cloverdrum_size)profile.days)
+        fail("a day is not changed");
     if (!is_taken && !is_spent && !unchanged())
         fail("a refusal changed the session");
 }

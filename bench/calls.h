@@ -13,10 +13,14 @@ struct call {
     int answer;
 };
 
-enum { CALLS = 28, LOADS = 5, SIZES = 4 };
+enum { CALLS = 30, LOADS = 5, EVERY_DAY = CALLS - 2, SIZES = 4 };
 
-/* The first are the loads: an opening and the four kinds of cut, accepted. */
+/* The first are the loads: an opening and the four kinds of cut, accepted. The calls that are made on the six profiles end with one of nothing; behind them is
+ * the cut that changes every day, for the other five, and one of nothing. */
 extern const struct call calls[CALLS];
+
+/* The calls that are made on a profile, up to one of nothing. */
+const struct call *calls_of(size_t which);
 
 /* The day counts of the tables. */
 extern const int32_t sizes[SIZES];

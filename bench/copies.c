@@ -53,10 +53,10 @@ static void count(const struct call *call)
 
 int main(void)
 {
-    for (size_t which = 0; which < PROFILES; which++)
+    for (size_t which = 0; which < PROFILES + ORDERS; which++)
         for (size_t size = 0; size < SIZES; size++) {
             open_sides(which, sizes[size]);
-            for (const struct call *call = calls; call->entry != NOTHING; call++)
+            for (const struct call *call = calls_of(which); call->entry != NOTHING; call++)
                 count(call);
         }
     return 0;

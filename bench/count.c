@@ -18,10 +18,10 @@ static void count(enum side side, const struct call *call)
 
 int main(void)
 {
-    for (size_t which = 0; which < PROFILES; which++)
+    for (size_t which = 0; which < PROFILES + ORDERS; which++)
         for (size_t size = 0; size < SIZES; size++) {
             open_sides(which, sizes[size]);
-            for (const struct call *call = calls; call->entry != NOTHING; call++) {
+            for (const struct call *call = calls_of(which); call->entry != NOTHING; call++) {
                 prepare(call);
                 for (enum side side = LIBRARY; side < SIDES; side++)
                     if (has(side, call))

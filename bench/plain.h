@@ -1,5 +1,5 @@
 /* The same openings and cuts in plain C, to compare with: document 000's algorithms 1 and 2, and no more than they need. Lists are as long as the days
- * ask, and the number of changed days is given back with the days. Days from `first` on count in the total. */
+ * ask, and the number of changed days is given back with the days, the largest loss first. Days from `first` on count in the total. */
 #ifndef PLAIN_H
 #define PLAIN_H
 

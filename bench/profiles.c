@@ -143,13 +143,91 @@ static void fill_filling(struct profile *profile)
     total_around(profile, sum, RAMP_REACH);
 }
 
+/* ---- equal, falling, rising, mixed, late: a cut takes from every day's range. All days lose the same, or each less than the day before it, or each more;
+ * or the losses are different numbers, shuffled; or all are the same but the last day's, which is a point more. On *mixed* the rises leave each day free of its
+ * neighbours, and the cut of the total's ceiling makes a round for each day; on the others the total does not bind, and there is no round. */
+
+enum { LOSSES = 4500, EQUAL_LOSS = 1000, MIXED_LOSSES = 1536, MIXED_MARGIN = 400 };
+
+static void fill_flat(struct profile *profile)
+{
+    for (int32_t i = 0; i < profile->days; i++) {
+        profile->floors[i] = CLOVERDRUM_LOWEST_POINT;
+        profile->ceilings[i] = CLOVERDRUM_HIGHEST_POINT;
+        profile->rises[i] = 0;
+    }
+    profile->lowest = CLOVERDRUM_LOWEST_TOTAL;
+    profile->highest = CLOVERDRUM_HIGHEST_TOTAL;
+}
+
+static void cut_by(struct profile *profile, int32_t kind, int32_t day, int32_t value)
+{
+    profile->cut.kind = kind;
+    profile->cut.day = day;
+    profile->cut.value = value;
+}
+
+static void fill_equal(struct profile *profile)
+{
+    fill_flat(profile);
+    cut_by(profile, CLOVERDRUM_DAY_FLOOR, 0, CLOVERDRUM_LOWEST_POINT + EQUAL_LOSS);
+}
+
+/* Floors climb, and the first day's is cut to above the last. */
+static void fill_falling(struct profile *profile)
+{
+    int32_t step = LOSSES / profile->days;
+    fill_flat(profile);
+    for (int32_t i = 0; i < profile->days; i++)
+        profile->floors[i] = (int16_t)(CLOVERDRUM_LOWEST_POINT + i * step);
+    cut_by(profile, CLOVERDRUM_DAY_FLOOR, 0, CLOVERDRUM_LOWEST_POINT + profile->days * step);
+}
+
+/* Ceilings climb, and the last day's is cut to below the first. */
+static void fill_rising(struct profile *profile)
+{
+    int32_t step = LOSSES / profile->days, last = profile->days - 1;
+    fill_flat(profile);
+    for (int32_t i = 0; i < profile->days; i++)
+        profile->ceilings[i] = (int16_t)(CLOVERDRUM_HIGHEST_POINT - (last - i) * step);
+    cut_by(profile, CLOVERDRUM_DAY_CEILING, last, CLOVERDRUM_HIGHEST_POINT - profile->days * step);
+}
+
+/* A ceiling is above its floor by the margin and a loss, and the cut leaves the margin. */
+static void fill_mixed(struct profile *profile)
+{
+    int32_t step = MIXED_LOSSES / profile->days;
+    fill_flat(profile);
+    state = 1;
+    for (int32_t i = 0; i < profile->days; i++) {
+        int32_t place = draw(i);
+        profile->floors[i] = 0;
+        profile->ceilings[i] = profile->ceilings[place];
+        profile->ceilings[place] = (int16_t)(MIXED_MARGIN + (i + 1) * step);
+        profile->rises[i] = CLOVERDRUM_LOWEST_RISE;
+    }
+    cut_by(profile, CLOVERDRUM_TOTAL_CEILING, 0, MIXED_MARGIN);
+}
+
+/* The last ceiling is a point above the others, and is cut. */
+static void fill_late(struct profile *profile)
+{
+    int32_t last = profile->days - 1;
+    fill_flat(profile);
+    for (int32_t i = 0; i < last; i++)
+        profile->ceilings[i]--;
+    cut_by(profile, CLOVERDRUM_DAY_CEILING, last, CLOVERDRUM_HIGHEST_POINT - 1 - EQUAL_LOSS);
+}
+
 void fill_profile(struct profile *profile, size_t which, int32_t days)
 {
     static const struct {
         const char *name;
         void (*fill)(struct profile *);
-    } profiles[PROFILES] = {{"even", fill_even}, {"ramp", fill_ramp}, {"random", fill_random}, {"stairs", fill_stairs}, {"loose", fill_loose},
-                            {"filling", fill_filling}};
+    } profiles[PROFILES + ORDERS] = {
+        {"even", fill_even},   {"ramp", fill_ramp},       {"random", fill_random}, {"stairs", fill_stairs}, {"loose", fill_loose}, {"filling", fill_filling},
+        {"equal", fill_equal}, {"falling", fill_falling}, {"rising", fill_rising}, {"mixed", fill_mixed},   {"late", fill_late},
+    };
     profile->name = profiles[which].name;
     profile->days = days;
     profile->first = 0;

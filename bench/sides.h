@@ -40,12 +40,18 @@ int cut_on(enum side side, struct cut cut);
 /* A cut of this kind, of the sessions that were kept, at the middle of the range: the middle day's or the total's. */
 struct cut middle_cut(int32_t kind);
 
+/* The profile's own, which changes every day. */
+struct cut cut_of_every_day(void);
+
 /* A cut that leaves no schedule: the total's floor above its ceiling. */
 struct cut last_cut(void);
 
 /* The middle of the range that was kept of the middle day, and of the total. */
 int32_t middle_point(void);
 int32_t middle_total(void);
+
+/* The number of days that the library's last cut changed. */
+cloverdrum_size changed_days(void);
 
 /* All sides hold the same ranges, and the last call changed the same days; where it was a cut, it tightened something. */
 void compare(bool was_cut);

@@ -37,10 +37,10 @@ static size_t deepest(const struct call *call)
 
 int main(void)
 {
-    for (size_t which = 0; which < PROFILES; which++) {
+    for (size_t which = 0; which < PROFILES + ORDERS; which++) {
         open_sides(which, DAYS);
         size_t nothing = deepest(&calls[CALLS - 1]);
-        for (const struct call *call = calls; call->entry != NOTHING; call++)
+        for (const struct call *call = calls_of(which); call->entry != NOTHING; call++)
             printf("%s %s %zu\n", profile.name, call->name, deepest(call) - nothing);
     }
     return 0;

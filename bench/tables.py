@@ -12,13 +12,15 @@ DAYS = [SMALL, MIDDLE, 256, LARGE]
 SIDES = ["library", "plain", "tuned"]
 CUTS = {"day_floor": "day's floor", "day_ceiling": "day's ceiling", "total_floor": "total's floor", "total_ceiling": "total's ceiling"}
 LOADS = {"open": "opening"} | {call: f"cut of a {name}" if call.startswith("day") else f"cut of the {name}" for call, name in CUTS.items()}
+# A cut that changes every day, on profiles of its own, each with the losses in another order.
+EVERY_DAY = "every_day"
 CUT_REFUSALS = [12, 7, 3, 5, 2, 9]
 REFUSED_CUTS = [f"cut_{number}" for number in CUT_REFUSALS]
 REFUSED_CUT = "a cut refused with 2, 3, 5, 7, 9 or 12"
 # The rows of the tables that go by entry, and the calls of each.
 ENTRIES = {
     "`cloverdrum_open`": ["open"],
-    "`cloverdrum_cut`": list(CUTS),
+    "`cloverdrum_cut`": [*CUTS, EVERY_DAY],
     REFUSED_CUT: REFUSED_CUTS,
     "a cut answered 8": ["cut_8"],
 } | {f"`cloverdrum_{name}`": [name] for name in ["read", "write_day", "write_total", "inspect", "write_file", "read_file", "session_bytes"]}
@@ -67,8 +69,9 @@ def table(heads, rows, texts=1):
     print()
 
 
-def profiles_of(counts):
-    return list(dict.fromkeys(profile for profile, *_ in counts))
+def profiles_of(counts, made="open"):
+    """The profiles on which a call is made; those of the loads, where none is named."""
+    return list(dict.fromkeys(profile for profile, _, call, _ in counts if call == made))
 
 
 def loads_table(counts, opening_ratio, cut_ratio):
@@ -95,11 +98,23 @@ def profiles_table(counts):
     table([f"{LARGE} days", "opening", *CUTS.values()], rows)
 
 
+def orders_table(counts, cut_ratio):
+    """Of a cut that changes every day, by the order of the losses; ratios are limits by days."""
+    rows = []
+    for profile in profiles_of(counts, EVERY_DAY):
+        for days in DAYS:
+            library, plain, tuned = (counts[profile, days, EVERY_DAY, side] for side in SIDES)
+            rows.append([profile, days, library, plain, tuned, library / plain, library / tuned])
+            limit(f"a cut that changes every day, {days} days, {profile}, ratio to plain C", library / plain, cut_ratio[days])
+    table(["losses", "days", "instructions", "plain C", "tuned C", "ratio to plain", "to tuned"], rows)
+
+
 def entries_table(counts, most_growth, columns):
     """Instructions of each row of ENTRIES and their growth; then columns, each a head with figures by row."""
     rows = []
     for name, calls in ENTRIES.items():
-        at = {days: {(profile, call): counts[profile, days, call, "library"] for profile in profiles_of(counts) for call in calls} for days in (MIDDLE, LARGE)}
+        made = [(profile, call) for call in calls for profile in profiles_of(counts, call)]
+        at = {days: {(profile, call): counts[profile, days, call, "library"] for profile, call in made} for days in (MIDDLE, LARGE)}
         growth = max(at[LARGE][key] / max(1, at[MIDDLE][key]) for key in at[LARGE])
         limit(f"{name}, growth from {MIDDLE} to {LARGE} days", growth, most_growth)
         rows.append([name, max(at[MIDDLE].values()), max(at[LARGE].values()), growth, *(figures[name] for figures in columns.values())])

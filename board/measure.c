@@ -72,12 +72,12 @@ int main(void)
     TIMER_CONTROL = TIMER_ON;
     doing = "calibrating";
     calibrate();
-    for (size_t which = 0; which < PROFILES; which++)
+    for (size_t which = 0; which < PROFILES + ORDERS; which++)
         for (size_t size = 0; size < SIZES; size++) {
             open_sides(which, sizes[size]);
-            for (const struct call *call = calls; call != nothing; call++)
+            for (const struct call *call = calls_of(which); call->entry != NOTHING; call++)
                 count_sides(call, count(LIBRARY, nothing));
-            for (const struct call *call = calls; call != nothing && profile.days == DAYS; call++)
+            for (const struct call *call = calls_of(which); call->entry != NOTHING && profile.days == DAYS; call++)
                 printf("%s %s %lu\n", profile.name, call->name, (unsigned long)(deepest(call) - deepest(nothing)));
         }
     return 0;

@@ -52,7 +52,7 @@ static int open_profile(uint8_t *session)
     return refused("open", cloverdrum_open(session, CLOVERDRUM_SESSION_BYTES, DAYS, low, sizeof low, high, sizeof high, steps, sizeof steps, 10, 12, 0));
 }
 
-/* The changed days go to standard error, so that standard output has the ranges alone. */
+/* The changed days, the largest loss first, go to standard error, so that standard output has the ranges alone. */
 static int cut(uint8_t *session, size_t kind, size_t day, int32_t value)
 {
     uint8_t changed[2 * DAYS];

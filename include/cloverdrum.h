@@ -39,7 +39,7 @@
  * Stack. An entry takes at most so many bytes, with the arguments that are passed on the stack, on x86-64 and on Cortex-M. Nothing stops it on a stack that is
  * shorter, where no guard page lies below.
  *     cloverdrum_open           3,584   3,840
- *     cloverdrum_cut            3,584   3,840
+ *     cloverdrum_cut            3,840   4,096
  *     cloverdrum_read             256     256
  *     cloverdrum_write_day      3,328   3,584
  *     cloverdrum_write_total    3,328   3,584
@@ -69,7 +69,7 @@ extern "C" {
 
 /* The version, 100 for 1.00. The hundreds change where a session's bytes, the profile file or the parameters of an entry do, else the last two digits:
  * versions with the same hundreds take each other's sessions and files. CHANGELOG.md has an entry for each. */
-#define CLOVERDRUM_VERSION 200
+#define CLOVERDRUM_VERSION 201
 
 /* Bounds of an entry. */
 #define CLOVERDRUM_MOST_DAYS 512
@@ -135,8 +135,9 @@ uint8_t cloverdrum_open(uint8_t *session, cloverdrum_size session_length, clover
 
 /* Cuts one range of a session, and tightens every other: the day's setpoint, or the total, is to be at least (floors) or at most (ceilings) the value.
  * `day` is 0 for the total's kinds. A cut that is looser than the present range is accepted and changes nothing. On 0 *changed_days is the number of days
- * whose floor or ceiling differs from before, and the list `changed` begins with these days, each one time, in any order; the list has to be lent whether the
- * caller reads it or not. `kind` is a cloverdrum_kind.
+ * whose floor or ceiling differs from before, and the list `changed` begins with these days, each one time, the largest loss first, and equal losses by day,
+ * the lowest first. A day's loss is the number of points that its range lost: its width, ceiling less floor, before the cut less that after it. The list has
+ * to be lent whether the caller reads it or not. `kind` is a cloverdrum_kind.
  * Refusals, in order: 2 (a session of another length); 12 (an unknown kind, or a total's cut whose day is not 0); 7 (of a day's cut); 3 (a day's value);
  * 5 (a total's value); 2 (the list for changed days shorter than n); 9; 8 (the session is now spent, and shows the ranges that it had when opened).
  * A refusal leaves the list, and all but 8 leave every byte of the session. */

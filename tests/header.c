@@ -1,5 +1,6 @@
 /* What the library does at every number that the header names: a bound is taken and one past it is refused, a length fits exactly, each refusal, kind of
- * cut and rule comes back under its name. A difference is printed as a line with its name, and the exit status is 1.
+ * cut and rule comes back under its name; and changed days in the order that it says. A difference is printed as a line with its name, and the exit status
+ * is 1.
  *
  *     gcc -Iinclude -o target/header tests/header.c target/staticlib/libcloverdrum.a && target/header */
 #include "cloverdrum.h"
@@ -246,6 +247,19 @@ static void try_refusals(void)
     SAME(cut(CLOVERDRUM_TOTAL_FLOOR, 0, 0), CLOVERDRUM_SPENT);
 }
 
+/* ---- changed days: three days from 0 leave each other free, and the cut takes what is above 5. */
+
+static void try_order(void)
+{
+    put_days(3, 0, 8, CLOVERDRUM_LOWEST_RISE);
+    put_point(ceilings, 1, 9);
+    SAME(open_lists(3, 0, CLOVERDRUM_HIGHEST_TOTAL), CLOVERDRUM_OK);
+    SAME(cut(CLOVERDRUM_TOTAL_CEILING, 0, 5), CLOVERDRUM_OK);
+    same("the day with the largest loss", point_at(changed, 0), 1);
+    same("the first of two days with equal losses", point_at(changed, 1), 0);
+    same("the second of them", point_at(changed, 2), 2);
+}
+
 /* ---- kinds and rules */
 
 /* Two days from 0 to 10 that leave each other free: each kind moves one end of one range. */
@@ -296,6 +310,7 @@ int main(void)
     try_written_file();
     try_read_file();
     try_refusals();
+    try_order();
     try_kinds();
     try_rules();
     return differences != 0;

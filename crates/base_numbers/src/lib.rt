@@ -1,7 +1,7 @@
 // Casts between a level's 16 bits and a local of the machine's or of 32 bits, the smaller and the larger of two numbers: `min` and `max` of the machine's
-// width, `smaller` and `larger` of 32 bits.
+// width, `smaller` and `larger` of 32 bits; and one level less another.
 ghost use mathlib.Core.Path.{_≡_};
-ghost use Prim.Native.Nat.{_≤_, _<_, min, max};
+ghost use Prim.Native.Nat.{_-_, _≤_, _<_, min, max};
 ghost use Rattle.limits.specs.Limits.{highestLevel};
 
 pub fn wide(x: u16) -> usize
@@ -45,4 +45,11 @@ pub fn larger(x: u32, y: u32) -> u32
     ensures { λ r. ⌜ r ≡ max x y ⌝ }
 {
     if y < x { x } else { y }
+}
+
+// 0 where it would be negative.
+pub fn less(x: u16, y: u16) -> u16
+    ensures { λ r. ⌜ r ≡ x - y ⌝ }
+{
+    if y < x { x - y } else { 0 }
 }

@@ -86,7 +86,7 @@ module _ {b : List ℕ} where
       rw (e, within-yes lowestTotal highestTotal (decoded lowestTotal t) .1 (low, high)) (code-decoded lowestTotal t)
 
   -- a cell of a block
-  pub cell-read : {place n : ℕ} (cells : List ℕ) → Part b place (blockBytes cells n) → (k : ℕ) → k < n → u16At b (place + k * 2) ≡ at cells k
+  cell-read : {place n : ℕ} (cells : List ℕ) → Part b place (blockBytes cells n) → (k : ℕ) → k < n → u16At b (place + k * 2) ≡ at cells k
   unfolding blockBytes cellBytes
   cell-read {n = n} cells p k h =
       let row : (ℕ → List ℕ) = λ j. u16Bytes (at cells j) in

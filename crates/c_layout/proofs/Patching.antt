@@ -1,11 +1,10 @@
 -- The patch on what was encoded is the encoding of the session with the new ranges: each part of it is stored, or stands where nothing was stored.
 use mathlib.Core.Path.{_≡_, sym, _∙_}
-use mathlib.Core.Bool.{Bool, cond, not, _||_}
-use mathlib.Core.List.{List, _++_}
+use mathlib.Core.Bool.{Bool, cond}
+use mathlib.Core.List.{List}
 use mathlib.Core.Logic.{_⊎_, inl, inr}
-use Prim.Native.Nat.{ℕ, _+_, _-_, _*_, _≤_, _<_}
+use Prim.Native.Nat.{ℕ, _+_, _-_, _*_, _≤_}
 use native.Mathlib.Omega.{arith}
-use lib.Dec.{eqb}
 use lib.ListN.{length, length-append, replicate, length-replicate}
 use lib.Seq.{sets, length-sets}
 use Rattle.theory_lists.specs.Sum.{at}
@@ -13,13 +12,11 @@ use Rattle.theory_lists.specs.Part.{Part, part-left, part-right, part-both, par
 use Rattle.base_little_endian.proofs.Laws.{u16-length}
 use Rattle.session.specs.declared.Ranges.{Ranges}
 use Rattle.session.specs.declared.Session.{Session}
-use Rattle.session_changed.specs.Changes.{differs, daysWhere}
-use Rattle.session_changed.proofs.Days.{days-same}
 use Rattle.c_lists.specs.Lists.{cellBytes}
-use Rattle.c_layout.specs.Layout.{blockBytes, encoding, patched, cellsDiffer, changedIn}
+use Rattle.c_layout.specs.Layout.{blockBytes, encoding, patched}
 use Rattle.c_layout.specs.Storing.{PatchedEncoding}
 use Rattle.c_layout.proofs.Lengths.{totals-length, cells-length, block-length, encoding-length}
-use Rattle.c_layout.proofs.Inverse.{cell-read, Laid, laid, joined, count, mark, opening, totals, rises, openedRanges, counted}
+use Rattle.c_layout.proofs.Inverse.{Laid, laid, joined, count, mark, opening, totals, rises, openedRanges, counted}
 
 -- w elements from place i on, and the part ys from k on, have none in common
 abbrev Apart : ℕ → List ℕ → ℕ → ℕ → Type 0
@@ -148,25 +145,3 @@ module _ (s : Session) (few : s .days ≤ 512) (spent : Bool) (r : Ranges) where
 
 pub patched-encoding : PatchedEncoding
 patched-encoding s h spent r = patched-encoded s (h .bounds .opened .most) spent r
-
--- ---- the days whose bytes change, on what was encoded: those whose ranges do
-
-pub changed-encoded : (s : Session) → s .days ≤ 512 → (fs cs : List ℕ) → changedIn (encoding s) fs cs (s .days) ≡ daysWhere (differs (s .present .floors) (s .present .ceilings) fs cs) (s .days)
-unfolding changedIn
-changed-encoded s few fs cs = days-same (λ k. cellsDiffer (encoding s) k (at fs k) (at cs k)) (differs (s .present .floors) (s .present .ceilings) fs cs) (s .days) same
-  where
-    low : List ℕ
-    low = blockBytes (s .present .floors) (s .days)
-
-    high : List ℕ
-    high = blockBytes (s .present .ceilings) (s .days)
-
-    ranges : Part (encoding s) 3092 (low ++ high)
-    ranges = laid s few (part-all (encoding s)) .at3092
-
-    same : (k : ℕ) → k < s .days → cellsDiffer (encoding s) k (at fs k) (at cs k) ≡ differs (s .present .floors) (s .present .ceilings) fs cs k
-    same k h =
-        let wide = block-length (s .present .floors) (s .days) few in
-        let f = cell-read (s .present .floors) (part-left low high wide ranges) k h in
-        let c = cell-read (s .present .ceilings) (part-right low high wide ranges) k h in
-        λ i. not (eqb (f i) (at fs k)) || not (eqb (c i) (at cs k))

@@ -1,11 +1,11 @@
 -- A session as a byte string of one length, as the panel's firmware holds it: the day count and whether it is spent, 2 bytes each; the floor and the
 -- ceiling of the total, 4 bytes each, as opened and at present; then the rises, the floors and ceilings as opened, and those at present, each as 512
 -- cells of 2 bytes; then the first counted day, 2 bytes. All fields are little-endian. A cell has what the session holds, and past the last day 0.
-use mathlib.Core.Bool.{Bool, cond, not, _||_}
+use mathlib.Core.Bool.{Bool, cond, not}
 use mathlib.Core.List.{List, _++_}
 use Prim.Native.Nat.{ℕ, _+_, _-_, _*_, min, max}
 use lib.Dec.{eqb}
-use lib.ListN.{length, replicate}
+use lib.ListN.{replicate}
 use lib.Seq.{sets}
 use Rattle.limits.specs.Limits.{mostDays, lowestTotal, highestTotal, highestLevel, highestRiseCode}
 use Rattle.theory_lists.specs.Sum.{at}
@@ -16,7 +16,6 @@ use Rattle.base_little_endian.specs.Fields.{u16At, i32At, u16Bytes, i32Bytes}
 use Rattle.c_lists.specs.Lists.{cellBytes}
 use Rattle.session.specs.declared.Ranges.{Ranges}
 use Rattle.session.specs.declared.Session.{Session}
-use Rattle.session_changed.specs.Changes.{daysWhere}
 
 -- ---- where each field stands: its place is the one before it and the size of what stands there
 
@@ -122,16 +121,3 @@ patched b n spent r =
     let summed : List ℕ = sets marked presentTotalsPlace (totalBytes (r .lowest) (r .highest)) in
     let floored : List ℕ = sets summed presentPlace (cellBytes (at (r .floors)) n) in
     sets floored (presentPlace + blockLength) (cellBytes (at (r .ceilings)) n)
-
--- another floor or ceiling than this stands in the cells of day k
-abbrev pub cellsDiffer : List ℕ → ℕ → ℕ → ℕ → Bool
-cellsDiffer b k floor ceiling =
-    not (eqb (u16At b (presentPlace + k * cellLength)) floor) || not (eqb (u16At b (presentPlace + blockLength + k * cellLength)) ceiling)
-
--- the days of which that holds, in their order
-unfoldable pub changedIn : List ℕ → List ℕ → List ℕ → ℕ → List ℕ
-changedIn b floors ceilings n = daysWhere (λ k. cellsDiffer b k (at floors k) (at ceilings k)) n
-
--- days as the list for changed days has them
-unfoldable pub dayCells : List ℕ → List ℕ
-dayCells days = cellBytes (at days) (length days)

@@ -1,8 +1,8 @@
 -- What a cut on a session's bytes gives, by what its tests found.
-use mathlib.Core.Path.{_≡_, refl, ap, subst, _∙_}
+use mathlib.Core.Path.{_≡_, refl, sym, ap, subst, _∙_}
 use mathlib.Core.Bool.{Bool, true, false, cond}
 use mathlib.Core.List.{List}
-use Prim.Native.Nat.{ℕ, _/_, _≤_}
+use Prim.Native.Nat.{ℕ, _/_}
 use native.Mathlib.Omega.{arith}
 use lib.Dec.{eqb, ltb}
 use lib.ListN.{length}
@@ -15,24 +15,27 @@ use Rattle.theory_method.specs.Filter.{InBounds, Tight, tightened}
 use Rattle.theory_method.proofs.Exact.{exact, exact-in-bounds}
 use Rattle.tighten_filtering.specs.Boxed.{boxed}
 use Rattle.session.specs.Opening.{rangesOf}
-use Rattle.session.specs.Showing.{boxOf}
+use Rattle.session.specs.Showing.{boxOf, Fits}
 use Rattle.session.specs.declared.Session.{Session}
 use Rattle.session_cuts.specs.declared.Cut.{Cut}
 use Rattle.session_cuts.specs.declared.Cut.the-variants.{DayFloor, DayCeiling, TotalFloor, TotalCeiling}
 use Rattle.session_cuts.specs.declared.Numbered.{Numbered}
-use Rattle.session_cutting.specs.Cutting.{malformed, clipped, retightened, spend, withPresent, refusing, afterNumbered}
-use Rattle.session_cutting.proofs.Laws.{clipped-in-bounds}
+use Rattle.session_order.specs.Order.{settledLosers, dayCells}
+use Rattle.session_changed.specs.Changes.{lost}
+use Rattle.session_changed.proofs.Laws.{narrowed-losers}
+use Rattle.session_cutting.specs.Cutting.{malformed, clipped, retightened, spend, refusing, changedDays, afterNumbered}
+use Rattle.session_cutting.proofs.Laws.{clipped-in-bounds, tightened-narrows}
 use Rattle.session_cutting.proofs.Stages.{again-found, again-none}
 use Rattle.session_cutting.specs.declared.AfterCut.{AfterCut}
 use Rattle.session_cutting.specs.declared.CutAnswer.{CutAnswer}
-use Rattle.c_layout.specs.Layout.{sessionBytes, decoding, patched, changedIn, dayCells}
+use Rattle.c_layout.specs.Layout.{sessionBytes, decoding, patched}
 use Rattle.c_layout.proofs.Inverse.{decoding-in-bounds}
-use Rattle.c_sessions.specs.Sessions.{answerFor, bytesFor, listFor, cutAnswer, bytesCut, changedBytes}
+use Rattle.c_sessions.specs.Sessions.{bytesFor, listFor, cutAnswer, bytesCut, changedBytes}
 use Rattle.c_sessions.specs.Stages.{madeOf}
 
 -- what is answered, and the bytes and the list afterwards, by what the cut gives
 abbrev pub Cuts : List ℕ → AfterCut → List ℕ → CutAnswer → List ℕ → List ℕ → Type 0
-Cuts b a l r bytes list = (r ≡ answerFor b a) × ((bytes ≡ bytesFor b a) × (list ≡ listFor b a l))
+Cuts b a l r bytes list = (r ≡ a .answer) × ((bytes ≡ bytesFor b a) × (list ≡ listFor b a l))
 
 pub cuts-same : (b l : List ℕ) {a a′ : AfterCut} {r : CutAnswer} {bytes list : List ℕ} → a ≡ a′ → Cuts b a l r bytes list → Cuts b a′ l r bytes list
 cuts-same b l {r = r} {bytes = bytes} {list = list} e c = subst (λ a. Cuts b a l r bytes list) e c
@@ -42,29 +45,22 @@ cuts-same b l {r = r} {bytes = bytes} {list = list} e c = subst (λ a. Cuts b a 
 -- a refusal other than 8 leaves both
 pub cuts-refused : (b l : List ℕ) (s : Session) {number : ℕ} {r : CutAnswer} → (number ≡ 0 → ⊥) → (number ≡ 8 → ⊥) → r ≡ record { refusal = number; changed = 0 }
     → Cuts b (refusing number s) l r b l
-unfolding answerFor bytesFor listFor
-cuts-refused b l s {number} x y e =
-    (e ∙ rw (ne-eqb number 0 x) refl, (rw (ne-eqb number 0 x, ne-eqb number 8 y) refl, rw (ne-eqb number 0 x) refl))
+unfolding bytesFor listFor
+cuts-refused b l s {number} x y e = (e, (rw (ne-eqb number 0 x, ne-eqb number 8 y) refl, rw (ne-eqb number 0 x) refl))
 
 -- 8 spends
 cuts-spent : (b l : List ℕ) {r : CutAnswer} {bytes : List ℕ} → r ≡ record { refusal = 8; changed = 0 }
     → bytes ≡ patched b (decoding b .days) true (decoding b .opened) → Cuts b (refusing 8 (spend (decoding b))) l r bytes l
-unfolding answerFor bytesFor listFor
+unfolding bytesFor listFor
 cuts-spent b l e f = (e, (f, refl))
 
--- what an accepted cut stored: the ranges t of n days, and the days that changed
+-- what an accepted cut stored: the ranges t of n days, and the days that lost points
 pub record Stored (b l : List ℕ) (n : ℕ) (t : Tight) (count : ℕ) (bytes list : List ℕ) : Type 0 where
   pub days : n ≡ decoding b .days
   pub unspent : decoding b .spent ≡ false
-  pub counted : count ≡ length (changedIn b (t .floors) (t .ceilings) n)
-  pub listed : list ≡ inFront (dayCells (changedIn b (t .floors) (t .ceilings) n)) l
+  pub counted : count ≡ length (settledLosers (lost (decoding b .present .floors) (decoding b .present .ceilings) (t .floors) (t .ceilings)) n)
+  pub listed : list ≡ inFront (dayCells (settledLosers (lost (decoding b .present .floors) (decoding b .present .ceilings) (t .floors) (t .ceilings)) n)) l
   pub stored : bytes ≡ patched b n false (rangesOf t)
-
-cuts-stored : (b l : List ℕ) {n : ℕ} {t : Tight} {count : ℕ} {bytes list : List ℕ} → Stored b l n t count bytes list → (m : ℕ)
-    → Cuts b (record { answer = record { refusal = 0; changed = m }; session = withPresent (decoding b) (rangesOf t) }) l (record { refusal = 0; changed = count }) bytes list
-unfolding answerFor bytesFor listFor
-cuts-stored b l {n} {t} d m =
-    rw (← d .days, d .unspent) (ap (λ k. record { refusal = 0; changed = k }) (d .counted), (d .stored, d .listed))
 
 module _ (b : List ℕ) (c : Cut) {t : Tight} (e : t ≡ retightened (decoding b) (clipped (decoding b .present) c)) where
   pub made-none : t .found ≡ false → (l : List ℕ) {r : CutAnswer} {bytes : List ℕ} → r ≡ record { refusal = 8; changed = 0 }
@@ -72,17 +68,24 @@ module _ (b : List ℕ) (c : Cut) {t : Tight} (e : t ≡ retightened (decoding b
   unfolding madeOf
   made-none none l p q = cuts-same b l (again-none (decoding b) c e none) (cuts-spent b l p q)
 
-  pub made-found : t .found ≡ true → (l : List ℕ) {n count : ℕ} {bytes list : List ℕ} → Stored b l n t count bytes list
-      → Cuts b (madeOf b c) l (record { refusal = 0; changed = count }) bytes list
-  unfolding madeOf
-  made-found some l d = cuts-same b l (again-found (decoding b) c e some refl) (cuts-stored b l d _)
+  module _ (formed : malformed (decoding b .days) c ≡ 0) (some : t .found ≡ true) where
+    -- the days that lost points are those that changed
+    changes : settledLosers (lost (decoding b .present .floors) (decoding b .present .ceilings) (t .floors) (t .ceilings)) (decoding b .days)
+        ≡ changedDays (decoding b .days) (decoding b .present) (rangesOf t)
+    changes = sym (narrowed-losers (tightened-narrows (decoding b) c (decoding-in-bounds b) formed e some))
 
-  -- the total's range is in bounds
-  pub made-bounds : malformed (decoding b .days) c ≡ 0 → t .found ≡ true → (t .lowest ≤ 2560000) × (t .highest ≤ 2560000)
-  made-bounds formed some =
-      let fits = clipped-in-bounds (decoding b .rises) (decoding b .days) (decoding b .first) (decoding b .present) c (decoding-in-bounds b .present) formed in
-      let x = exact-in-bounds (exact fits (rw e at some)) fits in
-      rw e (x .lowest, x .highest)
+    pub made-found : (l : List ℕ) {n count : ℕ} {bytes list : List ℕ} → Stored b l n t count bytes list
+        → Cuts b (madeOf b c) l (record { refusal = 0; changed = count }) bytes list
+    unfolding madeOf bytesFor listFor
+    made-found l {n} {count} d =
+        let counted : count ≡ length (changedDays (decoding b .days) (decoding b .present) (rangesOf t)) = (rw (d .days) at (d .counted)) ∙ ap length changes in
+        cuts-same b l (again-found (decoding b) c e some counted)
+        (refl, (rw (← d .days, d .unspent) (d .stored), (rw (d .days) at (d .listed)) ∙ ap (λ ds. inFront (dayCells ds) l) changes))
+
+    pub made-bounds : Fits (decoding b .rises) (decoding b .days) (decoding b .first) (rangesOf t)
+    made-bounds =
+        let fits = clipped-in-bounds (decoding b .rises) (decoding b .days) (decoding b .first) (decoding b .present) c (decoding-in-bounds b .present) formed in
+        rw e (exact-in-bounds (exact fits (rw e at some)) fits)
 
 -- ---- what was loaded from the bytes
 

@@ -13,11 +13,12 @@ use Rattle.session.specs.Showing.{shown, listTooShort}
 use Rattle.session.specs.declared.Session.{Session}
 use Rattle.session.specs.declared.Shown.{Shown}
 use Rattle.session_cuts.specs.declared.Numbered.{Numbered}
-use Rattle.session_cutting.specs.Cutting.{afterNumbered}
+use Rattle.session_order.specs.Order.{dayCells}
+use Rattle.session_cutting.specs.Cutting.{changedDays, afterNumbered}
 use Rattle.session_cutting.specs.declared.AfterCut.{AfterCut}
 use Rattle.session_cutting.specs.declared.CutAnswer.{CutAnswer}
 use Rattle.c_lists.specs.Profiles.{ByteProfile, byteLengthRefusal, profileOf}
-use Rattle.c_layout.specs.Layout.{sessionBytes, encoding, decoding, patched, changedIn, dayCells}
+use Rattle.c_layout.specs.Layout.{sessionBytes, encoding, decoding, patched}
 
 abbrev pub isSession : List ℕ → Bool
 isSession b = eqb (length b) sessionBytes
@@ -35,17 +36,8 @@ bytesOpened b h = cond (eqb (openRefusal b h) 0) (encoding (opened (profileOf h)
 
 -- ---- cutting, where the list for changed days has that many bytes
 
--- the days whose bytes change where a session's present ranges are stored
-abbrev pub changedBy : List ℕ → Session → List ℕ
-changedBy b s = changedIn b (s .present .floors) (s .present .ceilings) (s .days)
-
--- what is answered, by what the cut gives for the session that the bytes hold
-unfoldable pub answerFor : List ℕ → AfterCut → CutAnswer
-answerFor b a =
-    let refusal : ℕ = a .answer .refusal in
-    record { refusal = refusal; changed = cond (eqb refusal 0) (length (changedBy b (a .session))) 0 }
-
--- the session's bytes afterwards: as they were beside a refusal other than 8, else with the patch that the cut makes
+-- the session's bytes afterwards, by what the cut gives for the session that they hold: as they were beside a refusal other than 8, else with the patch that the
+-- cut makes
 unfoldable pub bytesFor : List ℕ → AfterCut → List ℕ
 bytesFor b a =
     let refusal : ℕ = a .answer .refusal in
@@ -54,10 +46,10 @@ bytesFor b a =
 
 -- the list afterwards: as it was beside a refusal, else with the changed days at its front
 unfoldable pub listFor : List ℕ → AfterCut → List ℕ → List ℕ
-listFor b a l = cond (eqb (a .answer .refusal) 0) (inFront (dayCells (changedBy b (a .session))) l) l
+listFor b a l = cond (eqb (a .answer .refusal) 0) (inFront (dayCells (changedDays (decoding b .days) (decoding b .present) (a .session .present))) l) l
 
 unfoldable pub cutAnswer : List ℕ → Numbered → ℕ → CutAnswer
-cutAnswer b t list = cond (isSession b) (answerFor b (afterNumbered (decoding b) t (list / 2))) (record { refusal = 2; changed = 0 })
+cutAnswer b t list = cond (isSession b) (afterNumbered (decoding b) t (list / 2) .answer) (record { refusal = 2; changed = 0 })
 
 unfoldable pub bytesCut : List ℕ → Numbered → ℕ → List ℕ
 bytesCut b t list = cond (isSession b) (bytesFor b (afterNumbered (decoding b) t (list / 2))) b

@@ -12,7 +12,7 @@ ghost use Rattle.session_cutting.specs.Cutting.{afterCut};
 ghost use Rattle.c_lists.specs.Lists.{pointAt, levelAt, levelsCrossed, lentPoints};
 ghost use Rattle.c_lists.specs.Profiles.{byteProfile, byteLengthRefusal, profileOf};
 ghost use Rattle.c_layout.specs.Layout.{sessionBytes, decoding};
-ghost use Rattle.c_sessions.specs.Sessions.{openRefusal, bytesOpened, answerFor, bytesFor, listFor, cutAnswer, bytesCut, changedBytes, shownOver};
+ghost use Rattle.c_sessions.specs.Sessions.{openRefusal, bytesOpened, bytesFor, listFor, cutAnswer, bytesCut, changedBytes, shownOver};
 ghost use Rattle.c_sessions.specs.Stages.{Cuttable, madeOf};
 use base_codes::CodedNumbers;
 use c_layout::SESSION_BYTES;
@@ -150,7 +150,7 @@ fn refuse(number: u8) -> CutAnswer
 // Clips by a well-formed cut and tightens everything again: 8, or the days that changed.
 fn cut_present(session: &mut [u8], cut: Cut, value: usize, changed: &mut [u8]) -> CutAnswer
     requires { ⌜ Cuttable (now session) cut value (now changed) ⌝ }
-    ensures { λ r. ⌜ r ≡ answerFor (now (session .entry)) (madeOf (now (session .entry)) cut) ⌝ }
+    ensures { λ r. ⌜ r ≡ madeOf (now (session .entry)) cut .answer ⌝ }
     ensures { λ r. ⌜ now (session .exit) ≡ bytesFor (now (session .entry)) (madeOf (now (session .entry)) cut) ⌝ }
     ensures { λ r. ⌜ now (changed .exit) ≡ listFor (now (session .entry)) (madeOf (now (session .entry)) cut) (now (changed .entry)) ⌝ }
 {
@@ -178,7 +178,15 @@ fn cut_present(session: &mut [u8], cut: Cut, value: usize, changed: &mut [u8]) -
         lowest: t.lowest,
         highest: t.highest,
     };
-    let count = store_cut(&floors, &ceilings, left, session, changed);
+    // The rises are done with, and their array takes the losses.
+    let count = store_cut(
+        &mut rises,
+        &mut floors,
+        &mut ceilings,
+        left,
+        session,
+        changed,
+    );
     CutAnswer {
         refusal: 0,
         changed: count,
@@ -188,7 +196,7 @@ fn cut_present(session: &mut [u8], cut: Cut, value: usize, changed: &mut [u8]) -
 // Document 01's checks 12, 7, 3 or 5, 2, 9 from a few bytes, then 8.
 fn cut_known(session: &mut [u8], cut: Cut, changed: &mut [u8]) -> CutAnswer
     requires { ⌜ length (now session) ≡ sessionBytes ⌝ }
-    ensures { λ r. ⌜ r ≡ answerFor (now (session .entry)) (afterCut (decoding (now (session .entry))) cut (length (now (changed .entry)) / 2)) ⌝ }
+    ensures { λ r. ⌜ r ≡ afterCut (decoding (now (session .entry))) cut (length (now (changed .entry)) / 2) .answer ⌝ }
     ensures { λ r. ⌜ now (session .exit) ≡ bytesFor (now (session .entry)) (afterCut (decoding (now (session .entry))) cut (length (now (changed .entry)) / 2)) ⌝ }
     ensures { λ r. ⌜ now (changed .exit) ≡ listFor (now (session .entry)) (afterCut (decoding (now (session .entry))) cut (length (now (changed .entry)) / 2)) (now (changed .entry)) ⌝ }
 {

@@ -1,22 +1,26 @@
 -- What a cut makes of a session's bytes, store by store.
-use Prim.Native.Nat.{ℕ, _+_, _*_, _≤_, _<_, min}
+use Prim.Native.Nat.{ℕ, _+_, _-_, _*_, _≤_, _<_, min}
 use mathlib.Core.Path.{_≡_, refl, ap, _∙_}
-use mathlib.Core.Bool.{Bool, true, cond, not, _||_}
+use mathlib.Core.Bool.{Bool, true, cond}
 use mathlib.Core.List.{List}
 use native.Mathlib.Omega.{arith}
-use lib.Dec.{eqb}
+use lib.ListN.{length}
 use lib.Seq.{sets}
 use Rattle.theory_lists.specs.Sum.{at}
 use Rattle.theory_lists.specs.Rows.{rows-same}
+use Rattle.theory_lists.specs.Written.{written, written-below}
 use Rattle.base_little_endian.specs.Fields.{u16At, u16Bytes}
 use Rattle.base_little_endian.proofs.Laws.{u16-length}
 use Rattle.session.specs.declared.Ranges.{Ranges}
-use Rattle.session_changed.proofs.Days.{days-same}
+use Rattle.session_order.specs.Order.{settledLosers}
+use Rattle.session_order.proofs.Losers.{losers-same}
+use Rattle.session_changed.specs.Changes.{lost}
 use Rattle.c_lists.specs.Lists.{cellBytes}
-use Rattle.c_layout.specs.Layout.{totalBytes, decoding, patched, cellsDiffer, changedIn}
-use Rattle.c_layout.proofs.Held.{days-few, opened-floor-held, opened-ceiling-held}
+use Rattle.c_layout.specs.Layout.{totalBytes, decoding, patched}
+use Rattle.c_layout.proofs.Held.{days-few, floor-held, ceiling-held, opened-floor-held, opened-ceiling-held}
 use Rattle.c_layout.proofs.Lengths.{totals-length}
 use Rattle.c_storing.proofs.Laws.{field-before, field-past}
+use Rattle.c_storing.proofs.Days.{lossOf}
 
 cells-same : (f g : ℕ → ℕ) (n : ℕ) → ((k : ℕ) → k < n → f k ≡ g k) → cellBytes f n ≡ cellBytes g n
 unfolding cellBytes
@@ -51,16 +55,26 @@ module _ {b out : List ℕ} {spent : Bool} {lowest highest : ℕ} (s : Summed b 
       (field-past (totalBytes lowest highest) (sets b 2 (u16Bytes (cond spent 1 0))) 12 k (omega (arith, totals-length lowest highest))
       ∙ field-past (u16Bytes (cond spent 1 0)) b 2 k (omega (arith, u16-length (cond spent 1 0))))
 
-  -- and so the days whose cells change are those of b
-  pub summed-changed : (fs cs : List ℕ) (n : ℕ) → changedIn out fs cs n ≡ changedIn b fs cs n
-  unfolding changedIn
-  summed-changed fs cs n = days-same (λ k. cellsDiffer out k (at fs k) (at cs k)) (λ k. cellsDiffer b k (at fs k) (at cs k)) n same
-    where
-      same : (k : ℕ) → k < n → cellsDiffer out k (at fs k) (at cs k) ≡ cellsDiffer b k (at fs k) (at cs k)
-      same k h =
-          let low = summed-left (3092 + k * 2) (omega arith) in
-          let high = summed-left (4116 + k * 2) (omega arith) in
-          λ i. not (eqb (low i) (at fs k)) || not (eqb (high i) (at cs k))
+  -- and so the points that each day lost are by the ranges that b has
+  module _ (fs cs l : List ℕ) {losses : List ℕ} {n : ℕ} (e : losses ≡ written (lossOf out (at fs) (at cs)) n l) (room : n ≤ length l) where
+    abbrev loss : ℕ → ℕ
+    loss = lost (decoding b .present .floors) (decoding b .present .ceilings) fs cs
+
+    written-loss : (k : ℕ) → k < n → at losses k ≡ lossOf out (at fs) (at cs) k
+    written-loss k h = rw e (written-below (lossOf out (at fs) (at cs)) 0 n l k h room)
+
+    pub losses-most : (k : ℕ) → k < n → at losses k ≤ 5000
+    losses-most k h = omega (arith, written-loss k h)
+
+    pub losers-held : n ≡ decoding b .days → settledLosers (at losses) n ≡ settledLosers loss n
+    losers-held d = losers-same (at losses) loss n same
+      where
+        same : (k : ℕ) → k < n → at losses k ≡ loss k
+        same k h =
+            let u : k < decoding b .days = omega (arith, d) in
+            let low = ap (λ x. min x 5000) (summed-left (3092 + k * 2) (omega arith)) ∙ floor-held b k u in
+            let high = ap (λ x. min x 5000) (summed-left (4116 + k * 2) (omega arith)) ∙ ceiling-held b k u in
+            written-loss k h ∙ (λ i. (high i - low i) - (at cs k - at fs k))
 
 -- ---- spending: the cells as opened are read where nothing was stored
 

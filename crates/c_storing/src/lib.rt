@@ -2,23 +2,26 @@
 ghost use mathlib.Core.Path.{_≡_};
 ghost use mathlib.Core.Bool.{true, false, cond};
 ghost use mathlib.Core.List.{_++_};
-ghost use Prim.Native.Nat.{_+_, _-_, _*_, _≤_, _<_, min};
+ghost use Prim.Native.Nat.{_+_, _-_, _*_, _≤_, min};
 ghost use lib.ListN.{length, replicate};
 ghost use lib.Seq.{sets};
 ghost use Rattle.limits.specs.Limits.{mostDays, highestLevel, highestTotalCode};
 ghost use Rattle.theory_lists.specs.Sum.{at};
 ghost use Rattle.theory_lists.specs.Front.{inFront};
-ghost use Rattle.base_little_endian.specs.Fields.{u16At, u16Bytes};
+ghost use Rattle.theory_lists.specs.Written.{written};
+ghost use Rattle.base_little_endian.specs.Fields.{u16At};
 ghost use Rattle.theory_method.specs.Filter.{InBounds};
 ghost use Rattle.tighten_filtering.specs.Boxed.{boxed};
 ghost use Rattle.session.specs.Opening.{fresh};
+ghost use Rattle.session_order.specs.Order.{settledLosers, dayCells};
+ghost use Rattle.session_changed.specs.Changes.{lost};
 ghost use Rattle.c_lists.specs.Lists.{cellBytes};
 ghost use Rattle.c_layout.specs.Layout.{cellLength, totalsLength, blockLength, rangesLength, sessionBytes, totalBytes, blockBytes, encoding, decoding};
-ghost use Rattle.c_layout.specs.Layout.{presentPlace, patched, cellsDiffer, changedIn, dayCells};
+ghost use Rattle.c_layout.specs.Layout.{presentPlace, patched};
 use base_codes::CodedNumbers;
 use base_little_endian::put_i32;
 use base_little_endian::put_u16;
-use base_little_endian::u16_at;
+use base_numbers::less;
 use base_numbers::narrow;
 use c_layout::BLOCK_BYTES;
 use c_layout::CELL_BYTES;
@@ -119,65 +122,49 @@ pub fn store_fresh(
 
 // ---- what a cut changes
 
-// Stores the range of a day, and notes the day behind `count` others, where another range stands there; gives how many are
-// noted.
-fn store_day(
-    out: &mut [u8],
-    changed: &mut [u8],
-    count: usize,
-    day: usize,
-    floor: u16,
-    ceiling: u16,
-) -> usize
-    requires { ⌜ (length (now out) ≡ sessionBytes) × (day < mostDays) × ((count + 1) * cellLength ≤ length (now changed)) ⌝ }
-    ensures { λ r. ⌜ r ≡ cond (cellsDiffer (now (out .entry)) day floor ceiling) (count + 1) count ⌝ }
-    ensures { λ r. ⌜ now (changed .exit) ≡ cond (cellsDiffer (now (out .entry)) day floor ceiling) (sets (now (changed .entry)) (count * cellLength) (u16Bytes day)) (now (changed .entry)) ⌝ }
-    ensures { λ r. ⌜ now (out .exit) ≡ sets (sets (now (out .entry)) (presentPlace + day * cellLength) (u16Bytes floor)) (presentPlace + blockLength + day * cellLength) (u16Bytes ceiling) ⌝ }
-{
-    let low = PRESENT_AT + day * CELL_BYTES;
-    let high = PRESENT_AT + BLOCK_BYTES + day * CELL_BYTES;
-    if (u16_at(out, low) != floor) | (u16_at(out, high) != ceiling) {
-        put_u16(out, low, floor);
-        put_u16(out, high, ceiling);
-        put_u16(changed, count * CELL_BYTES, day as u16);
-        return count + 1;
-    }
-    count
-}
-
-// Stores the ranges of n days as the present ones, and lists the days whose bytes that changes; gives their number.
+// Stores the ranges of n days as the present ones, and leaves how many points the range of each day lost.
 fn store_days(
     floors: &[u16; MOST_DAYS],
     ceilings: &[u16; MOST_DAYS],
     n: usize,
     out: &mut [u8],
-    changed: &mut [u8],
-) -> usize
-    requires { ⌜ (length (now out) ≡ sessionBytes) × (n ≤ mostDays) × (n * cellLength ≤ length (now changed)) ⌝ }
-    ensures { λ r. ⌜ r ≡ length (changedIn (now (out .entry)) (now (floors .entry)) (now (ceilings .entry)) n) ⌝ }
-    ensures { λ r. ⌜ now (changed .exit) ≡ inFront (dayCells (changedIn (now (out .entry)) (now (floors .entry)) (now (ceilings .entry)) n)) (now (changed .entry)) ⌝ }
-    ensures { λ r. ⌜ now (out .exit) ≡ sets (sets (now (out .entry)) presentPlace (cellBytes (at (now (floors .entry))) n)) (presentPlace + blockLength) (cellBytes (at (now (ceilings .entry))) n) ⌝ }
+    losses: &mut [u16; MOST_DAYS],
+)
+    requires { ⌜ (length (now out) ≡ sessionBytes) × (n ≤ mostDays) ⌝ }
+    ensures { λ _. ⌜ now (losses .exit) ≡ written (λ k. (min (u16At (now (out .entry)) (presentPlace + blockLength + k * cellLength)) highestLevel - min (u16At (now (out .entry)) (presentPlace + k * cellLength)) highestLevel) - (at (now (ceilings .entry)) k - at (now (floors .entry)) k)) n (now (losses .entry)) ⌝ }
+    ensures { λ _. ⌜ now (out .exit) ≡ sets (sets (now (out .entry)) presentPlace (cellBytes (at (now (floors .entry))) n)) (presentPlace + blockLength) (cellBytes (at (now (ceilings .entry))) n) ⌝ }
 {
-    let mut count = 0;
-    let mut day = 0;
-    while day < n {
-        count = store_day(out, changed, count, day, floors[day], ceilings[day]);
-        day += 1;
+    let mut j = 0u32;
+    let end = n as u32;
+    while j < end {
+        let k = j as usize;
+        let floor = floors[k];
+        let ceiling = ceilings[k];
+        let low = PRESENT_AT + k * CELL_BYTES;
+        let high = PRESENT_AT + BLOCK_BYTES + k * CELL_BYTES;
+        let before = less(level(out, high), level(out, low));
+        let after = less(ceiling, floor);
+        losses[k] = less(before, after);
+        put_u16(out, low, floor);
+        put_u16(out, high, ceiling);
+        j += 1;
     }
-    count
 }
 
-// Stores the present ranges that a cut leaves, and lists the days whose bytes that changes; gives their number.
+// Stores the present ranges that a cut leaves, and lists the days that lost points, the largest loss first; gives how many they are. The ranges are gone
+// afterwards: their arrays take the chains.
 pub fn store_cut(
-    floors: &[u16; MOST_DAYS],
-    ceilings: &[u16; MOST_DAYS],
+    losses: &mut [u16; MOST_DAYS],
+    floors: &mut [u16; MOST_DAYS],
+    ceilings: &mut [u16; MOST_DAYS],
     numbers: CodedNumbers,
     out: &mut [u8],
     changed: &mut [u8],
 ) -> usize
-    requires { ⌜ (numbers .days ≤ mostDays) × (numbers .lowest ≤ highestTotalCode) × (numbers .highest ≤ highestTotalCode) × (length (now out) ≡ sessionBytes) × (numbers .days * cellLength ≤ length (now changed)) ⌝ }
-    ensures { λ r. ⌜ r ≡ length (changedIn (now (out .entry)) (now (floors .entry)) (now (ceilings .entry)) (numbers .days)) ⌝ }
-    ensures { λ r. ⌜ now (changed .exit) ≡ inFront (dayCells (changedIn (now (out .entry)) (now (floors .entry)) (now (ceilings .entry)) (numbers .days))) (now (changed .entry)) ⌝ }
+    requires { ⌜ (length (now losses) ≡ mostDays) × (length (now floors) ≡ mostDays) × (length (now ceilings) ≡ mostDays) ⌝ }
+    requires { ⌜ (numbers .lowest ≤ highestTotalCode) × (numbers .highest ≤ highestTotalCode) × (length (now out) ≡ sessionBytes) × (numbers .days ≡ decoding (now out) .days) × (numbers .days * cellLength ≤ length (now changed)) ⌝ }
+    ensures { λ r. ⌜ r ≡ length (settledLosers (lost (decoding (now (out .entry)) .present .floors) (decoding (now (out .entry)) .present .ceilings) (now (floors .entry)) (now (ceilings .entry))) (numbers .days)) ⌝ }
+    ensures { λ r. ⌜ now (changed .exit) ≡ inFront (dayCells (settledLosers (lost (decoding (now (out .entry)) .present .floors) (decoding (now (out .entry)) .present .ceilings) (now (floors .entry)) (now (ceilings .entry))) (numbers .days))) (now (changed .entry)) ⌝ }
     ensures { λ r. ⌜ now (out .exit) ≡ patched (now (out .entry)) (numbers .days) false (record { floors = now (floors .entry); ceilings = now (ceilings .entry); lowest = numbers .lowest; highest = numbers .highest }) ⌝ }
 {
     let n = numbers.days;
@@ -185,7 +172,8 @@ pub fn store_cut(
     let highest = numbers.highest;
     put_u16(out, MARK_AT, mark(false));
     put_totals(lowest, highest, PRESENT_TOTALS_AT, out);
-    store_days(floors, ceilings, n, out, changed)
+    store_days(floors, ceilings, n, out, losses);
+    session_order::list_losers(losses, n, floors, ceilings, changed)
 }
 
 // Stores n levels from one place at a place behind them.

@@ -1,9 +1,10 @@
-// What opening, a cut, writing a schedule and inspecting one answer at the bounds of an entry, and for profiles with filling days: the documents' examples that
-// are run and not proved.
+// What opening, a cut, writing a schedule and inspecting one answer at the bounds of an entry, for profiles with filling days, and the order of changed days: the
+// documents' examples that are run and not proved.
 mod cut_refusals;
 mod filling_days;
 mod refusals;
 mod schedule_refusals;
+mod settled_order;
 
 use session::Numbers;
 use session::Opened;
@@ -31,6 +32,7 @@ fn main() {
     refusals::print();
     filling_days::print_profiles();
     cut_refusals::print();
+    settled_order::print();
     schedule_refusals::print();
     filling_days::print_schedules();
 }

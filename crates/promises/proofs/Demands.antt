@@ -8,7 +8,7 @@ use native.Mathlib.Omega.{arith}
 use lib.IntN.{ℤ}
 use lib.Dec.{eqb, ltb}
 use lib.ListN.{length, replicate, length-replicate}
-use borrow.Author.Tests.{ne-eqb, eqb-false, ltb-false}
+use borrow.Author.Tests.{eq-eqb, ne-eqb, eqb-false, ltb-false}
 use mir.Syntax.{w16}
 use mir.Val.{SFits}
 use Rattle.theory_lists.specs.Sum.{at}
@@ -24,6 +24,9 @@ use Rattle.session.proofs.Shows.{both-long}
 use Rattle.session_cuts.specs.declared.Cut.{Cut}
 use Rattle.session_cuts.specs.declared.Numbered.{Numbered}
 use Rattle.session_cuts.specs.declared.Numbered.the-variants.{Known}
+use Rattle.session_order.specs.Order.{dayCells}
+use Rattle.session_order.proofs.Listing.{days-length}
+use Rattle.session_changed.proofs.Laws.{cell-read}
 use Rattle.session_cutting.specs.Cutting.{spend, changedDays, earlyNumbered, afterNumbered, listAfter}
 use Rattle.session_cutting.specs.declared.AfterCut.{AfterCut}
 use Rattle.session_cutting.proofs.Laws.{Accepted, accepted-list, numbered-accepted}
@@ -36,40 +39,37 @@ use Rattle.promises.proofs.LooserCuts.{looser-cuts}
 use Rattle.promises.proofs.NoneAtCut.{none-at-cut}
 use Rattle.promises.proofs.Reached.{after-reached}
 use Rattle.base_little_endian.specs.Fields.{u16At}
-use Rattle.c_lists.specs.Lists.{cellBytes}
 use Rattle.c_lists.specs.Profiles.{haveLengths, byteCountsRefusal, byteLengthRefusal, profileOf}
 use Rattle.c_lists.proofs.Laws.{points-left}
 use Rattle.c_layout.specs.Layout.{encoding, decoding}
-use Rattle.c_layout.proofs.Lengths.{cells-length}
-use Rattle.c_sessions.specs.Sessions.{isSession, openRefusal, bytesOpened, answerFor, bytesFor, listFor, cutAnswer, bytesCut, changedBytes, shownOver}
-use Rattle.c_sessions.proofs.Encoded.{answer-encoded, list-encoded}
+use Rattle.c_sessions.specs.Sessions.{isSession, openRefusal, bytesOpened, bytesFor, listFor, cutAnswer, bytesCut, changedBytes, shownOver}
 use Rattle.promises.specs.InBytes.{ByteCutCall, byValue, CameFrom}
 use Rattle.promises.specs.DemandsInBytes.{BytesLeft, Changed, Unchanged, AfterBytes, readRanges, Read, Reading, NoneAtOpening, NoneAtCutOver, DemandsInBytes}
 use Rattle.promises.proofs.Bytes.{Came, came, cut-held}
-use Rattle.promises.proofs.Points.{point-fits, lent-point, lent-rest, cell-read}
+use Rattle.promises.proofs.Points.{point-fits, lent-point, lent-rest}
 
 -- ---- demand 1
 
 cut-leaves-list : (b : List ℕ) (t : Numbered) (l : List ℕ) → (cutAnswer b t (length l) .refusal ≡ 0 → ⊥) → changedBytes b t l ≡ l
-unfolding cutAnswer changedBytes answerFor listFor
+unfolding cutAnswer changedBytes listFor
 cut-leaves-list b t l = go (isSession b)
   where
     a : AfterCut
     a = afterNumbered (decoding b) t (length l / 2)
 
-    go : (x : Bool) → (cond x (answerFor b a) (record { refusal = 2; changed = 0 }) .refusal ≡ 0 → ⊥) → cond x (listFor b a l) l ≡ l
+    go : (x : Bool) → (cond x (a .answer) (record { refusal = 2; changed = 0 }) .refusal ≡ 0 → ⊥) → cond x (listFor b a l) l ≡ l
     go true h = rw (ne-eqb (a .answer .refusal) 0 h) refl
     go false h = refl
 
 cut-leaves-bytes : (b : List ℕ) (t : Numbered) (list : ℕ) → (cutAnswer b t list .refusal ≡ 0 → ⊥) → (cutAnswer b t list .refusal ≡ 8 → ⊥) → bytesCut b t list ≡ b
-unfolding cutAnswer bytesCut answerFor bytesFor
+unfolding cutAnswer bytesCut bytesFor
 cut-leaves-bytes b t list = go (isSession b)
   where
     a : AfterCut
     a = afterNumbered (decoding b) t (list / 2)
 
-    go : (x : Bool) → (cond x (answerFor b a) (record { refusal = 2; changed = 0 }) .refusal ≡ 0 → ⊥)
-        → (cond x (answerFor b a) (record { refusal = 2; changed = 0 }) .refusal ≡ 8 → ⊥) → cond x (bytesFor b a) b ≡ b
+    go : (x : Bool) → (cond x (a .answer) (record { refusal = 2; changed = 0 }) .refusal ≡ 0 → ⊥)
+        → (cond x (a .answer) (record { refusal = 2; changed = 0 }) .refusal ≡ 8 → ⊥) → cond x (bytesFor b a) b ≡ b
     go true h k = rw (ne-eqb (a .answer .refusal) 0 h, ne-eqb (a .answer .refusal) 8 k) refl
     go false h k = refl
 
@@ -162,7 +162,7 @@ module _ (p : Profile) (hs : List ByteCutCall) (b : List ℕ) (c : CameFrom p hs
       rw (spent-as u, o) (record { each = x .each; sum = x .sum })
 
   none-at-cut-over : (h : ByteCutCall) → NoneAtCutOver p hs b h
-  unfolding cutAnswer answerFor
+  unfolding cutAnswer
   none-at-cut-over h =
       subst (λ gs. (cutAnswer b (h .cut) (h .bytes) .refusal ≡ 8) ↔ (earlyNumbered (decoding b) (h .cut) (h .bytes / 2) ≡ 0) × ((x : List ℤ) → Kept p gs x → ⊥)) (sym (by-value-more hs h))
       (rw (w .sized) (none-at-cut p (w .opens) (byValue hs) (decoding b) (w .held) (record { cut = h .cut; room = h .bytes / 2 })))
@@ -210,7 +210,8 @@ module _ (p : Profile) (hs : List ByteCutCall) (b : List ℕ) (c : CameFrom p hs
     r = afterNumbered (decoding b) t (length l / 2)
 
     answers : cutAnswer b t (length l) ≡ r .answer
-    answers = ap (λ x. cutAnswer x t (length l)) (w .back) ∙ answer-encoded (decoding b) (w .storable) t (length l)
+    unfolding cutAnswer
+    answers = rw (w .sized) refl
 
     abbrev listed : List ℕ
     listed = changedDays (decoding b .days) (decoding b .present) (r .session .present)
@@ -219,11 +220,12 @@ module _ (p : Profile) (hs : List ByteCutCall) (b : List ℕ) (c : CameFrom p hs
       accepted : Accepted (decoding b) (length l / 2) r
       accepted = numbered-accepted (decoding b) t (length l / 2) z
 
-      front : changedBytes b t l ≡ inFront (cellBytes (at listed) (length listed)) l
-      front = ap (λ x. changedBytes x t l) (w .back) ∙ list-encoded (decoding b) (w .storable) t l z
+      front : changedBytes b t l ≡ inFront (dayCells listed) l
+      unfolding changedBytes listFor
+      front = rw (w .sized, eq-eqb (r .answer .refusal) 0 z) refl
 
-      wide : length (cellBytes (at listed) (length listed)) ≡ r .answer .changed * 2
-      wide = cells-length (at listed) (length listed) ∙ ap (λ m. m * 2) (sym (accepted .counted))
+      wide : length (dayCells listed) ≡ r .answer .changed * 2
+      wide = days-length listed ∙ ap (λ m. m * 2) (sym (accepted .counted))
 
       -- a list of as many days
       abbrev blank : List ℕ
@@ -232,7 +234,7 @@ module _ (p : Profile) (hs : List ByteCutCall) (b : List ℕ) (c : CameFrom p hs
       same : (i : ℕ) → i < r .answer .changed → u16At (changedBytes b t l) (i * 2) ≡ at (listAfter (decoding b) r blank) i
       same i h =
           let k : i < length listed = rw (← accepted .counted) h in
-          rw (front, accepted-list (decoding b) r blank z) (cell-read (at listed) (length listed) l i k ∙ sym (front-at listed blank i 0 k))
+          rw (front, accepted-list (decoding b) r blank z) (cell-read listed l i k ∙ sym (front-at listed blank i 0 k))
 
       by-value : Changes (decoding b) blank r
       by-value = rw (length-replicate {A = ℕ} (length l / 2) 0) at (demand-1 .accepted (decoding b) t blank) z
@@ -246,15 +248,16 @@ module _ (p : Profile) (hs : List ByteCutCall) (b : List ℕ) (c : CameFrom p hs
               λ v. let d = by-value .listed k .1 v in (d .0, d .1, same (d .0) (d .1) ∙ d .2),
             );
             once = λ i j h. rw answers (λ m e. by-value .once i j h m (sym (same i (omega arith)) ∙ e ∙ same j m));
-            rest = λ i. rw (answers, front) (λ h. front-past (cellBytes (at listed) (length listed)) l i 0 (omega (arith, wide)));
-            long = rw front (front-length (cellBytes (at listed) (length listed)) l (omega (arith, wide, accepted .few, accepted .roomy)));
+            order = λ i j h. rw (answers, held) (λ m. rw (same i (omega arith), same j m) (by-value .order (w .storable .bounds) i j h m));
+            rest = λ i. rw (answers, front) (λ h. front-past (dayCells listed) l i 0 (omega (arith, wide)));
+            long = rw front (front-length (dayCells listed) l (omega (arith, wide, accepted .few, accepted .roomy)));
           }
 
   changed-over : (t : Numbered) (l : List ℕ) → cutAnswer b t (length l) .refusal ≡ 0 → Changed b t l
   changed-over t l z = changed t l (rw (answers t l) at z)
 
   looser : decoding b .spent ≡ false → (e : Cut) → WellFormed p e → Looser (decoding b) e → (l : List ℕ) → p .days ≤ length l / 2 → Unchanged b (Known e) l
-  unfolding afterNumbered cellBytes inFront rows
+  unfolding afterNumbered dayCells inFront rows
   looser u e f k l room =
       let by-value = looser-cuts p (w .opens) (byValue hs) (decoding b) (w .held) u e f k (length l / 2) room in
       let z : r (Known e) l .answer .refusal ≡ 0 = ap (λ (a : AfterCut). a .answer .refusal) by-value in

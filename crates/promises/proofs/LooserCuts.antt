@@ -9,7 +9,10 @@ use lib.Dec.{eqb}
 use lib.ListN.{length}
 use borrow.Author.Tests.{le-ltb, eq-eqb}
 use Rattle.theory_lists.specs.Sum.{at}
-use Rattle.session_changed.proofs.Days.{days-none}
+use Rattle.session_changed.specs.Changes.{differs, lost}
+use Rattle.session_order.specs.Order.{daysWhere}
+use Rattle.session_order.proofs.Days.{days-none}
+use Rattle.session_order.proofs.Settled.{settled-length}
 use Rattle.base_codes.proofs.Order.{≤ℤ-trans}
 use Rattle.session.specs.Profile.{Profile}
 use Rattle.session.specs.Opening.{opened, rangesOf}
@@ -53,7 +56,9 @@ module _ (p : Profile) (hs : List CutCall) (c : Cut) (room : ℕ) where
 -- ---- the answer
 
 no-changes : (n : ℕ) (r : Ranges) → length (changedDays n r r) ≡ 0
-no-changes n r = days-none _ (λ k. rw (eq-eqb (at (r .floors) k) (at (r .floors) k) refl, eq-eqb (at (r .ceilings) k) (at (r .ceilings) k) refl) refl) n
+no-changes n r =
+    settled-length (lost (r .floors) (r .ceilings) (r .floors) (r .ceilings)) (daysWhere (differs (r .floors) (r .ceilings) (r .floors) (r .ceilings)) n)
+    ∙ days-none _ (λ k. rw (eq-eqb (at (r .floors) k) (at (r .floors) k) refl, eq-eqb (at (r .ceilings) k) (at (r .ceilings) k) refl) refl) n
 
 unchanged : (s : Session) (c : Cut) (room : ℕ) → eqb (earlyCutting s c room) 0 ≡ true → s .spent ≡ false → afterCut s c room .session ≡ s
     → afterCut s c room ≡ record { answer = record { refusal = 0; changed = 0 }; session = s }

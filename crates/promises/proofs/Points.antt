@@ -1,4 +1,4 @@
--- What stands in byte lists that points, or days, were stored into.
+-- What stands in byte lists that points were stored into.
 use mathlib.Core.Path.{_≡_, refl}
 use mathlib.Core.Bool.{Bool, true, false}
 use mathlib.Core.List.{List, _++_}
@@ -14,23 +14,19 @@ use Rattle.limits.specs.Limits.{lowestPoint}
 use Rattle.theory_lists.specs.Sum.{at}
 use Rattle.theory_lists.specs.Front.{inFront, front-past}
 use Rattle.theory_lists.specs.ListOf.{listOf, listOf-same}
-use Rattle.theory_lists.specs.Part.{Part, part-left, part-row, part-all}
+use Rattle.theory_lists.specs.Part.{Part, part-row, part-front}
 use Rattle.theory_lists.specs.Rows.{length-rows}
 use Rattle.base_codes.specs.Code.{decoded}
 use Rattle.base_codes.proofs.Casts.{less-fits}
 use Rattle.base_codes.proofs.Laws.{point-less, decoded-less}
-use Rattle.base_little_endian.specs.Fields.{u16At, u16Bytes, i16Bytes}
-use Rattle.base_little_endian.proofs.Laws.{u16-length, i16-length, u16-read, i16-read}
-use Rattle.c_lists.specs.Lists.{pointAt, pointsIn, pointBytes, cellBytes, lentPoints}
+use Rattle.base_little_endian.specs.Fields.{i16Bytes}
+use Rattle.base_little_endian.proofs.Laws.{i16-length, i16-read}
+use Rattle.c_lists.specs.Lists.{pointAt, pointsIn, pointBytes, lentPoints}
 use Rattle.c_lists.proofs.Laws.{points-left, points-filled}
 
 -- the point of a level fits 16 bits
 pub point-fits : (n : ℕ) → n ≤ 5000 → SFits w16 (decoded lowestPoint n)
 point-fits n h = less-fits w16 (decoded lowestPoint n) n 1000 (decoded-less lowestPoint n 1000 point-less) (omega arith) (omega arith)
-
-front-part : (xs l : List ℕ) → Part (inFront xs l) 0 xs
-unfolding inFront
-front-part xs l = part-left xs (drop (length xs) l) refl (part-all (xs ++ drop (length xs) l))
 
 pub points-long : (f : ℕ → ℤ) (n : ℕ) → length (pointBytes f n) ≡ n * 2
 unfolding pointBytes
@@ -51,7 +47,7 @@ module _ {l : List ℕ} (f : ℕ → ℤ) (n : ℕ) (fits : (k : ℕ) → k < n 
 -- a lent list
 module _ (refusal : ℕ) (f : ℕ → ℤ) (n : ℕ) (l : List ℕ) where
   filled-part : refusal ≡ 0 → Part (lentPoints refusal f n l) 0 (pointBytes f n)
-  filled-part z = rw (points-filled refusal f n l z) (front-part (pointBytes f n) l)
+  filled-part z = rw (points-filled refusal f n l z) (part-front (pointBytes f n) l)
 
   pub lent-point : refusal ≡ 0 → ((k : ℕ) → k < n → SFits w16 (f k)) → (k : ℕ) → k < n → pointAt (lentPoints refusal f n l) k ≡ f k
   lent-point z fits k h = point-read f n fits (filled-part z) k h
@@ -65,11 +61,3 @@ module _ (refusal : ℕ) (f : ℕ → ℤ) (n : ℕ) (l : List ℕ) where
       go : (b : Bool) → eqb refusal 0 ≡ b → at (lentPoints refusal f n l) i ≡ at l i
       go true e = rw (points-filled refusal f n l (eqb-true refusal 0 e)) (front-past (pointBytes f n) l i 0 (omega (arith, points-long f n)))
       go false e = rw (points-left refusal f n l (eqb-false refusal 0 e)) refl
-
--- days at the front of a list
-pub cell-read : (f : ℕ → ℕ) (n : ℕ) (l : List ℕ) (k : ℕ) → k < n → u16At (inFront (cellBytes f n) l) (k * 2) ≡ f k
-unfolding cellBytes
-cell-read f n l k h =
-    let z : 0 + k * 2 ≡ k * 2 = omega arith in
-    let row : ℕ → List ℕ = λ j. u16Bytes (f j) in
-    u16-read (f k) (rw z at (part-row row 2 n (λ j u. u16-length (f j)) (front-part (cellBytes f n) l) k h))

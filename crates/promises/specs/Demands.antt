@@ -1,11 +1,12 @@
 -- The demands, as statements.
 use mathlib.Core.Path.{_≡_}
 use mathlib.Core.Bool.{true, false}
-use mathlib.Core.Logic.{_↔_}
+use mathlib.Core.Logic.{_↔_, _⊎_}
 use mathlib.Core.List.{List, [], _∷_, _++_}
 use Prim.Native.Nat.{ℕ, _≤_, _<_}
-use lib.IntN.{ℤ}
+use lib.IntN.{ℤ, _-ℤ_}
 use lib.ListN.{length}
+use lib.Signed.{_<ℤ_}
 use Rattle.theory_lists.specs.Sum.{at}
 use Rattle.base_codes.specs.Code.{on}
 use Rattle.session.specs.Profile.{Profile, Schedule, Spans, sumOf, total}
@@ -27,11 +28,24 @@ pub record Leaves (s : Session) (l : List ℕ) (r : AfterCut) : Type 0 where
   pub session : (r .answer .refusal ≡ 0 → ⊥) → (r .answer .refusal ≡ 8 → ⊥) → r .session ≡ s
   pub eight : (r .answer .refusal ≡ 8) ↔ (s .spent ≡ false) × (r .session .spent ≡ true)
 
+-- the points between the floor and the ceiling that a session shows for day k, and those that its range lost from session s to session u (request Two)
+abbrev pub widthOn : Session → ℕ → ℤ
+widthOn s k = ceilingOn s k -ℤ floorOn s k
+
+abbrev pub lostOn : Session → Session → ℕ → ℤ
+lostOn s u k = widthOn s k -ℤ widthOn u k
+
+-- day j comes before day k: it lost more, or the same and is the lower
+abbrev pub Before : Session → Session → ℕ → ℕ → Type 0
+Before s u j k = (lostOn s u k <ℤ lostOn s u j) ⊎ ((lostOn s u j ≡ lostOn s u k) × (j < k))
+
 -- what an accepted cut answers: the first places of the list, as many as days changed, hold exactly the days whose shown range is another than
--- before, each one time; the rest of the list is as before, and so is its length
+-- before, each one time, and where the session's numbers are in bounds (SessionsInBounds, below) the largest loss first and equal losses by day; the rest of
+-- the list is as before, and so is its length
 pub record Changes (s : Session) (l : List ℕ) (r : AfterCut) : Type 0 where
   pub listed : (k : ℕ) → ((i : ℕ) × (i < r .answer .changed) × (at (listAfter s r l) i ≡ k)) ↔ (k < s .days) × ((floorOn s k ≡ floorOn (r .session) k) × (ceilingOn s k ≡ ceilingOn (r .session) k) → ⊥)
   pub once : (i j : ℕ) → i < j → j < r .answer .changed → at (listAfter s r l) i ≡ at (listAfter s r l) j → ⊥
+  pub order : SessionInBounds s → (i j : ℕ) → i < j → j < r .answer .changed → Before s (r .session) (at (listAfter s r l) i) (at (listAfter s r l) j)
   pub rest : (i : ℕ) → r .answer .changed ≤ i → at (listAfter s r l) i ≡ at l i
   pub long : length (listAfter s r l) ≡ length l
 

@@ -18,7 +18,7 @@ use Rattle.session_cuts.specs.declared.Numbered.{Numbered}
 use Rattle.session_cuts.specs.declared.Numbered.the-variants.{Known}
 use Rattle.session_cutting.specs.Cutting.{spend, earlyNumbered}
 use Rattle.promises.specs.Cuts.{WellFormed, Looser, ValidIn, Kept}
-use Rattle.promises.specs.Demands.{Exact}
+use Rattle.promises.specs.Demands.{Before, Exact}
 use Rattle.base_little_endian.specs.Fields.{u16At}
 use Rattle.c_lists.specs.Lists.{pointAt, lentPoints}
 use Rattle.c_lists.specs.Profiles.{ByteProfile, byteLengthRefusal, profileOf}
@@ -48,12 +48,14 @@ pub record BytesLeft : Type 0 where
   pub reading : (b fs cs : List ℕ) → (readRanges b fs cs .refusal ≡ 0 → ⊥) → (floorsRead b fs cs ≡ fs) × (ceilingsRead b fs cs ≡ cs)
 
 -- what an accepted cut answers: the first places of the list, as many as days changed, hold exactly the days whose shown range is another than
--- before, each one time; the rest of the list's bytes are as before
+-- before, each one time, the largest loss first and equal losses by day; the rest of the list's bytes are as before
 pub record Changed (b : List ℕ) (t : Numbered) (l : List ℕ) : Type 0 where
   pub listed : (k : ℕ)
       → ((i : ℕ) × (i < cutAnswer b t (length l) .changed) × (u16At (changedBytes b t l) (i * 2) ≡ k))
       ↔ (k < decoding b .days) × ((floorOn (decoding b) k ≡ floorOn (decoding (bytesCut b t (length l))) k) × (ceilingOn (decoding b) k ≡ ceilingOn (decoding (bytesCut b t (length l))) k) → ⊥)
   pub once : (i j : ℕ) → i < j → j < cutAnswer b t (length l) .changed → u16At (changedBytes b t l) (i * 2) ≡ u16At (changedBytes b t l) (j * 2) → ⊥
+  pub order : (i j : ℕ) → i < j → j < cutAnswer b t (length l) .changed
+      → Before (decoding b) (decoding (bytesCut b t (length l))) (u16At (changedBytes b t l) (i * 2)) (u16At (changedBytes b t l) (j * 2))
   pub rest : (i : ℕ) → cutAnswer b t (length l) .changed * 2 ≤ i → at (changedBytes b t l) i ≡ at l i
   pub long : length (changedBytes b t l) ≡ length l
 

@@ -14,7 +14,7 @@ use Rattle.theory_method.specs.Filter.{tightened, tightCeilings, tightFloors, r
 use Rattle.base_little_endian.specs.Fields.{u16At, u32At, i16At, i32At}
 use Rattle.session.specs.Opening.{opened, earlyOpening}
 use Rattle.session_cuts.specs.Numbered.{numbered}
-use Rattle.session_changed.specs.Changes.{daysWhere}
+use Rattle.session_order.specs.Order.{daysWhere}
 use Rattle.session_cutting.specs.Cutting.{afterCut, earlyCutting, clipped}
 use Rattle.file_format.specs.Example.{doc01}
 use Rattle.file_format.specs.Format.{profileIn, cutsIn}

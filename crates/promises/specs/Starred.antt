@@ -1,15 +1,16 @@
--- Document 01's starred profiles, worked by hand there, as one table; and two of request One.
+-- Document 01's starred profiles, worked by hand there, as one table; with profiles of request One, and cuts of request Two.
 use mathlib.Core.Path.{_≡_, refl}
 use mathlib.Core.Bool.{Bool, cond}
 use mathlib.Core.List.{List, [], _∷_, _++_, map}
 use Prim.Native.Nat.{ℕ, zero, suc, _+_, _-_, min}
 use lib.IntN.{ℤ, pos, negsuc}
 use lib.Dec.{eqb, ltb}
-use lib.ListN.{length}
+use lib.ListN.{length, take, replicate}
 use Rattle.limits.specs.Limits.{lowestPoint, lowestRise, lowestTotal}
 use Rattle.theory_lists.specs.Sum.{sumFor, at}
 use Rattle.theory_lists.specs.Written.{written}
 use Rattle.theory_lists.specs.First.{firstWhere}
+use Rattle.theory_lists.specs.Front.{inFront}
 use Rattle.base_codes.specs.Code.{code}
 use Rattle.theory_chains.specs.Fit.{fitFrom}
 use Rattle.theory_method.specs.Counted.{counted}
@@ -23,9 +24,9 @@ use Rattle.session.specs.declared.Numbers.{Numbers}
 use Rattle.session.specs.declared.Session.{Session}
 use Rattle.session.specs.declared.Opened.{Opened}
 use Rattle.session_cuts.specs.declared.Cut.{Cut}
-use Rattle.session_cuts.specs.declared.Cut.the-variants.{DayFloor, TotalCeiling}
-use Rattle.session_changed.specs.Changes.{daysWhere}
-use Rattle.session_cutting.specs.Cutting.{afterCut, earlyCutting, clipped}
+use Rattle.session_cuts.specs.declared.Cut.the-variants.{DayFloor, DayCeiling, TotalCeiling}
+use Rattle.session_order.specs.Order.{daysWhere, insertDay, settledOrder}
+use Rattle.session_cutting.specs.Cutting.{afterCut, earlyCutting, clipped, listAfter}
 use Rattle.session_cutting.specs.declared.AfterCut.{AfterCut}
 
 -- from .. to
@@ -37,13 +38,13 @@ infix 70 _⋯_
 abbrev pub _⋯_ : ℕ → ℕ → Range
 a ⋯ b = record { from = pos a; to = pos b }
 
--- what is answered: a refusal's number, and whether the session is spent; or the total's range and each day's, after a cut with the number
--- of changed days; or how many rounds a day's ceiling takes at opening
+-- what is answered: a refusal's number, and whether the session is spent; or the total's range and each day's, after a cut with the days that
+-- changed, as they are listed; or how many rounds a day's ceiling takes at opening
 pub data Answer : Type 0 where
   refused : ℕ → Answer
   spent : ℕ → Answer
   ranges : Range → List Range → Answer
-  changed : ℕ → Range → List Range → Answer
+  changed : List ℕ → Range → List Range → Answer
   takes : ℕ → ℕ → Answer
 
 abbrev totals : Session → Range
@@ -56,15 +57,19 @@ days s i (suc m) = record { from = floorOn s i; to = ceilingOn s i } ∷ days s 
 abbrev pub opening : Opened → Answer
 opening o = cond (eqb (o .refusal) 0) (ranges (totals (o .session)) (days (o .session) 0 (o .session .days))) (refused (o .refusal))
 
-abbrev pub cutting : AfterCut → Answer
-cutting r =
-    cond (eqb (r .answer .refusal) 0) (changed (r .answer .changed) (totals (r .session)) (days (r .session) 0 (r .session .days)))
+-- the days that a cut puts into a list of n places, as many as it says
+abbrev listed : Session → AfterCut → List ℕ
+listed s r = take (r .answer .changed) (listAfter s r (replicate (s .days) 0))
+
+abbrev pub cutting : Session → AfterCut → Answer
+cutting s r =
+    cond (eqb (r .answer .refusal) 0) (changed (listed s r) (totals (r .session)) (days (r .session) 0 (r .session .days)))
     (cond (r .session .spent) (spent (r .answer .refusal)) (refused (r .answer .refusal)))
 
 -- the answers of cuts, one after another, each with a list for changed days of n places
 abbrev pub answers : Session → List Cut → List Answer
 answers s [] = []
-answers s (c ∷ cs) = let r : AfterCut = afterCut s c (s .days) in cutting r ∷ answers (r .session) cs
+answers s (c ∷ cs) = let r : AfterCut = afterCut s c (s .days) in cutting s r ∷ answers (r .session) cs
 
 -- a profile by its first counted day, its days' ranges, its rises and its total's range; document 01's count from day 0 on
 abbrev pub profileFrom : ℕ → List Range → List ℤ → Range → Profile
@@ -115,6 +120,13 @@ A-ranges = ranges (10 ⋯ 12) (2 ⋯ 4 ∷ 4 ⋯ 5 ∷ 4 ⋯ 6 ∷ [])
 abbrev flat : List ℤ
 flat = pos 0 ∷ []
 
+-- a cut of four days 0..9
+abbrev four : List Range
+four = 0 ⋯ 9 ∷ 0 ⋯ 9 ∷ 0 ⋯ 9 ∷ 0 ⋯ 9 ∷ []
+
+abbrev cutsFour : Cut → Answer → Row
+cutsFour c a = record { given = starredProfile four (pos 0 ∷ pos 0 ∷ pos 0 ∷ []) (0 ⋯ 36); cuts = c ∷ []; asked = []; gives = ranges (0 ⋯ 36) four ∷ a ∷ [] }
+
 abbrev pub table : List Row
 table =
     -- A
@@ -124,21 +136,21 @@ table =
       given = A;
       cuts = DayFloor 0 (pos 3) ∷ TotalCeiling 0 (pos 11) ∷ [];
       asked = [];
-      gives = A-ranges ∷ changed 3 (11 ⋯ 12) (3 ⋯ 4 ∷ 4 ⋯ 4 ∷ 4 ⋯ 5 ∷ []) ∷ changed 2 (11 ⋯ 11) (3 ⋯ 3 ∷ 4 ⋯ 4 ∷ 4 ⋯ 4 ∷ []) ∷ [];
+      gives = A-ranges ∷ changed (0 ∷ 1 ∷ 2 ∷ []) (11 ⋯ 12) (3 ⋯ 4 ∷ 4 ⋯ 4 ∷ 4 ⋯ 5 ∷ []) ∷ changed (0 ∷ 2 ∷ []) (11 ⋯ 11) (3 ⋯ 3 ∷ 4 ⋯ 4 ∷ 4 ⋯ 4 ∷ []) ∷ [];
     }
     -- C: the cuts of B in the other order end the same (what the first of them gives, here and in D, document 01 leaves out)
     ∷ record {
       given = A;
       cuts = TotalCeiling 0 (pos 11) ∷ DayFloor 0 (pos 3) ∷ [];
       asked = [];
-      gives = A-ranges ∷ changed 3 (10 ⋯ 11) (2 ⋯ 3 ∷ 4 ⋯ 4 ∷ 4 ⋯ 5 ∷ []) ∷ changed 2 (11 ⋯ 11) (3 ⋯ 3 ∷ 4 ⋯ 4 ∷ 4 ⋯ 4 ∷ []) ∷ [];
+      gives = A-ranges ∷ changed (0 ∷ 1 ∷ 2 ∷ []) (10 ⋯ 11) (2 ⋯ 3 ∷ 4 ⋯ 4 ∷ 4 ⋯ 5 ∷ []) ∷ changed (0 ∷ 2 ∷ []) (11 ⋯ 11) (3 ⋯ 3 ∷ 4 ⋯ 4 ∷ 4 ⋯ 4 ∷ []) ∷ [];
     }
     -- D
     ∷ record {
       given = A;
       cuts = TotalCeiling 0 (pos 11) ∷ DayFloor 0 (pos 4) ∷ [];
       asked = [];
-      gives = A-ranges ∷ changed 3 (10 ⋯ 11) (2 ⋯ 3 ∷ 4 ⋯ 4 ∷ 4 ⋯ 5 ∷ []) ∷ spent 8 ∷ [];
+      gives = A-ranges ∷ changed (0 ∷ 1 ∷ 2 ∷ []) (10 ⋯ 11) (2 ⋯ 3 ∷ 4 ⋯ 4 ∷ 4 ⋯ 5 ∷ []) ∷ spent 8 ∷ [];
     }
     -- E
     ∷ opens (starredProfile (2 ⋯ 6 ∷ 4 ⋯ 7 ∷ 4 ⋯ 7 ∷ 5 ⋯ 7 ∷ 6 ⋯ 9 ∷ 7 ⋯ 9 ∷ []) (pos 0 ∷ pos 0 ∷ pos 0 ∷ pos 0 ∷ pos 0 ∷ []) (28 ⋯ 29))
@@ -165,6 +177,22 @@ table =
     ∷ opens (profileFrom 2 (5 ⋯ 9 ∷ 0 ⋯ 4 ∷ []) flat (0 ⋯ 20)) (refused 13)
     ∷ opens (profileFrom 1 (5 ⋯ 9 ∷ 0 ⋯ 4 ∷ []) flat (0 ⋯ 20)) (refused 8)
     ∷ opens (profileFrom 3 (2 ⋯ 6 ∷ 4 ⋯ 7 ∷ 4 ⋯ 7 ∷ []) (pos 0 ∷ pos 0 ∷ []) (12 ⋯ 10)) (refused 6)
+    -- of request Two: losses 2, 1, 2; 7, 6, 4, 0; 0, 5, 1; 6, 6, 6, 0; 0, 5, 5, 5
+    ∷ record {
+      given = A;
+      cuts = DayFloor 0 (pos 4) ∷ [];
+      asked = [];
+      gives = A-ranges ∷ changed (0 ∷ 2 ∷ 1 ∷ []) (12 ⋯ 12) (4 ⋯ 4 ∷ 4 ⋯ 4 ∷ 4 ⋯ 4 ∷ []) ∷ [];
+    }
+    ∷ cutsFour (TotalCeiling 0 (pos 10)) (changed (0 ∷ 1 ∷ 2 ∷ []) (0 ⋯ 10) (0 ⋯ 2 ∷ 0 ⋯ 3 ∷ 0 ⋯ 5 ∷ 0 ⋯ 9 ∷ []))
+    ∷ record {
+      given = starredProfile (0 ⋯ 4 ∷ 0 ⋯ 10 ∷ 0 ⋯ 6 ∷ []) (negsuc 9 ∷ negsuc 9 ∷ []) (0 ⋯ 20);
+      cuts = TotalCeiling 0 (pos 5) ∷ [];
+      asked = [];
+      gives = ranges (0 ⋯ 20) (0 ⋯ 4 ∷ 0 ⋯ 10 ∷ 0 ⋯ 6 ∷ []) ∷ changed (1 ∷ 2 ∷ []) (0 ⋯ 5) (0 ⋯ 4 ∷ 0 ⋯ 5 ∷ 0 ⋯ 5 ∷ []) ∷ [];
+    }
+    ∷ cutsFour (DayCeiling 2 (pos 3)) (changed (0 ∷ 1 ∷ 2 ∷ []) (0 ⋯ 18) (0 ⋯ 3 ∷ 0 ⋯ 3 ∷ 0 ⋯ 3 ∷ 0 ⋯ 9 ∷ []))
+    ∷ cutsFour (DayFloor 1 (pos 5)) (changed (1 ∷ 2 ∷ 3 ∷ []) (15 ⋯ 36) (0 ⋯ 9 ∷ 5 ⋯ 9 ∷ 5 ⋯ 9 ∷ 5 ⋯ 9 ∷ []))
     ∷ []
 
 -- each row of the table gets the answers that it says
@@ -172,5 +200,5 @@ abbrev pub Starred : Type 0
 Starred = map (λ (r : Row). replies (r .given) (r .cuts) (r .asked)) table ≡ map (λ (r : Row). r .gives) table
 
 pub starred : Starred
-unfolding counted spare roundsFrom rounded below opened earlyOpening tightened tightCeilings tightFloors raised loweredFrom firstWhere carried written sumFor fitFrom shiftFrom afterCut earlyCutting clipped daysWhere
+unfolding counted spare roundsFrom rounded below opened earlyOpening tightened tightCeilings tightFloors raised loweredFrom firstWhere carried written sumFor fitFrom shiftFrom afterCut earlyCutting clipped listAfter inFront daysWhere settledOrder insertDay
 starred = refl

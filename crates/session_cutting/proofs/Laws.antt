@@ -13,9 +13,11 @@ use Rattle.theory_lists.specs.Sum.{at}
 use Rattle.theory_lists.specs.Written.{by-cell}
 use Rattle.base_codes.specs.Code.{within, code}
 use Rattle.base_codes.proofs.Laws.{point-most, total-most}
+use Rattle.theory_method.specs.Filter.{Tight}
 use Rattle.theory_method.specs.Levels.{refit}
-use Rattle.theory_method.proofs.Exact.{exact, exact-in-bounds}
-use Rattle.session.specs.Showing.{Fits, SessionInBounds}
+use Rattle.theory_method.proofs.Exact.{Exact, exact, floor-kept, ceiling-kept, exact-in-bounds}
+use Rattle.session.specs.Opening.{rangesOf}
+use Rattle.session.specs.Showing.{boxOf, Fits, SessionInBounds}
 use Rattle.session.specs.declared.Ranges.{Ranges}
 use Rattle.session.specs.declared.Session.{Session}
 use Rattle.session_cuts.specs.declared.Cut.{Cut}
@@ -24,7 +26,10 @@ use Rattle.session_cuts.specs.declared.Numbered.{Numbered}
 use Rattle.session_cuts.specs.declared.Numbered.the-variants.{Known, Unknown}
 use Rattle.session_cuts.specs.Sheet.{dayOf}
 use Rattle.theory_lists.specs.Front.{inFront}
-use Rattle.session_changed.proofs.Days.{days-few}
+use Rattle.session_order.specs.Order.{daysWhere}
+use Rattle.session_order.proofs.Days.{days-few}
+use Rattle.session_order.proofs.Settled.{settled-length}
+use Rattle.session_changed.specs.Changes.{differs, lost, Narrowed}
 use Rattle.session_cutting.specs.Cutting.{dayCutRefusal, totalCutRefusal, malformed, earlyCutting, clipped, retightened, tightenedTo, refusing, changedDays, afterCut, afterNumbered, listAfter}
 use Rattle.session_cutting.specs.declared.AfterCut.{AfterCut}
 
@@ -88,6 +93,15 @@ pub accepted-list : (s : Session) (r : AfterCut) (l : List ℕ) → r .answer .r
 unfolding listAfter
 accepted-list s r l z = rw (eq-eqb (r .answer .refusal) 0 z) refl
 
+-- no more days change than there are
+changed-few : (n : ℕ) (before after : Ranges) → length (changedDays n before after) ≤ n
+changed-few n before after =
+    omega (
+      arith,
+      settled-length (lost (before .floors) (before .ceilings) (after .floors) (after .ceilings)) (daysWhere (differs (before .floors) (before .ceilings) (after .floors) (after .ceilings)) n),
+      days-few (differs (before .floors) (before .ceilings) (after .floors) (after .ceilings)) n,
+    )
+
 -- an accepted cut had a list that is long enough, and its count is that of the changed days
 pub record Accepted (s : Session) (room : ℕ) (r : AfterCut) : Type 0 where
   pub roomy : s .days ≤ room
@@ -99,7 +113,7 @@ cut-accepted s c room = go (eqb (earlyCutting s c room) 0) (retightened s (clipp
   where
     go : (early found : Bool) → eqb (earlyCutting s c room) 0 ≡ early → retightened s (clipped (s .present) c) .found ≡ found
         → afterCut s c room .answer .refusal ≡ 0 → Accepted s room (afterCut s c room)
-    go true true e f z = rw (accepted s c room e, f) (record { roomy = ltb-false room (s .days) (passed s c room e .roomy); counted = refl; few = days-few _ (s .days) })
+    go true true e f z = rw (accepted s c room e, f) (record { roomy = ltb-false room (s .days) (passed s c room e .roomy); counted = refl; few = changed-few (s .days) (s .present) (rangesOf (retightened s (clipped (s .present) c))) })
     go true false e f z = absurd (omega (arith, rw (accepted s c room e, f) at z))
     go false found e f z = absurd (eqb-false (earlyCutting s c room) 0 e (rw (refused-same s c room e) at z))
 
@@ -127,6 +141,59 @@ clipped-in-bounds rs n first r (DayCeiling day value) b e =
 clipped-in-bounds rs n first r (TotalFloor day value) b e =
     refit b (b .floors) (b .ceilings) (b .floor) (b .ceiling) (omega (arith, b .lowest, total-most value (total-formed day value e .1))) (b .highest)
 clipped-in-bounds rs n first r (TotalCeiling day value) b e = refit b (b .floors) (b .ceilings) (b .floor) (b .ceiling) (b .lowest) (omega (arith, b .highest))
+
+-- ---- clipping and tightening leave no range that is not within the one before
+
+clipped-floor : (n : ℕ) (r : Ranges) (c : Cut) → malformed n c ≡ 0 → n ≤ length (r .floors) → (k : ℕ) → at (r .floors) k ≤ at (clipped r c .floors) k
+unfolding clipped
+clipped-floor n r (DayFloor day value) e room k =
+    by-cell (λ j a. at (r .floors) j ≤ a) 0 (r .floors) day (max (at (r .floors) day) (code lowestPoint value)) (omega (arith, day-formed n day value e .0)) (omega arith) k
+    (omega arith)
+clipped-floor n r (DayCeiling day value) e room k = omega arith
+clipped-floor n r (TotalFloor day value) e room k = omega arith
+clipped-floor n r (TotalCeiling day value) e room k = omega arith
+
+clipped-ceiling : (n : ℕ) (r : Ranges) (c : Cut) → malformed n c ≡ 0 → n ≤ length (r .ceilings) → (k : ℕ) → at (clipped r c .ceilings) k ≤ at (r .ceilings) k
+unfolding clipped
+clipped-ceiling n r (DayCeiling day value) e room k =
+    by-cell (λ j a. a ≤ at (r .ceilings) j) 0 (r .ceilings) day (min (at (r .ceilings) day) (code lowestPoint value)) (omega (arith, day-formed n day value e .0)) (omega arith) k
+    (omega arith)
+clipped-ceiling n r (DayFloor day value) e room k = omega arith
+clipped-ceiling n r (TotalFloor day value) e room k = omega arith
+clipped-ceiling n r (TotalCeiling day value) e room k = omega arith
+
+pub tightened-narrows : (s : Session) (c : Cut) → SessionInBounds s → malformed (s .days) c ≡ 0 → {t : Tight} → t ≡ retightened s (clipped (s .present) c) → t .found ≡ true
+    → Narrowed (s .present .floors) (s .present .ceilings) (t .floors) (t .ceilings) (s .days)
+tightened-narrows s c b e {t} is found =
+    let fits = b .present in
+    let x : Exact (boxOf (s .rises) (s .days) (s .first) (clipped (s .present) c)) t =
+    rw is (exact (clipped-in-bounds (s .rises) (s .days) (s .first) (s .present) c fits e) (rw is at found)) in
+    record {
+      floor = λ k h. omega (arith, clipped-floor (s .days) (s .present) c e (omega (arith, fits .floors, fits .most)) k, floor-kept x k h);
+      some = λ k h. x .day k h .some;
+      ceiling = λ k h. omega (arith, clipped-ceiling (s .days) (s .present) c e (omega (arith, fits .ceilings, fits .most)) k, ceiling-kept x k h);
+      most = fits .ceiling;
+    }
+
+-- so does an accepted cut
+abbrev pub Narrows : Session → Session → Type 0
+Narrows s u = Narrowed (s .present .floors) (s .present .ceilings) (u .present .floors) (u .present .ceilings) (s .days)
+
+cut-narrows : (s : Session) (c : Cut) (room : ℕ) → SessionInBounds s → afterCut s c room .answer .refusal ≡ 0 → Narrows s (afterCut s c room .session)
+cut-narrows s c room b = go (eqb (earlyCutting s c room) 0) (retightened s (clipped (s .present) c) .found) refl refl
+  where
+    go : (early found : Bool) → eqb (earlyCutting s c room) 0 ≡ early → retightened s (clipped (s .present) c) .found ≡ found
+        → afterCut s c room .answer .refusal ≡ 0 → Narrows s (afterCut s c room .session)
+    go true true e f z = rw (accepted s c room e, f) (tightened-narrows s c b (passed s c room e .formed) refl f)
+    go true false e f z = absurd (omega (arith, rw (accepted s c room e, f) at z))
+    go false found e f z = absurd (eqb-false (earlyCutting s c room) 0 e (rw (refused-same s c room e) at z))
+
+pub numbered-narrows : (s : Session) (t : Numbered) (room : ℕ) → SessionInBounds s → afterNumbered s t room .answer .refusal ≡ 0 → Narrows s (afterNumbered s t room .session)
+unfolding afterNumbered
+numbered-narrows s (Known c) room b = cut-narrows s c room b
+numbered-narrows s Unknown room b = λ z. absurd (omega arith)
+
+-- ---- in bounds after a cut
 
 pub cut-in-bounds : (s : Session) (c : Cut) (room : ℕ) → SessionInBounds s → SessionInBounds (afterCut s c room .session)
 cut-in-bounds s c room b = go (eqb (earlyCutting s c room) 0) (retightened s (clipped (s .present) c) .found) refl refl

@@ -18,7 +18,8 @@ use Rattle.session_cuts.specs.declared.Cut.the-variants.{DayFloor, DayCeiling, 
 use Rattle.session_cuts.specs.declared.Numbered.{Numbered}
 use Rattle.session_cuts.specs.declared.Numbered.the-variants.{Known, Unknown}
 use Rattle.theory_lists.specs.Front.{inFront}
-use Rattle.session_changed.specs.Changes.{differs, daysWhere}
+use Rattle.session_changed.specs.Changes.{differs, lost}
+use Rattle.session_order.specs.Order.{daysWhere, settledOrder}
 use Rattle.session_cutting.specs.declared.AfterCut.{AfterCut}
 
 -- ---- the refusals
@@ -59,9 +60,11 @@ clipped r (TotalCeiling day value) = record { floors = r .floors; ceilings = r .
 abbrev pub retightened : Session → Ranges → Tight
 retightened s r = tightened (boxOf (s .rises) (s .days) (s .first) r)
 
--- the days whose floor or ceiling differs
+-- the days whose floor or ceiling differs: those whose range lost most first, equal losses by day (request Two)
 abbrev pub changedDays : ℕ → Ranges → Ranges → List ℕ
-changedDays n before after = daysWhere (differs (before .floors) (before .ceilings) (after .floors) (after .ceilings)) n
+changedDays n before after =
+    settledOrder (lost (before .floors) (before .ceilings) (after .floors) (after .ceilings))
+    (daysWhere (differs (before .floors) (before .ceilings) (after .floors) (after .ceilings)) n)
 
 -- a spent session shows the ranges that it had when opened, and holds nothing else of its cuts
 abbrev pub spend : Session → Session

@@ -4,9 +4,10 @@ use mathlib.Core.Path.{_≡_, refl, sym, ap, _∙_}
 use mathlib.Core.List.{List, [], _∷_, _++_}
 use native.Mathlib.Omega.{arith}
 use native.Mathlib.Decide.{decLt}
-use lib.ListN.{length, set, length-set, length-append, List·getD-append}
+use lib.ListN.{length, drop, set, length-set, length-append, List·getD-append}
 use lib.Seq.{sets, set-getD, set-comm, getD-set-same, getD-set-other, getD-append-add, ext-getD}
 use Rattle.theory_lists.specs.Sum.{at}
+use Rattle.theory_lists.specs.Front.{inFront}
 use Rattle.theory_lists.specs.Rows.{rows, length-rows}
 
 -- from place i on, l has the elements of xs
@@ -37,6 +38,10 @@ module _ {l : List ℕ} {i w : ℕ} (xs ys : List ℕ) (e : length xs ≡ w) whe
 
 pub part-all : (l : List ℕ) → Part l 0 l
 part-all l = record { has = λ j h. let z : 0 + j ≡ j = omega arith in rw z refl }
+
+pub part-front : (xs l : List ℕ) → Part (inFront xs l) 0 xs
+unfolding inFront
+part-front xs l = part-left xs (drop (length xs) l) refl (part-all (xs ++ drop (length xs) l))
 
 pub part-same : {l : List ℕ} (xs : List ℕ) → length xs ≡ length l → Part l 0 xs → xs ≡ l
 part-same {l} xs e p = ext-getD 0 xs l e (λ j h. let z : 0 + j ≡ j = omega arith in sym (rw z at (p .has j h)))
@@ -92,15 +97,6 @@ module _ (l : List ℕ) (i : ℕ) (xs : List ℕ) where
 
   pub part-past : {k : ℕ} (ys : List ℕ) → i + length xs ≤ k → Part l k ys → Part (sets l i xs) k ys
   part-past {k} ys h p = record { has = λ j u. stored-past xs l i (k + j) (omega arith) ∙ p .has j u }
-
--- storing what is there changes nothing
-pub stored-there : (xs l : List ℕ) (i : ℕ) → Part l i xs → sets l i xs ≡ l
-stored-there [] l i p = refl
-stored-there (x ∷ xs) l i p =
-    let z : i + 0 ≡ i = omega arith in
-    let first : at l i ≡ x = rw z at (p .has 0 (omega arith)) in
-    let same : set l i x ≡ l = rw first at (set-getD l i 0) in
-    rw same (stored-there xs l (suc i) (record { has = λ j h. let e : suc i + j ≡ i + suc j = omega arith in rw e (p .has (suc j) (omega arith)) }))
 
 -- stores at places apart, in either order
 store-apart : (xs l : List ℕ) (i j y : ℕ) → i + length xs ≤ j → sets (set l j y) i xs ≡ set (sets l i xs) j y

@@ -5,7 +5,7 @@ use mathlib.Core.List.{List, [], _∷_, _++_}
 use native.Mathlib.Numerals.{add-one}
 use native.Mathlib.Omega.{arith}
 use native.Mathlib.Nat.{add-zero, mul-le-mul-right}
-use lib.ListN.{length, getD, take, set, length-set, length-append}
+use lib.ListN.{length, getD, take, set, length-set, length-append, List·getD-append}
 use lib.Seq.{sets, sets-eq, length-sets, take-suc, length-take-le, take-all}
 use Rattle.theory_lists.specs.Front.{inFront}
 
@@ -33,6 +33,19 @@ pub rows-same : {A : Type 0} (f g : ℕ → List A) (n : ℕ) → ((k : ℕ) →
 unfolding rows
 rows-same f g zero h = refl
 rows-same f g (suc n) h = rw (rows-same f g n (λ k l. h k (omega arith)), h n (omega arith)) refl
+
+-- the first rows stand in front of all
+pub rows-grow : {A : Type 0} (f : ℕ → List A) (b j : ℕ) → length (rows f b) ≤ length (rows f (b + j))
+unfolding rows
+rows-grow f b zero = let e : b + 0 ≡ b = omega arith in rw e (omega arith)
+rows-grow f b (suc j) = let e : b + suc j ≡ suc (b + j) = omega arith in rw e (omega (arith, rows-grow f b j, length-append (rows f (b + j)) (f (b + j))))
+
+pub rows-front : {A : Type 0} (d : A) (f : ℕ → List A) (b j k : ℕ) → k < length (rows f b) → getD (rows f (b + j)) k d ≡ getD (rows f b) k d
+unfolding rows
+rows-front d f b zero k h = let e : b + 0 ≡ b = omega arith in rw e refl
+rows-front d f b (suc j) k h =
+    let e : b + suc j ≡ suc (b + j) = omega arith in
+    rw e (List·getD-append (rows f (b + j)) (f (b + j)) d k (omega (arith, rows-grow f b j)) ∙ rows-front d f b j k h)
 
 module _ {A : Type 0} where
   -- two lists stored one after the other

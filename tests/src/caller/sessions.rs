@@ -1,7 +1,5 @@
 //! Opening, cutting and showing.
 
-use std::collections::BTreeSet;
-
 use super::{unchanged_profile, Caller, Held};
 use crate::entries::{self, ReadNumbers};
 use crate::lent::{same, same_bytes, Checked, Lent, LentNumber};
@@ -54,13 +52,13 @@ impl Caller {
         Ok(session.data().to_vec())
     }
 
-    /// How many days changed.
-    pub fn cut(&mut self, held: &mut Held, call: &CutCall) -> Checked<usize> {
+    /// The changed days, as they are listed; none beside a refusal.
+    pub fn cut(&mut self, held: &mut Held, call: &CutCall) -> Checked<Vec<usize>> {
         self.try_cut(held, call)
             .map_err(|difference| held.explain(format!("{call:?}"), difference))
     }
 
-    fn try_cut(&mut self, held: &mut Held, call: &CutCall) -> Checked<usize> {
+    fn try_cut(&mut self, held: &mut Held, call: &CutCall) -> Checked<Vec<usize>> {
         let before = held.oracle.shown().clone();
         let expected = held.oracle.cut(call);
         let oracle = &held.oracle;
@@ -77,7 +75,8 @@ impl Caller {
             &mut count,
         );
         self.answered(Entry::Cut, number, &expected)?;
-        changed_days(&changed, &count, &expected.clone().unwrap_or_default())?;
+        let days = expected.clone().unwrap_or_default();
+        changed_days(&changed, &count, &days)?;
         session.guarded("session")?;
         let as_before = match expected {
             Ok(_) => before == *oracle.shown(),
@@ -87,7 +86,7 @@ impl Caller {
         if call.session_length == SESSION_BYTES {
             held.bytes = session.data().to_vec();
         }
-        Ok(count.value())
+        Ok(days)
     }
 
     pub fn read(&mut self, held: &Held, call: &ReadCall) -> Checked {
@@ -122,19 +121,14 @@ impl Caller {
     }
 }
 
-/// The list begins with the changed days, each one time, in any order, and is else as it was.
+/// The list begins with the changed days, in the same order, and is else as it was.
 fn changed_days(list: &Lent, count: &LentNumber<usize>, expected: &[usize]) -> Checked {
     count.holds("changed_days", expected.len())?;
     let places = 0..expected.len();
     let days: Vec<usize> = places
         .map(|place| unsigned_2(list.data(), 2 * place))
         .collect();
-    let in_order: BTreeSet<usize> = days.iter().copied().collect();
-    same(
-        "the changed days, in order and each one time",
-        in_order.into_iter().collect::<Vec<_>>(),
-        expected.to_vec(),
-    )?;
+    same("the changed days", days.as_slice(), expected)?;
     list.holds("changed", &list.data()[..2 * expected.len()])
 }
 

@@ -1,6 +1,8 @@
 //! A session: a profile and the whole list of its valid cuts. Each cut computes the ranges anew
 //! from both.
 
+use std::cmp::Reverse;
+
 use super::calls::{
     elements, CutCall, InspectCall, OpenCall, ReadCall, WriteDayCall, WriteTotalCall,
 };
@@ -29,7 +31,7 @@ impl Session {
         })
     }
 
-    /// The days that an accepted cut changes.
+    /// The days that an accepted cut changes, the largest loss first, equal losses by day.
     pub fn cut(&mut self, call: &CutCall) -> Result<Vec<usize>, Cause> {
         session_length(call.session_length)?;
         let cut = judging::cut(self.days(), &call.cut)?;
@@ -39,7 +41,10 @@ impl Session {
         self.present = bisection::ranges(&self.profile, &self.cuts);
         let after = self.present.as_ref().ok_or(Cause::NoSchedule)?;
         let differs = |&day: &usize| before.days[day] != after.days[day];
-        Ok((0..self.days()).filter(differs).collect())
+        let lost = |day: usize| before.days[day].width() - after.days[day].width();
+        let mut changed: Vec<usize> = (0..self.days()).filter(differs).collect();
+        changed.sort_by_key(|&day| (Reverse(lost(day)), day));
+        Ok(changed)
     }
 
     pub fn read(&self, call: &ReadCall) -> Result<&Ranges, Cause> {

@@ -1,6 +1,6 @@
-//! Document 01's profiles worked by hand, those of request One, its file with the first counted day,
-//! and its limits. They test the oracle too: what is expected stands here as in the document, but
-//! for the counts of changed days of C, which it does not give.
+//! Document 01's profiles worked by hand, those of requests One and Two, its file with the first
+//! counted day, and its limits. They test the oracle too: what is expected stands here as in the
+//! document, but for the changed days, of which it gives at most the number.
 
 use crate::caller::{Caller, Held};
 use crate::lent::{same, same_bytes, Checked};
@@ -12,7 +12,7 @@ use crate::oracle::session::Session;
 use crate::oracle::{CUT_BYTES, DAYS_OFFSET, HEADER_BYTES, SESSION_BYTES};
 use crate::random::Random;
 
-pub const CASES: usize = EXAMPLES.len() + 4;
+pub const CASES: usize = EXAMPLES.len() + 5;
 
 pub fn case(caller: &mut Caller, _: &mut Random, case: usize) -> Checked {
     match case.checked_sub(EXAMPLES.len()) {
@@ -20,7 +20,8 @@ pub fn case(caller: &mut Caller, _: &mut Random, case: usize) -> Checked {
         Some(0) => files(caller),
         Some(1) => refused_files(caller),
         Some(2) => room(caller),
-        Some(_) => limits(caller),
+        Some(3) => limits(caller),
+        Some(_) => longest_lists(caller),
     }
 }
 
@@ -29,8 +30,8 @@ type Bounds = (i64, i64);
 enum End {
     Refused(u8),
     Spent,
-    /// The ranges of the days and of the total, and how many days each cut changed.
-    Shown(&'static [Bounds], Bounds, &'static [usize]),
+    /// The ranges of the days and of the total, and the days that each cut changed, as listed.
+    Shown(&'static [Bounds], Bounds, &'static [&'static [usize]]),
 }
 
 /// Rises are 0 where none are given.
@@ -45,9 +46,11 @@ struct Example {
 }
 
 const DAY_FLOOR: usize = 0;
+const DAY_CEILING: usize = 1;
 const TOTAL_CEILING: usize = 3;
 
 const OF_A: &[Bounds] = &[(2, 6), (4, 7), (4, 7)];
+const FOUR_DAYS: &[Bounds] = &[(0, 9); 4];
 
 const EXAMPLES: &[Example] = &[
     Example {
@@ -66,7 +69,7 @@ const EXAMPLES: &[Example] = &[
         first: 0,
         total: (10, 12),
         cuts: &[(DAY_FLOOR, 0, 3)],
-        end: End::Shown(&[(3, 4), (4, 4), (4, 5)], (11, 12), &[3]),
+        end: End::Shown(&[(3, 4), (4, 4), (4, 5)], (11, 12), &[&[0, 1, 2]]),
     },
     Example {
         name: "B",
@@ -75,7 +78,7 @@ const EXAMPLES: &[Example] = &[
         first: 0,
         total: (10, 12),
         cuts: &[(DAY_FLOOR, 0, 3), (TOTAL_CEILING, 0, 11)],
-        end: End::Shown(&[(3, 3), (4, 4), (4, 4)], (11, 11), &[3, 2]),
+        end: End::Shown(&[(3, 3), (4, 4), (4, 4)], (11, 11), &[&[0, 1, 2], &[0, 2]]),
     },
     Example {
         name: "C",
@@ -84,7 +87,7 @@ const EXAMPLES: &[Example] = &[
         first: 0,
         total: (10, 12),
         cuts: &[(TOTAL_CEILING, 0, 11), (DAY_FLOOR, 0, 3)],
-        end: End::Shown(&[(3, 3), (4, 4), (4, 4)], (11, 11), &[3, 2]),
+        end: End::Shown(&[(3, 3), (4, 4), (4, 4)], (11, 11), &[&[0, 1, 2], &[0, 2]]),
     },
     Example {
         name: "D",
@@ -261,6 +264,69 @@ const EXAMPLES: &[Example] = &[
         cuts: &[],
         end: End::Refused(8),
     },
+    Example {
+        name: "A, losses 2, 1, 2",
+        days: OF_A,
+        rises: &[],
+        first: 0,
+        total: (10, 12),
+        cuts: &[(DAY_FLOOR, 0, 4)],
+        end: End::Shown(&[(4, 4), (4, 4), (4, 4)], (12, 12), &[&[0, 2, 1]]),
+    },
+    Example {
+        name: "losses 7, 6, 4, 0",
+        days: FOUR_DAYS,
+        rises: &[],
+        first: 0,
+        total: (0, 36),
+        cuts: &[(TOTAL_CEILING, 0, 10)],
+        end: End::Shown(&[(0, 2), (0, 3), (0, 5), (0, 9)], (0, 10), &[&[0, 1, 2]]),
+    },
+    Example {
+        name: "losses 0, 5, 1",
+        days: &[(0, 4), (0, 10), (0, 6)],
+        rises: &[-10, -10],
+        first: 0,
+        total: (0, 20),
+        cuts: &[(TOTAL_CEILING, 0, 5)],
+        end: End::Shown(&[(0, 4), (0, 5), (0, 5)], (0, 5), &[&[1, 2]]),
+    },
+    Example {
+        name: "losses 6, 6, 6, 0",
+        days: FOUR_DAYS,
+        rises: &[],
+        first: 0,
+        total: (0, 36),
+        cuts: &[(DAY_CEILING, 2, 3)],
+        end: End::Shown(&[(0, 3), (0, 3), (0, 3), (0, 9)], (0, 18), &[&[0, 1, 2]]),
+    },
+    Example {
+        name: "losses 0, 5, 5, 5",
+        days: FOUR_DAYS,
+        rises: &[],
+        first: 0,
+        total: (0, 36),
+        cuts: &[(DAY_FLOOR, 1, 5)],
+        end: End::Shown(&[(0, 9), (5, 9), (5, 9), (5, 9)], (15, 36), &[&[1, 2, 3]]),
+    },
+    Example {
+        name: "losses 1, 3, 4, 2",
+        days: &[(0, 6), (0, 8), (0, 9), (0, 7)],
+        rises: &[-10, -10, -10],
+        first: 0,
+        total: (0, 30),
+        cuts: &[(TOTAL_CEILING, 0, 5)],
+        end: End::Shown(&[(0, 5), (0, 5), (0, 5), (0, 5)], (0, 5), &[&[2, 1, 3, 0]]),
+    },
+    Example {
+        name: "losses 4, 4, 5, of day 1 at both ends",
+        days: &[(0, 9); 3],
+        rises: &[],
+        first: 0,
+        total: (12, 12),
+        cuts: &[(DAY_FLOOR, 0, 4)],
+        end: End::Shown(&[(4, 4), (4, 4), (4, 4)], (12, 12), &[&[2, 0, 1]]),
+    },
 ];
 
 fn example(caller: &mut Caller, example: &Example) -> Checked {
@@ -285,14 +351,14 @@ fn run_example(caller: &mut Caller, example: &Example) -> Checked {
     for &(kind, day, value) in example.cuts {
         changed.push(apply(caller, &mut held, CutNumbers { kind, day, value })?);
     }
-    let (shown, spent, counts) = match example.end {
+    let (shown, spent, lists) = match example.end {
         End::Refused(_) => return Err("opened, and not refused".into()),
-        End::Spent => (opened, true, changed.as_slice()),
-        End::Shown(days, total, counts) => (ranges(days, total), false, counts),
+        End::Spent => (opened, true, changed.clone()),
+        End::Shown(days, total, lists) => (ranges(days, total), false, owned(lists)),
     };
     same("spent", held.oracle.is_spent(), spent)?;
     same("ranges", held.oracle.shown(), &shown)?;
-    same("changed days", changed.as_slice(), counts)
+    same("changed days", changed, lists)
 }
 
 fn ranges(days: &[Bounds], total: Bounds) -> Ranges {
@@ -303,7 +369,11 @@ fn ranges(days: &[Bounds], total: Bounds) -> Ranges {
     }
 }
 
-fn apply(caller: &mut Caller, held: &mut Held, cut: CutNumbers) -> Checked<usize> {
+fn owned(lists: &[&[usize]]) -> Vec<Vec<usize>> {
+    lists.iter().map(|days| days.to_vec()).collect()
+}
+
+fn apply(caller: &mut Caller, held: &mut Held, cut: CutNumbers) -> Checked<Vec<usize>> {
     let call = CutCall {
         session_length: SESSION_BYTES,
         cut,
@@ -435,4 +505,36 @@ fn limits(caller: &mut Caller) -> Checked {
         same("the refusal at a limit", refusal(&call), number)?;
     }
     Ok(())
+}
+
+/// Lists of 512 days, all of whose losses are equal, or different.
+fn longest_lists(caller: &mut Caller) -> Checked {
+    let by_day: Vec<usize> = (0..512).collect();
+    let last_first: Vec<usize> = (0..512).rev().collect();
+    // 5 * 205 is 1 more than a multiple of 512.
+    let shuffled: Vec<usize> = (0..512).rev().map(|k| k * 205 % 512).collect();
+    lists(caller, |_| 1, &by_day)?;
+    lists(caller, |_| 4_900, &by_day)?;
+    lists(caller, |day| 512 - day, &by_day)?;
+    lists(caller, |day| 1 + day, &last_first)?;
+    lists(caller, |day| 1 + 5 * day % 512, &shuffled)
+}
+
+/// Cuts the total's ceiling so that it leaves each day the 100 points above its floor.
+fn lists(caller: &mut Caller, loss: fn(usize) -> usize, expected: &[usize]) -> Checked {
+    let bounds = |day| (-1_000, -900 + loss(day) as i64);
+    let days: Vec<Bounds> = (0..512).map(bounds).collect();
+    let profile = Profile {
+        ranges: ranges(&days, (-512_000, 2_048_000)),
+        rises: vec![-2_000; 511],
+        first: 0,
+    };
+    let held = caller.open(&OpenCall::of(&profile))?;
+    let cut = CutNumbers {
+        kind: TOTAL_CEILING,
+        day: 0,
+        value: -511_900,
+    };
+    let changed = apply(caller, &mut held.ok_or("refused")?, cut)?;
+    same("the list of 512 days", changed.as_slice(), expected)
 }

@@ -1,9 +1,10 @@
 -- `cut_present` meets its contract: the arrays hold what the bytes hold (`Loaded`), then what the cut makes of it, and each return knows whether there is a
 -- schedule and what it stored.
-use mathlib.Core.Path.{_≡_}
+use mathlib.Core.Path.{_≡_, ap, _∙_}
 use mathlib.Core.List.{List}
 use Prim.Native.Nat.{ℕ}
 use native.Mathlib.Omega.{arith}
+use lib.ListN.{length}
 use borrow.Author.Tests.{not-true, not-false}
 use borrow.Author.Needs.{needs}
 use Rattle.base_codes.specs.declared.CodedNumbers.{CodedNumbers}
@@ -11,7 +12,6 @@ use Rattle.theory_method.specs.Filter.{Tight}
 use Rattle.session_cuts.specs.declared.Cut.{Cut}
 use Rattle.session_cutting.specs.Cutting.{clipped, retightened}
 use Rattle.c_layout.specs.Layout.{decoding}
-use Rattle.c_layout.proofs.Held.{days-few}
 use Rattle.c_sessions.proofs.Cutting.{Loaded, loaded-bounds, loaded-tight, made-none, made-found, made-bounds}
 use Rattle.c_sessions.proofs.cut_present.Statement.{statement}
 use Rattle.c_sessions.proofs.cut_present.Tie as tie
@@ -46,7 +46,7 @@ abbrev at-none : tie.After-spend → tie.Then1
 at-none c = c .before .before
 
 abbrev at-some : tie.After-store-cut-arg2 → tie.Else1
-at-some c = c .before .before .before .before
+at-some c = c .before .before .before .before .before
 
 abbrev at-stored : tie.After-slice-known5 → tie.After-store-cut
 at-stored c = c .before .before .before .before
@@ -112,7 +112,7 @@ store-cut-requires c κs =
     let p = from-loaded l .pre in
     let b = made-bounds (bytes l) (the-cut l) (is-tight k) (p .formed) (not-false _ (e .if1 .left)) in
     let d = loaded l .days in
-    (omega (arith, d, days-few (bytes l)), b .0, b .1, p .whole, omega (arith, d, p .roomy))
+    ((ap length (loaded l .rises) ∙ b .rises, b .floors, b .ceilings), (b .lowest, b .highest, p .whole, d, omega (arith, d, p .roomy)))
 
 returns-2 : tie.Need-returns-2
 returns-2 c =
@@ -121,7 +121,7 @@ returns-2 c =
     let k = at-cut (e .before) in
     let l = at-loaded (k .before) in
     let q = s .store-cut .ensures in
-    made-found (bytes l) (the-cut l) (is-tight k) (not-false _ (e .if1 .left)) (from-loaded l .args .changed .now)
+    made-found (bytes l) (the-cut l) (is-tight k) (from-loaded l .pre .formed) (not-false _ (e .if1 .left)) (from-loaded l .args .changed .now)
     (record { days = loaded l .days; unspent = from-loaded l .pre .unspent; counted = q .0; listed = q .1 .0; stored = q .1 .1 })
 
 pub cut-present-spec : {M : Type 1} → statement M

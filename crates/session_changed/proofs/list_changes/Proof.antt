@@ -1,73 +1,70 @@
--- `list_changes` meets its contract: at its loop's head the days below this one that differ are listed (`Listed` of Laws). The measure is the days left.
-use Prim.Native.Nat.{_-_}
-use Rattle.session_changed.specs.Changes.{differs}
-use Rattle.session_changed.proofs.Laws.{Listed, Noted, listed-none, listed-more, listed-all}
+-- `list_changes` meets its contract: no loss is more than there are levels (`losses-most`), and the days that are read are those that differ (`listing` of Laws).
+use mathlib.Core.Path.{refl}
+use Prim.Native.Nat.{_≤_}
+use native.Mathlib.Omega.{arith}
+use Rattle.theory_lists.specs.Sum.{at}
+use Rattle.session_order.proofs.Losers.{settled-few}
+use Rattle.session_changed.proofs.Laws.{losses-most, listing}
 use borrow.Author.Needs.{needs}
 use Rattle.session_changed.proofs.list_changes.Statement.{statement}
 use Rattle.session_changed.proofs.list_changes.Tie as tie
 
-abbrev Inv-loop : tie.InvT-loop
-Inv-loop floors ceilings low high n changed₀ count₀ day₀ changed count day = Listed (differs floors ceilings low high) n day changed₀ count changed
+-- ---- the places on the way: the losses are written, there are bytes for the list, the days are listed, they are read
 
-abbrev μ-loop : tie.MeasureT-loop
-μ-loop floors ceilings low high n changed₀ count₀ day₀ changed count day = n - day
+abbrev at-start : tie.After-write-losses → tie.Start
+at-start c = c .before .before .before
 
-loop-holds : tie.Need-loop-holds Inv-loop μ-loop
-loop-holds c = listed-none
+abbrev at-lost : tie.After-cells → tie.After-write-losses
+at-lost c = c .before .before .before .before
 
--- ---- the places of a turn: it begins, the test is worked out, the day is noted
+abbrev at-read : tie.After-read-days-arg → tie.After-list-losers
+at-read c = c .before .before .before
 
-abbrev before-loop : tie.At-loop Inv-loop μ-loop → tie.Start Inv-loop μ-loop
-before-loop c = c .before .before
+abbrev at-listed : tie.After-read-days → tie.After-list-losers
+at-listed c = at-read (c .before)
 
-abbrev at-turn : tie.After-differs4 Inv-loop μ-loop → tie.In-loop Inv-loop μ-loop
-at-turn c = c .before .before .before .before
+list-losers-requires : tie.Need-list-losers-requires
+list-losers-requires c κs =
+    let p = at-lost c in
+    let h = at-start p .pre in
+    (h .0, losses-most (h .2) _ (search needs) (p .write-losses .ensures), refl, refl, omega (arith, h .0))
 
-abbrev at-tested : tie.After-note Inv-loop μ-loop → tie.After-differs4 Inv-loop μ-loop
-at-tested c = c .before .before
+-- no more days are listed than there are
+few : (c : tie.After-list-losers) → c .list-losers .result ≤ at-start (at-lost (c .before)) .args .n
+few c =
+    let p = at-lost (c .before) in
+    omega (arith, c .list-losers .ensures .0, settled-few (at (p .write-losses .last .1 .1 .1 .1 .1 .0)) (at-start p .args .n))
 
-abbrev at-noted : tie.After-slice-known2 Inv-loop μ-loop → tie.After-note Inv-loop μ-loop
-at-noted c = c .before .before
+read-days-requires : tie.Need-read-days-requires
+read-days-requires c κs =
+    let q = at-read c in
+    let h = at-start (at-lost (q .before)) .pre in
+    (omega (arith, few q, h .0), omega (arith, few q, h .0, q .list-losers .kept), omega (arith, few q, h .1))
 
-noted : (c : tie.After-note Inv-loop μ-loop)
-    → let h = at-turn (at-tested c) .before in
-    let a = before-loop h .args in
-    Noted (differs (a .floors .now) (a .ceilings .now) (a .low .now) (a .high .now)) (a .n) (h .loop .day) (a .changed .now) (h .loop .count) (h .loop .changed)
-    (c .note .result) (c .note .last .0)
-noted c =
-    let t = at-turn (at-tested c) in
-    record {
-      head = t .before .loop .inv;
-      more = t .loop-test .taken;
-      room = before-loop (t .before) .pre .1;
-      counted = c .note .ensures .0;
-      listed = c .note .ensures .1;
-    }
-
-loop-again : tie.Need-loop-again Inv-loop μ-loop
-loop-again c = listed-more (noted (at-noted c))
-
-returns : tie.Need-returns Inv-loop μ-loop
-returns c = listed-all (c .before .loop .inv) (c .loop-test .left)
+returns : tie.Need-returns
+returns c =
+    let d = c .before .before in
+    let q = at-listed d in
+    let p = at-lost (q .before) in
+    let h = at-start p .pre in
+    listing (record {
+      narrowed = h .2;
+      wide = search needs;
+      room = h .1;
+      lose = p .write-losses .ensures;
+      counted = q .list-losers .ensures .0;
+      made = q .list-losers .ensures .1;
+      read = d .read-days .ensures;
+    })
 
 pub list-changes-spec : {M : Type 1} → statement M
 list-changes-spec =
     tie.close
     (tie.spec
-    Inv-loop
-    μ-loop
-    loop-holds
+    (λ c κs. search needs)
     (λ c. search needs)
+    list-losers-requires
     (λ c. search needs)
-    (λ c. search needs)
-    (λ c. search needs)
-    (λ c. search needs)
-    (λ c. search needs)
-    (λ c. search needs)
-    (λ c. search needs)
-    (λ c. search needs)
-    (λ c. search needs)
-    (λ c. search needs)
-    loop-again
+    read-days-requires
     (λ c. search needs)
     returns)

@@ -6,12 +6,14 @@ use borrow.Author.Needs.{needs}
 use Rattle.theory_method.specs.Filter.{Tight}
 use Rattle.session.specs.declared.Session.{Session}
 use Rattle.session_cuts.specs.declared.Cut.{Cut}
+use Rattle.session_changed.specs.Changes.{Narrowed}
 use Rattle.session_cutting.specs.Cutting.{clipped, retightened}
+use Rattle.session_cutting.proofs.Laws.{tightened-narrows}
 use Rattle.session_cutting.proofs.Stages.{again-found, again-none, list-left, list-written}
 use Rattle.session_cutting.proofs.tighten_again.Statement.{statement}
 use Rattle.session_cutting.proofs.tighten_again.Tie as tie
 
--- ---- the places on the way: the ranges are copied, they are cut, there is a schedule, the days that changed are listed
+-- ---- the places on the way: the ranges are copied, they are cut, there is a schedule, the list is lent, the days that changed are listed
 
 abbrev at-start : tie.After-before2 → tie.Start
 at-start c = c .before .before .before
@@ -22,8 +24,11 @@ at-copied c = c .before .before .before .before .before
 abbrev at-cut : tie.After-struct-known → tie.After-cut-ranges
 at-cut c = c .before
 
+abbrev at-lent : tie.After-list-changes-arg → tie.Else1
+at-lent c = c .before .before .before .before .before
+
 abbrev at-found : tie.After-list-changes → tie.Else1
-at-found c = c .before .before .before .before .before .before
+at-found c = at-lent (c .before)
 
 abbrev at-listed : tie.After-accept → tie.After-list-changes
 at-listed c = c .before .before .before
@@ -62,6 +67,21 @@ returns-2 c = (
   at-listed c .list-changes .ensures .1 ∙ list-written _ _ _ (c .accept .ensures),
 )
 
+-- the ranges before and the tightened ones
+narrows : (c : tie.Else1)
+    → let k = at-cut (c .before) in
+    Narrowed (the-session k .present .floors) (the-session k .present .ceilings) (tight k .floors) (tight k .ceilings) (the-session k .days)
+narrows c =
+    let k = at-cut (c .before) in
+    let p = from-cut k .pre in
+    tightened-narrows (the-session k) (the-cut k) (p .0) (p .1) (is-tight k) (not-false _ (c .if1 .left))
+
+list-changes-requires : tie.Need-list-changes-requires
+list-changes-requires c κs =
+    let f = at-lent c in
+    let p = from-cut (at-cut (f .before)) .pre in
+    (p .0 .present .most, p .3, narrows f)
+
 pub tighten-again-spec : {M : Type 1} → statement M
 tighten-again-spec =
     tie.close
@@ -69,7 +89,7 @@ tighten-again-spec =
     cut-ranges-requires
     (λ c. search needs)
     returns
-    (λ c. search needs)
+    list-changes-requires
     (λ c. search needs)
     (λ c. search needs)
     returns-2)

@@ -1,0 +1,9 @@
+pub mod Pairs
+pub mod Days
+pub mod Settled
+pub mod Piles
+pub mod Losers
+pub mod Walk
+pub mod Chains
+pub mod Listing
+pub mod Whole
