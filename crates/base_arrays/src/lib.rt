@@ -1,7 +1,7 @@
 // Sums of levels: of a list, and of the counted days in an array, of which the first n elements are the days.
 ghost use Rattle.std.specs.Prelude.{◌≡◌, ◌*◌, ◌≤◌, length};
-ghost use Rattle.limits.specs.Limits.{mostDays, highestHeld};
-ghost use Rattle.theory_lists.specs.Sum.{sumFor, at};
+ghost use Rattle.limits.specs.Limits.{most_days, highest_held};
+ghost use Rattle.theory_lists.specs.Sum.{sum_for, at};
 ghost use Rattle.theory_chains.specs.Sum.{sum};
 ghost use Rattle.theory_method.specs.Counted.{counted};
 ghost use Rattle.theory_method.specs.Filter.{held};
@@ -11,8 +11,8 @@ use limits::{LEVEL_OFFSET, MOST_DAYS};
 
 // The sum of a list of levels. 32 bits hold it.
 pub fn sum(levels: &[u16]) -> usize
-    requires { length levels.now ≤ mostDays }
-    ensures { (result ≡ sumFor (at levels.now) 0 (length levels.now)) × (result ≤ length levels.now * 65535) }
+    requires { length levels.now ≤ most_days }
+    ensures { (result ≡ sum_for (at levels.now) 0 (length levels.now)) × (result ≤ length levels.now * 65535) }
 {
     let mut total = 0u32;
     let mut count = 0u32;
@@ -26,8 +26,8 @@ pub fn sum(levels: &[u16]) -> usize
 
 // The sum of the counted levels of n days: those from day `first` on.
 pub fn counted_sum(levels: &[u16; MOST_DAYS], n: usize, first: usize) -> usize
-    requires { (first ≤ n) × (n ≤ mostDays) }
-    ensures { (result ≡ sum (counted first n) n (at levels.now)) × (result ≤ mostDays * 65535) }
+    requires { (first ≤ n) × (n ≤ most_days) }
+    ensures { (result ≡ sum (counted first n) n (at levels.now)) × (result ≤ most_days * 65535) }
 {
     let days = &levels[..];
     sum(&days[first..n])
@@ -35,8 +35,8 @@ pub fn counted_sum(levels: &[u16; MOST_DAYS], n: usize, first: usize) -> usize
 
 // The same as a total is held.
 pub fn held_total(levels: &[u16; MOST_DAYS], n: usize, first: usize) -> usize
-    requires { (first ≤ n) × (n ≤ mostDays) }
-    ensures { (result ≡ held n first (at levels.now)) × (result ≤ highestHeld) }
+    requires { (first ≤ n) × (n ≤ most_days) }
+    ensures { (result ≡ held n first (at levels.now)) × (result ≤ highest_held) }
 {
     counted_sum(levels, n, first) + LEVEL_OFFSET * (MOST_DAYS - (n - first))
 }

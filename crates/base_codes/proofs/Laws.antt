@@ -7,36 +7,36 @@ use native.Mathlib.Omega.{arith}
 use lib.IntN.{ℤ, pos, negsuc, neg_ℤ, nat_abs, ◌-ℤ◌, +ℤ_comm, +ℤ-neg_ℤ_cancel, -ℤ-+ℤ_cancel}
 use lib.Signed.{◌≤ℤ◌, le_z, le_z_yes}
 use denote.Floats.{passes, is_true}
-use Rattle.limits.specs.Limits.{lowestPoint, highestPoint, lowestRise, highestRise, lowestTotal, highestTotal, lowestSetpoint}
+use Rattle.limits.specs.Limits.{lowest_point, highest_point, lowest_rise, highest_rise, lowest_total, highest_total, lowest_setpoint}
 use Rattle.base_codes.specs.declared.Coded.{Coded}
 use Rattle.base_codes.specs.declared.Coded.TheVariants.{Code, Outside}
-use Rattle.base_codes.proofs.Offset.{Less, le-less, less-same, less-add}
+use Rattle.base_codes.proofs.Offset.{Less, le_less, less_same, less_add}
 use Rattle.base_codes.specs.Code.{within, code, decoded, coded}
 
 -- the lowest bounds, as offsets
-pub point-less : Less lowestPoint 0 1000
-point-less = refl
+pub point_less : Less lowest_point 0 1000
+point_less = refl
 
-pub rise-less : Less lowestRise 0 2000
-rise-less = refl
+pub rise_less : Less lowest_rise 0 2000
+rise_less = refl
 
-pub total-less : Less lowestTotal 0 512000
-total-less = refl
+pub total_less : Less lowest_total 0 512000
+total_less = refl
 
-pub setpoint-less : Less lowestSetpoint 0 32768
-setpoint-less = refl
+pub setpoint_less : Less lowest_setpoint 0 32768
+setpoint_less = refl
 
-less-neg : (z : ℤ) (n k : ℕ) → Less z n k → Less (neg_ℤ z) k n
-less-neg (pos zero) n k p = omega arith
-less-neg (pos (suc a)) n k p = omega arith
-less-neg (negsuc a) n k p = omega arith
+less_neg : (z : ℤ) (n k : ℕ) → Less z n k → Less (neg_ℤ z) k n
+less_neg (pos zero) n k p = omega arith
+less_neg (pos (suc a)) n k p = omega arith
+less_neg (negsuc a) n k p = omega arith
 
-less-sub : (z y : ℤ) (n m k : ℕ) → Less z n k → Less y m k → Less (z -ℤ y) (n + k) (k + m)
-less-sub z y n m k p q = less-add z (neg_ℤ y) n k k m p (less-neg y m k q)
+less_sub : (z y : ℤ) (n m k : ℕ) → Less z n k → Less y m k → Less (z -ℤ y) (n + k) (k + m)
+less_sub z y n m k p q = less_add z (neg_ℤ y) n k k m p (less_neg y m k q)
 
-less-abs : (z : ℤ) (n k : ℕ) → Less z n k → k ≤ n → nat_abs z + k ≡ n
-less-abs (pos a) n k p h = omega arith
-less-abs (negsuc a) n k p h = absurd (omega arith)
+less_abs : (z : ℤ) (n k : ℕ) → Less z n k → k ≤ n → nat_abs z + k ≡ n
+less_abs (pos a) n k p h = omega arith
+less_abs (negsuc a) n k p h = absurd (omega arith)
 
 -- a number over any offset that is large enough
 over : (z : ℤ) (k : ℕ) → nat_abs z ≤ k → (n : ℕ) × Less z n k
@@ -45,33 +45,33 @@ over (negsuc a) k h = (k - suc a, omega arith)
 
 -- the code is the difference, over any offset
 pub code_sum : (low z : ℤ) (m n k : ℕ) → Less low m k → Less z n k → m ≤ n → code low z + m ≡ n
-code_sum low z m n k p q h = omega (arith, less-abs (z -ℤ low) (n + k) (k + m) (less-sub z low n m k q p) (omega arith))
+code_sum low z m n k p q h = omega (arith, less_abs (z -ℤ low) (n + k) (k + m) (less_sub z low n m k q p) (omega arith))
 
-pub code-difference : (low z : ℤ) → low ≤ℤ z → z -ℤ low ≡ pos (code low z)
-code-difference low z h =
+pub code_difference : (low z : ℤ) → low ≤ℤ z → z -ℤ low ≡ pos (code low z)
+code_difference low z h =
     let k = nat_abs low + nat_abs z in
     let m = over low k (omega arith) in
     let n = over z k (omega arith) in
-    less-same (z -ℤ low) (pos (code low z)) (n.0 + k) (k + m.0) (less-sub z low n.0 m.0 k n.1 m.1)
-    (omega (arith, code_sum low z m.0 n.0 k m.1 n.1 (le-less low z m.0 n.0 k m.1 n.1 h)))
+    less_same (z -ℤ low) (pos (code low z)) (n.0 + k) (k + m.0) (less_sub z low n.0 m.0 k n.1 m.1)
+    (omega (arith, code_sum low z m.0 n.0 k m.1 n.1 (le_less low z m.0 n.0 k m.1 n.1 h)))
 
 -- to the code and back
 pub code-decoded : (low : ℤ) (n : ℕ) → code low (decoded low n) ≡ n
 code-decoded low n = ap (λ z. nat_abs (z -ℤ low)) (+ℤ_comm low (pos n)) ∙ ap nat_abs (+ℤ-neg_ℤ_cancel (pos n) low)
 
 pub decoded-code : (low z : ℤ) → low ≤ℤ z → decoded low (code low z) ≡ z
-decoded-code low z h = rw (← code-difference low z h) (+ℤ_comm low (z -ℤ low) ∙ -ℤ-+ℤ_cancel z low)
+decoded-code low z h = rw (← code_difference low z h) (+ℤ_comm low (z -ℤ low) ∙ -ℤ-+ℤ_cancel z low)
 
 -- a code is the number that stands for its integer over the offset of low
-pub decoded-less : (low : ℤ) (n k : ℕ) → Less low 0 k → Less (decoded low n) n k
-decoded-less low n k p =
+pub decoded_less : (low : ℤ) (n k : ℕ) → Less low 0 k → Less (decoded low n) n k
+decoded_less low n k p =
     let i : 0 + n ≡ n = omega arith in
     let o : k + 0 ≡ k = omega arith in
     let q : n ≡ n + 0 = omega arith in
-    rw (i, o) at (less-add low (pos n) 0 n k 0 p q)
+    rw (i, o) at (less_add low (pos n) 0 n k 0 p q)
 
-pub code-less : (low z : ℤ) (k : ℕ) → Less low 0 k → low ≤ℤ z → Less z (code low z) k
-code-less low z k p h = rw (decoded-code low z h) at (decoded-less low (code low z) k p)
+pub code_less : (low z : ℤ) (k : ℕ) → Less low 0 k → low ≤ℤ z → Less z (code low z) k
+code_less low z k p h = rw (decoded-code low z h) at (decoded_less low (code low z) k p)
 
 -- a number is within where it is between, and its code is then at most the highest's
 pub within-yes : (low high z : ℤ) → within low high z ≡ true ↔ (low ≤ℤ z) × (z ≤ℤ high)
@@ -81,15 +81,15 @@ within-yes low high z =
       λ w. both.1 (is_true (le_z low z) w.0.le, is_true (le_z z high) w.1.le),
     )
 
-pub within-no : (low high z : ℤ) → within low high z ≡ false ↔ ((low ≤ℤ z) × (z ≤ℤ high) → ⊥)
-within-no low high z = (λ e w. true≢false (sym ((within-yes low high z).1 w) ∙ e), λ h. go h (within low high z) refl)
+pub within_no : (low high z : ℤ) → within low high z ≡ false ↔ ((low ≤ℤ z) × (z ≤ℤ high) → ⊥)
+within_no low high z = (λ e w. true≢false (sym ((within-yes low high z).1 w) ∙ e), λ h. go h (within low high z) refl)
   where
     go : ((low ≤ℤ z) × (z ≤ℤ high) → ⊥) → (b : Bool) → within low high z ≡ b → b ≡ false
     go h true e = absurd (h ((within-yes low high z).0 e))
     go h false e = refl
 
-pub within-less : (low high z : ℤ) (k : ℕ) → Less low 0 k → within low high z ≡ true → Less z (code low z) k
-within-less low high z k p e = code-less low z k p ((within-yes low high z).0 e).0
+pub within_less : (low high z : ℤ) (k : ℕ) → Less low 0 k → within low high z ≡ true → Less z (code low z) k
+within_less low high z k p e = code_less low z k p ((within-yes low high z).0 e).0
 
 pub code-most : (low high z : ℤ) → within low high z ≡ true → code low z ≤ code low high
 code-most low high z h =
@@ -98,18 +98,18 @@ code-most low high z h =
     let m = over low k (omega arith) in
     let n = over z k (omega arith) in
     let t = over high k (omega arith) in
-    let l = le-less low z m.0 n.0 k m.1 n.1 w.0 in
-    let u = le-less z high n.0 t.0 k n.1 t.1 w.1 in
+    let l = le_less low z m.0 n.0 k m.1 n.1 w.0 in
+    let u = le_less z high n.0 t.0 k n.1 t.1 w.1 in
     omega (arith, code_sum low z m.0 n.0 k m.1 n.1 l, code_sum low high m.0 t.0 k m.1 t.1 (omega arith))
 
-pub point-most : (z : ℤ) → within lowestPoint highestPoint z ≡ true → code lowestPoint z ≤ 5000
-point-most = code-most lowestPoint highestPoint
+pub point_most : (z : ℤ) → within lowest_point highest_point z ≡ true → code lowest_point z ≤ 5000
+point_most = code-most lowest_point highest_point
 
-pub rise-most : (z : ℤ) → within lowestRise highestRise z ≡ true → code lowestRise z ≤ 4000
-rise-most = code-most lowestRise highestRise
+pub rise-most : (z : ℤ) → within lowest_rise highest_rise z ≡ true → code lowest_rise z ≤ 4000
+rise-most = code-most lowest_rise highest_rise
 
-pub total-most : (z : ℤ) → within lowestTotal highestTotal z ≡ true → code lowestTotal z ≤ 2560000
-total-most = code-most lowestTotal highestTotal
+pub total-most : (z : ℤ) → within lowest_total highest_total z ≡ true → code lowest_total z ≤ 2560000
+total-most = code-most lowest_total highest_total
 
 -- what an answer says of the number
 pub coded-code : {r : Coded} (low high z : ℤ) (c : ℕ) → r ≡ coded low high z → r ≡ Code c → (within low high z ≡ true) × (c ≡ code low z)

@@ -10,64 +10,64 @@ use lib.ListN.{length, set, get_or}
 use mir.Syntax.{w16, w32}
 use mir.Val.{SFits, to_z, of_z}
 use mir.Facts.{to_z-of_z}
-use Rattle.limits.specs.Limits.{lowestSetpoint, highestSetpoint}
+use Rattle.limits.specs.Limits.{lowest_setpoint, highest_setpoint}
 use Rattle.theory_lists.specs.Written.{written}
 use Rattle.theory_lists.specs.Filled.{Filled, filled_none, filled_more, filled-all}
-use Rattle.theory_lists.specs.Some.{some_same, Told, told_none, told_more, told-all}
+use Rattle.theory_lists.specs.Some.{some_same, Told, told_none, told_more, told_all}
 use Rattle.base_codes.specs.declared.CodedCell.{CodedCell}
-use Rattle.base_codes.specs.Code.{within, decoded, on, every, codeOrZero, codedCell}
+use Rattle.base_codes.specs.Code.{within, decoded, on, every, code_or_zero, coded_cell}
 use Rattle.base_codes.proofs.Every.{every-yes, every_some}
-use Rattle.base_codes.proofs.Casts.{seen, setpoint-within, short-same, short-fits}
+use Rattle.base_codes.proofs.Casts.{seen, setpoint_within, short_same, short_fits}
 
 -- ---- n numbers f 0, f 1, .. of 16 bits coded in turn: the first i are, and whether one of them is outside its bounds is known
 
 pub record Coding (low high : ℤ) (f : ℕ → ℤ) (n : ℕ) (first : List ℕ) (i : ℕ) (out : List ℕ) (outside : Bool) : Type 0 where
   pub told : Told (λ k. not (within low high (f k))) n i outside
-  pub filled : Filled (λ k. codeOrZero low high (f k)) n i first out
-  pub short : (k : ℕ) → k < i → within lowestSetpoint highestSetpoint (f k) ≡ true
+  pub filled : Filled (λ k. code_or_zero low high (f k)) n i first out
+  pub short : (k : ℕ) → k < i → within lowest_setpoint highest_setpoint (f k) ≡ true
 
 -- what holds once all are, as a list
 abbrev Encoded : (ℕ → ℤ) → ℕ → List ℤ → List ℕ → Bool → List ℕ → ℤ → ℤ → Type 0
 Encoded f n zs first r out low high =
     (r ≡ not (every (within low high) zs))
-    × ((out ≡ written (λ k. codeOrZero low high (f k)) n first) × (every (within lowestSetpoint highestSetpoint) zs ≡ true))
+    × ((out ≡ written (λ k. code_or_zero low high (f k)) n first) × (every (within lowest_setpoint highest_setpoint) zs ≡ true))
 
 module _ {low high : ℤ} {f : ℕ → ℤ} {n : ℕ} {first : List ℕ} where
-  pub coding-none : Coding low high f n first 0 first false
-  coding-none = record { told = told_none; filled = filled_none; short = below_none _ }
+  pub coding_none : Coding low high f n first 0 first false
+  coding_none = record { told = told_none; filled = filled_none; short = below_none _ }
 
   module _ {i : ℕ} {out : List ℕ} {outside : Bool} (h : Coding low high f n first i out outside) where
     -- the number that a turn coded, read back from its bits
-    pub coding-more : {z : ℤ} {r : CodedCell} → i < n → SFits w16 z → z ≡ f i → r ≡ codedCell low high (to_z w16 (of_z w16 z))
+    pub coding_more : {z : ℤ} {r : CodedCell} → i < n → SFits w16 z → z ≡ f i → r ≡ coded_cell low high (to_z w16 (of_z w16 z))
         → Coding low high f n first (i + 1) (set out i r.code) (outside || r.outside)
-    coding-more l w e c =
-        let cell = c ∙ ap (codedCell low high) (to_z-of_z w ∙ e) in
+    coding_more l w e c =
+        let cell = c ∙ ap (coded_cell low high) (to_z-of_z w ∙ e) in
         record {
           told = told_more h.told l (ap (λ x. x.outside) cell);
           filled = filled_more h.filled l (ap (λ x. x.code) cell);
-          short = below_more _ i h.short (rw e at (setpoint-within w));
+          short = below_more _ i h.short (rw e at (setpoint_within w));
         }
 
-    pub coding-all : (zs : List ℤ) → length zs ≡ n → ((k : ℕ) → k < n → on zs k ≡ f k) → n ≤ i → Encoded f n zs first outside out low high
-    coding-all zs e same l =
-        let told = told-all h.told l ∙ some_same _ _ n (λ k u. ap (λ z. not (within low high z)) (sym (same k u))) in (
+    pub coding_all : (zs : List ℤ) → length zs ≡ n → ((k : ℕ) → k < n → on zs k ≡ f k) → n ≤ i → Encoded f n zs first outside out low high
+    coding_all zs e same l =
+        let told = told_all h.told l ∙ some_same _ _ n (λ k u. ap (λ z. not (within low high z)) (sym (same k u))) in (
           told ∙ sym (rw e at (every_some (within low high) zs)),
-          (filled-all h.filled l, every-yes (within lowestSetpoint highestSetpoint) zs (λ k u. rw (same k (omega arith)) (h.short k (omega arith)))),
+          (filled-all h.filled l, every-yes (within lowest_setpoint highest_setpoint) zs (λ k u. rw (same k (omega arith)) (h.short k (omega arith)))),
         )
 
 -- the bounds are known as they are read back
-pub coding-seen : {low high : ℤ} → SFits w32 low → SFits w32 high → (f : ℕ → ℤ) (n : ℕ) (zs : List ℤ) (first : List ℕ) {i : ℕ} {out : List ℕ} {outside : Bool}
+pub coding_seen : {low high : ℤ} → SFits w32 low → SFits w32 high → (f : ℕ → ℤ) (n : ℕ) (zs : List ℤ) (first : List ℕ) {i : ℕ} {out : List ℕ} {outside : Bool}
     → Coding (seen low) (seen high) f n first i out outside → length zs ≡ n → ((k : ℕ) → k < n → on zs k ≡ f k) → n ≤ i → Encoded f n zs first outside out low high
-coding-seen fl fh f n zs first h e same l = rw (to_z-of_z fl, to_z-of_z fh) at (coding-all h zs e same l)
+coding_seen fl fh f n zs first h e same l = rw (to_z-of_z fl, to_z-of_z fh) at (coding_all h zs e same l)
 
 -- ---- the loop of `decode_all` knows its bound as it is read back, and each number of 16 bits too
 module _ {low : ℤ} (fl : SFits w32 low) where
-  pub low-seen : within lowestSetpoint (pos 0) low ≡ true → within lowestSetpoint (pos 0) (seen low) ≡ true
-  low-seen h = rw (to_z-of_z fl) h
+  pub low_seen : within lowest_setpoint (pos 0) low ≡ true → within lowest_setpoint (pos 0) (seen low) ≡ true
+  low_seen h = rw (to_z-of_z fl) h
 
-  pub short-seen : {z : ℤ} {n : ℕ} → (within lowestSetpoint (pos 0) low ≡ true) × (n ≤ 32767) → z ≡ decoded (seen low) n → to_z w16 (of_z w16 z) ≡ decoded (seen low) n
-  short-seen h e = to_z-of_z (short-fits fl h (short-same fl h e)) ∙ e
+  pub short_seen : {z : ℤ} {n : ℕ} → (within lowest_setpoint (pos 0) low ≡ true) × (n ≤ 32767) → z ≡ decoded (seen low) n → to_z w16 (of_z w16 z) ≡ decoded (seen low) n
+  short_seen h e = to_z-of_z (short_fits fl h (short_same fl h e)) ∙ e
 
-  pub decoded-seen : (codes : List ℕ) (n : ℕ) (first out : List ℤ) → out ≡ written (λ k. decoded (seen low) (get_or codes k 0)) n first
+  pub decoded_seen : (codes : List ℕ) (n : ℕ) (first out : List ℤ) → out ≡ written (λ k. decoded (seen low) (get_or codes k 0)) n first
       → out ≡ written (λ k. decoded low (get_or codes k 0)) n first
-  decoded-seen codes n first out e = rw (to_z-of_z fl) at e
+  decoded_seen codes n first out e = rw (to_z-of_z fl) at e

@@ -27,8 +27,8 @@ abbrev pub coded : ℤ → ℤ → ℤ → Coded
 coded low high z = cond (within low high z) (Code (code low z)) Outside
 
 -- a number's code, or 0 where it is outside
-abbrev pub codeOrZero : ℤ → ℤ → ℤ → ℕ
-codeOrZero low high z = cond (within low high z) (code low z) 0
+abbrev pub code_or_zero : ℤ → ℤ → ℤ → ℕ
+code_or_zero low high z = cond (within low high z) (code low z) 0
 
-abbrev pub codedCell : ℤ → ℤ → ℤ → CodedCell
-codedCell low high z = record { code = codeOrZero low high z; outside = not (within low high z) }
+abbrev pub coded_cell : ℤ → ℤ → ℤ → CodedCell
+coded_cell low high z = record { code = code_or_zero low high z; outside = not (within low high z) }

@@ -1,9 +1,9 @@
 // The border between signed numbers within bounds and the unsigned numbers that the other crates work with: a number's code is how far it is above its
 // lowest bound. The bounds are the caller's.
 ghost use Rattle.std.specs.Prelude.{◌≡◌, true, not, ℕ, ◌≤◌, ◌<◌, pos, length, get_or, ◌≤ℤ◌};
-ghost use Rattle.limits.specs.Limits.{mostDays, lowestSetpoint, highestSetpoint};
+ghost use Rattle.limits.specs.Limits.{most_days, lowest_setpoint, highest_setpoint};
 ghost use Rattle.theory_lists.specs.Written.{written};
-ghost use Rattle.base_codes.specs.Code.{within, code, decoded, on, every, coded, codeOrZero, codedCell};
+ghost use Rattle.base_codes.specs.Code.{within, code, decoded, on, every, coded, code_or_zero, coded_cell};
 
 use limits::MOST_DAYS;
 
@@ -46,7 +46,7 @@ pub fn code(z: i32, low: i32, high: i32) -> Coded
 // The same in 16 bits: the code, 0 where the number is outside, and whether it is.
 pub fn code_cell(z: i16, low: i32, high: i32) -> CodedCell
     requires { code low high ≤ 65535 }
-    ensures { result ≡ codedCell low high z }
+    ensures { result ≡ coded_cell low high z }
 {
     let Coded::Code(c) = code(z as i32, low, high) else {
         return CodedCell {
@@ -62,10 +62,10 @@ pub fn code_cell(z: i16, low: i32, high: i32) -> CodedCell
 
 // Stores the code of each number, 0 for one outside its bounds, and says whether there is one. All have 16 bits.
 pub fn code_all(xs: &[i16], low: i32, high: i32, out: &mut [u16; MOST_DAYS]) -> bool
-    requires { (code low high ≤ 65535) × (length xs.now ≤ mostDays) }
+    requires { (code low high ≤ 65535) × (length xs.now ≤ most_days) }
     ensures value { result ≡ not (every (within low high) xs.now) }
-    ensures out_after { out.new ≡ written (λ k. codeOrZero low high (on xs.now k)) (length xs.now) out.old }
-    ensures xs_value { every (within lowestSetpoint highestSetpoint) xs.now ≡ true }
+    ensures out_after { out.new ≡ written (λ k. code_or_zero low high (on xs.now k)) (length xs.now) out.old }
+    ensures xs_value { every (within lowest_setpoint highest_setpoint) xs.now ≡ true }
 {
     let mut outside = false;
     let mut i = 0;
@@ -88,7 +88,7 @@ pub fn decode(n: usize, low: i32) -> i32
 
 // The same in 16 bits.
 pub fn decode_short(n: u16, low: i32) -> i16
-    requires { (within lowestSetpoint (pos 0) low ≡ true) × (n ≤ 32767) }
+    requires { (within lowest_setpoint (pos 0) low ≡ true) × (n ≤ 32767) }
     ensures { result ≡ decoded low n }
 {
     decode(n as usize, low) as i16
@@ -96,7 +96,7 @@ pub fn decode_short(n: u16, low: i32) -> i16
 
 // Stores the numbers of the first n codes.
 pub fn decode_all(codes: &[u16; MOST_DAYS], n: usize, low: i32, out: &mut [i16])
-    requires { (within lowestSetpoint (pos 0) low ≡ true) × (n ≤ mostDays) × (n ≤ length out.old) × ((k : ℕ) → k < n → get_or codes.now k 0 ≤ 32767) }
+    requires { (within lowest_setpoint (pos 0) low ≡ true) × (n ≤ most_days) × (n ≤ length out.old) × ((k : ℕ) → k < n → get_or codes.now k 0 ≤ 32767) }
     ensures { out.new ≡ written (λ k. decoded low (get_or codes.now k 0)) n out.old }
 {
     let mut k = 0;

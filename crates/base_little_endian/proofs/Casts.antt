@@ -23,8 +23,8 @@ halves w64 = refl
 halves w128 = refl
 
 -- bits with the highest one set
-toZ-high : (w : Width) (x : ℕ) → half w ≤ x → to_z w x ≡ negsuc (2 ^ bits w - suc x)
-toZ-high w x h = rw (le-ltb x (half w) h)
+to_z-high : (w : Width) (x : ℕ) → half w ≤ x → to_z w x ≡ negsuc (2 ^ bits w - suc x)
+to_z-high w x h = rw (le-ltb x (half w) h)
 
 -- their number is above the lowest one by the other bits
 module _ (w : Width) {x : ℕ} (f : Fits w x) (h : half w ≤ x) where
@@ -35,13 +35,13 @@ module _ (w : Width) {x : ℕ} (f : Fits w x) (h : half w ≤ x) where
       let low : x - half w < suc (2 ^ bits w - suc (half w)) = omega arith in
       let e : suc (2 ^ bits w - suc (half w)) - suc (x - half w) ≡ 2 ^ bits w - suc x = omega arith in
       let less : x - half w < half w = omega arith in
-      rw (toZ-high w (half w) (omega arith), to_z_pos w {n = x - half w} less, toZ-high w x h, lt-ltb (x - half w) (suc (2 ^ bits w - suc (half w))) low, e)
+      rw (to_z-high w (half w) (omega arith), to_z_pos w {n = x - half w} less, to_z-high w x h, lt-ltb (x - half w) (suc (2 ^ bits w - suc (half w))) low, e)
 
-  pub add-fits : SFits w (to_z w (half w) +ℤ to_z w (x - half w))
-  add-fits = rw sum (sfits_to_z f)
+  pub add_fits : SFits w (to_z w (half w) +ℤ to_z w (x - half w))
+  add_fits = rw sum (sfits_to_z f)
 
   pub signed : to_z w (of_z w (to_z w (half w) +ℤ to_z w (x - half w))) ≡ to_z w x
-  signed = to_z-of_z add-fits ∙ sum
+  signed = to_z-of_z add_fits ∙ sum
 
 -- a negative number is above the lowest one by its bits without the highest one
 distance : (w : Width) (z : ℤ) → SFits w z → lt_z z (pos 0) ≡ true → (z -ℤ to_z w (half w) ≡ pos (of_z w z - half w)) × (half w ≤ of_z w z)
@@ -51,7 +51,7 @@ distance w (negsuc a) f t =
     let g = f.sfits in
     let no : suc a ≤ suc (2 ^ bits w - suc (half w)) = omega arith in
     let e : suc (2 ^ bits w - suc (half w)) - suc a ≡ 2 ^ bits w - suc a - half w = omega arith in
-    (rw (toZ-high w (half w) (omega arith), le-ltb (suc (2 ^ bits w - suc (half w))) (suc a) no, e), omega arith)
+    (rw (to_z-high w (half w) (omega arith), le-ltb (suc (2 ^ bits w - suc (half w))) (suc a) no, e), omega arith)
 
 -- any other number is its bits
 whole : (w : Width) (z : ℤ) → lt_z z (pos 0) ≡ false → T (non_neg z) × (nat_abs z ≡ of_z w z)
@@ -76,14 +76,14 @@ module _ (w : Width) {z : ℤ} (f : SFits w z) where
     same : to_z w (of_z w far) ≡ pos (of_z w z - half w)
     same = to_z-of_z sub-fits ∙ known.0
 
-    pub distance-fits : T (non_neg (to_z w (of_z w far))) × Fits w (nat_abs (to_z w (of_z w far)))
-    distance-fits = rw same (tt, record { fits = omega (arith, (Fits-of_z f).fits) })
+    pub distance_fits : T (non_neg (to_z w (of_z w far))) × Fits w (nat_abs (to_z w (of_z w far)))
+    distance_fits = rw same (tt, record { fits = omega (arith, (Fits-of_z f).fits) })
 
-    pub negative-bits : nat_abs (to_z w (of_z w far)) + half w ≡ of_z w z
-    negative-bits = rw same (omega (arith, known.1))
+    pub negative_bits : nat_abs (to_z w (of_z w far)) + half w ≡ of_z w z
+    negative_bits = rw same (omega (arith, known.1))
 
     pub negative_fits : Fits w (nat_abs (to_z w (of_z w far)) + half w)
-    negative_fits = rw negative-bits (Fits-of_z f)
+    negative_fits = rw negative_bits (Fits-of_z f)
 
   module _ (t : lt_z seen (pos 0) ≡ false) where
     same_whole : T (non_neg seen) × (nat_abs seen ≡ of_z w z)
@@ -105,8 +105,8 @@ module _ {z : ℤ} (f : SFits w16 z) where
   wide : SFits w32 z
   wide = sfits_widen {w = w16} tt f
 
-  pub widened-fits : SFits w32 (to_z w16 (of_z w16 z))
-  widened-fits = rw (to_z-of_z f) wide
+  pub widened_fits : SFits w32 (to_z w16 (of_z w16 z))
+  widened_fits = rw (to_z-of_z f) wide
 
-  pub widened-bits : {r : ℕ} → r ≡ of_z w32 (to_z w32 (of_z w32 (to_z w16 (of_z w16 z)))) → r % 65536 ≡ of_z w16 z
-  widened-bits e = rw (e, to_z-of_z f, to_z-of_z wide) (low_bits z f)
+  pub widened_bits : {r : ℕ} → r ≡ of_z w32 (to_z w32 (of_z w32 (to_z w16 (of_z w16 z)))) → r % 65536 ≡ of_z w16 z
+  widened_bits e = rw (e, to_z-of_z f, to_z-of_z wide) (low_bits z f)

@@ -12,63 +12,63 @@ use mir.Syntax.{w16, w32}
 use mir.Val.{SFits, to_z, of_z}
 use mir.Facts.{to_z-of_z, of_z-to_z}
 use Rattle.theory_lists.specs.Sum.{at}
-use Rattle.theory_lists.specs.Part.{Part, part_left, part_right, part-both}
-use Rattle.base_little_endian.specs.Fields.{Bytes, u16At, u32_at, i16At, i32At, u16Bytes, u32Bytes, i16Bytes, i32Bytes}
+use Rattle.theory_lists.specs.Part.{Part, part_left, part_right, part_both}
+use Rattle.base_little_endian.specs.Fields.{Bytes, u16_at, u32_at, i16_at, i32_at, u16_bytes, u32_bytes, i16_bytes, i32_bytes}
 
-pub u16-length : (n : ℕ) → length (u16Bytes n) ≡ 2
-unfolding u16Bytes
+pub u16-length : (n : ℕ) → length (u16_bytes n) ≡ 2
+unfolding u16_bytes
 u16-length n = refl
 
-pub u32-length : (n : ℕ) → length (u32Bytes n) ≡ 4
-unfolding u32Bytes u16Bytes
-u32-length n = refl
+pub u32_length : (n : ℕ) → length (u32_bytes n) ≡ 4
+unfolding u32_bytes u16_bytes
+u32_length n = refl
 
-pub i16-length : (z : ℤ) → length (i16Bytes z) ≡ 2
-unfolding i16Bytes
-i16-length z = u16-length (of_z w16 z)
+pub i16_length : (z : ℤ) → length (i16_bytes z) ≡ 2
+unfolding i16_bytes
+i16_length z = u16-length (of_z w16 z)
 
-pub i32-length : (z : ℤ) → length (i32Bytes z) ≡ 4
-unfolding i32Bytes
-i32-length z = u32-length (of_z w32 z)
+pub i32_length : (z : ℤ) → length (i32_bytes z) ≡ 4
+unfolding i32_bytes
+i32_length z = u32_length (of_z w32 z)
 
 -- a signed field is 0 where its bits are
-pub zero_field : (b : List ℕ) (i : ℕ) → eqb (nat_abs (i16At b i)) 0 ≡ eqb (u16At b i) 0
-unfolding i16At
-zero_field b i = go (dec_lt (u16At b i) 32768)
+pub zero_field : (b : List ℕ) (i : ℕ) → eqb (nat_abs (i16_at b i)) 0 ≡ eqb (u16_at b i) 0
+unfolding i16_at
+zero_field b i = go (dec_lt (u16_at b i) 32768)
   where
-    go : Dec (u16At b i < 32768) → eqb (nat_abs (to_z w16 (u16At b i))) 0 ≡ eqb (u16At b i) 0
-    go (yes h) = rw (lt-ltb (u16At b i) 32768 h) refl
-    go (no h) = rw (le-ltb (u16At b i) 32768 (omega arith), ne_eqb (u16At b i) 0 (λ z. omega arith)) (ne_eqb (suc (65536 - suc (u16At b i))) 0 (λ z. omega arith))
+    go : Dec (u16_at b i < 32768) → eqb (nat_abs (to_z w16 (u16_at b i))) 0 ≡ eqb (u16_at b i) 0
+    go (yes h) = rw (lt-ltb (u16_at b i) 32768 h) refl
+    go (no h) = rw (le-ltb (u16_at b i) 32768 (omega arith), ne_eqb (u16_at b i) 0 (λ z. omega arith)) (ne_eqb (suc (65536 - suc (u16_at b i))) 0 (λ z. omega arith))
 
 -- ---- read back
 
 module _ {b : List ℕ} where
-  pub u16-read : {i : ℕ} (n : ℕ) → Part b i (u16Bytes n) → u16At b i ≡ n
-  unfolding u16Bytes u16At
+  pub u16-read : {i : ℕ} (n : ℕ) → Part b i (u16_bytes n) → u16_at b i ≡ n
+  unfolding u16_bytes u16_at
   u16-read {i} n p =
       let low : at b (i + 0) ≡ n % 256 = p.has 0 (omega arith) in
       let high : at b (i + 1) ≡ n / 256 = p.has 1 (omega arith) in
       let z : i + 0 ≡ i = omega arith in
       omega (arith, rw z at low, high)
 
-  u32-read : {i : ℕ} (n : ℕ) → Part b i (u32Bytes n) → u32_at b i ≡ n
-  unfolding u32Bytes u32_at
-  u32-read {i} n p =
-      let low : u16At b i ≡ n % 65536 = u16-read (n % 65536) (part_left (u16Bytes (n % 65536)) (u16Bytes (n / 65536)) (u16-length (n % 65536)) p) in
-      let high : u16At b (i + 2) ≡ n / 65536 = u16-read (n / 65536) (part_right (u16Bytes (n % 65536)) (u16Bytes (n / 65536)) (u16-length (n % 65536)) p) in
+  u32_read : {i : ℕ} (n : ℕ) → Part b i (u32_bytes n) → u32_at b i ≡ n
+  unfolding u32_bytes u32_at
+  u32_read {i} n p =
+      let low : u16_at b i ≡ n % 65536 = u16-read (n % 65536) (part_left (u16_bytes (n % 65536)) (u16_bytes (n / 65536)) (u16-length (n % 65536)) p) in
+      let high : u16_at b (i + 2) ≡ n / 65536 = u16-read (n / 65536) (part_right (u16_bytes (n % 65536)) (u16_bytes (n / 65536)) (u16-length (n % 65536)) p) in
       omega (arith, low, high)
 
-  pub i16-read : {i : ℕ} (z : ℤ) → SFits w16 z → Part b i (i16Bytes z) → i16At b i ≡ z
-  unfolding i16Bytes i16At
-  i16-read z f p = rw (u16-read (of_z w16 z) p) (to_z-of_z f)
+  pub i16_read : {i : ℕ} (z : ℤ) → SFits w16 z → Part b i (i16_bytes z) → i16_at b i ≡ z
+  unfolding i16_bytes i16_at
+  i16_read z f p = rw (u16-read (of_z w16 z) p) (to_z-of_z f)
 
-  pub zero-read : {i : ℕ} → Part b i (i16Bytes (pos 0)) → u16At b i ≡ 0
-  unfolding i16Bytes
+  pub zero-read : {i : ℕ} → Part b i (i16_bytes (pos 0)) → u16_at b i ≡ 0
+  unfolding i16_bytes
   zero-read p = u16-read 0 p
 
-  pub i32-read : {i : ℕ} (z : ℤ) → SFits w32 z → Part b i (i32Bytes z) → i32At b i ≡ z
-  unfolding i32Bytes i32At
-  i32-read z f p = rw (u32-read (of_z w32 z) p) (to_z-of_z f)
+  pub i32_read : {i : ℕ} (z : ℤ) → SFits w32 z → Part b i (i32_bytes z) → i32_at b i ≡ z
+  unfolding i32_bytes i32_at
+  i32_read z f p = rw (u32_read (of_z w32 z) p) (to_z-of_z f)
 
 -- ---- the bytes of what is read
 
@@ -81,34 +81,34 @@ two b i x y e f = record { has = go }
     go (suc (suc j)) h = absurd (omega arith)
 
 module _ {b : List ℕ} (bytes : Bytes b) (i : ℕ) where
-  pub u16-most : u16At b i < 65536
-  unfolding u16At
+  pub u16-most : u16_at b i < 65536
+  unfolding u16_at
   u16-most = omega (arith, bytes.small i, bytes.small (i + 1))
 
-  pub u16-part : Part b i (u16Bytes (u16At b i))
-  unfolding u16Bytes u16At
-  u16-part = two b i _ _ (omega (arith, bytes.small i, bytes.small (i + 1))) (omega (arith, bytes.small i, bytes.small (i + 1)))
+  pub u16_part : Part b i (u16_bytes (u16_at b i))
+  unfolding u16_bytes u16_at
+  u16_part = two b i _ _ (omega (arith, bytes.small i, bytes.small (i + 1))) (omega (arith, bytes.small i, bytes.small (i + 1)))
 
-  pub i16-part : Part b i (i16Bytes (i16At b i))
-  unfolding i16Bytes i16At
-  i16-part = rw (of_z-to_z {w = w16} {n = u16At b i} (record { fits = u16-most })) u16-part
+  pub i16_part : Part b i (i16_bytes (i16_at b i))
+  unfolding i16_bytes i16_at
+  i16_part = rw (of_z-to_z {w = w16} {n = u16_at b i} (record { fits = u16-most })) u16_part
 
-  pub zero-part : u16At b i ≡ 0 → Part b i (i16Bytes (pos 0))
-  unfolding i16Bytes
-  zero-part e = rw e at u16-part
+  pub zero_part : u16_at b i ≡ 0 → Part b i (i16_bytes (pos 0))
+  unfolding i16_bytes
+  zero_part e = rw e at u16_part
 
 module _ {b : List ℕ} (bytes : Bytes b) (i : ℕ) where
-  u32-most : u32_at b i < 4294967296
+  u32_most : u32_at b i < 4294967296
   unfolding u32_at
-  u32-most = omega (arith, u16-most bytes i, u16-most bytes (i + 2))
+  u32_most = omega (arith, u16-most bytes i, u16-most bytes (i + 2))
 
-  u32-part : Part b i (u32Bytes (u32_at b i))
-  unfolding u32Bytes u32_at
-  u32-part =
-      let low : u32_at b i % 65536 ≡ u16At b i = omega (arith, u16-most bytes i, u16-most bytes (i + 2)) in
-      let high : u32_at b i / 65536 ≡ u16At b (i + 2) = omega (arith, u16-most bytes i, u16-most bytes (i + 2)) in
-      rw (low, high) (part-both (u16Bytes (u16At b i)) (u16Bytes (u16At b (i + 2))) (u16-length (u16At b i)) (u16-part bytes i) (u16-part bytes (i + 2)))
+  u32_part : Part b i (u32_bytes (u32_at b i))
+  unfolding u32_bytes u32_at
+  u32_part =
+      let low : u32_at b i % 65536 ≡ u16_at b i = omega (arith, u16-most bytes i, u16-most bytes (i + 2)) in
+      let high : u32_at b i / 65536 ≡ u16_at b (i + 2) = omega (arith, u16-most bytes i, u16-most bytes (i + 2)) in
+      rw (low, high) (part_both (u16_bytes (u16_at b i)) (u16_bytes (u16_at b (i + 2))) (u16-length (u16_at b i)) (u16_part bytes i) (u16_part bytes (i + 2)))
 
-  pub i32-part : Part b i (i32Bytes (i32At b i))
-  unfolding i32Bytes i32At
-  i32-part = rw (of_z-to_z {w = w32} {n = u32_at b i} (record { fits = u32-most })) u32-part
+  pub i32_part : Part b i (i32_bytes (i32_at b i))
+  unfolding i32_bytes i32_at
+  i32_part = rw (of_z-to_z {w = w32} {n = u32_at b i} (record { fits = u32_most })) u32_part

@@ -3,7 +3,7 @@ ghost use Rattle.std.specs.Prelude.{◌≡◌, ◌+◌, ◌≤◌, ◌<◌, leng
 ghost use Rattle.std.proofs.lemmas.List.Edits.{sets};
 ghost use Rattle.std.specs.Int.{w16, w32};
 ghost use Rattle.std.proofs.Common.{to_z, of_z};
-ghost use Rattle.base_little_endian.specs.Fields.{u16At, u32_at, i16At, i32At, u16Bytes, u32Bytes, i16Bytes, i32Bytes};
+ghost use Rattle.base_little_endian.specs.Fields.{u16_at, u32_at, i16_at, i32_at, u16_bytes, u32_bytes, i16_bytes, i32_bytes};
 
 const LOWEST_I16: i16 = -32768;
 
@@ -61,7 +61,7 @@ fn bits_16(z: i16) -> u16
 
 pub fn u16_at(bytes: &[u8], at: usize) -> u16
     requires { at + 2 ≤ length bytes.now }
-    ensures { result ≡ u16At bytes.now at }
+    ensures { result ≡ u16_at bytes.now at }
 {
     let low = widened(bytes[at]);
     let high = widened(bytes[at + 1]);
@@ -79,14 +79,14 @@ fn u32_at(bytes: &[u8], at: usize) -> u32
 
 pub fn i16_at(bytes: &[u8], at: usize) -> i16
     requires { at + 2 ≤ length bytes.now }
-    ensures { result ≡ i16At bytes.now at }
+    ensures { result ≡ i16_at bytes.now at }
 {
     signed_16(u16_at(bytes, at))
 }
 
 pub fn i32_at(bytes: &[u8], at: usize) -> i32
     requires { at + 4 ≤ length bytes.now }
-    ensures { result ≡ i32At bytes.now at }
+    ensures { result ≡ i32_at bytes.now at }
 {
     signed_32(u32_at(bytes, at))
 }
@@ -95,7 +95,7 @@ pub fn i32_at(bytes: &[u8], at: usize) -> i32
 
 pub fn put_u16(out: &mut [u8], at: usize, x: u16)
     requires { at + 2 ≤ length out.old }
-    ensures { out.new ≡ sets out.old at (u16Bytes x) }
+    ensures { out.new ≡ sets out.old at (u16_bytes x) }
 {
     out[at] = (x % 256) as u8;
     out[at + 1] = (x / 256) as u8;
@@ -103,7 +103,7 @@ pub fn put_u16(out: &mut [u8], at: usize, x: u16)
 
 fn put_u32(out: &mut [u8], at: usize, x: u32)
     requires { at + 4 ≤ length out.old }
-    ensures { out.new ≡ sets out.old at (u32Bytes x) }
+    ensures { out.new ≡ sets out.old at (u32_bytes x) }
 {
     put_u16(out, at, (x % 65536) as u16);
     put_u16(out, at + 2, (x / 65536) as u16);
@@ -111,14 +111,14 @@ fn put_u32(out: &mut [u8], at: usize, x: u32)
 
 pub fn put_i16(out: &mut [u8], at: usize, z: i16)
     requires { at + 2 ≤ length out.old }
-    ensures { out.new ≡ sets out.old at (i16Bytes z) }
+    ensures { out.new ≡ sets out.old at (i16_bytes z) }
 {
     put_u16(out, at, bits_16(z));
 }
 
 pub fn put_i32(out: &mut [u8], at: usize, z: i32)
     requires { at + 4 ≤ length out.old }
-    ensures { out.new ≡ sets out.old at (i32Bytes z) }
+    ensures { out.new ≡ sets out.old at (i32_bytes z) }
 {
     put_u32(out, at, bits_32(z));
 }

@@ -1,7 +1,7 @@
 // Casts between a level's 16 bits and a local of the machine's or of 32 bits, the smaller and the larger of two numbers: `min` and `max` of the machine's
 // width, `smaller` and `larger` of 32 bits; and one level less another.
 ghost use Rattle.std.specs.Prelude.{◌≡◌, ◌-◌, ◌≤◌, ◌<◌, min, max};
-ghost use Rattle.limits.specs.Limits.{highestLevel};
+ghost use Rattle.limits.specs.Limits.{highest_level};
 
 pub fn wide(x: u16) -> usize
     ensures { (result ≡ x) × (result < 65536) }
@@ -16,7 +16,7 @@ pub fn word(x: u16) -> u32
 }
 
 pub fn narrow(x: usize) -> u16
-    requires { x ≤ highestLevel }
+    requires { x ≤ highest_level }
     ensures { result ≡ x }
 {
     x as u16

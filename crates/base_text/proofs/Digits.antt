@@ -30,13 +30,13 @@ pub decimal-small : (n : ℕ) → n < 10 → decimal n ≡ (48 + n) ∷ []
 unfolding decimal digits
 decimal-small n h = rw (lt-ltb n 10 h)
 
-pub decimal-large : (n : ℕ) → 9 < n → decimal n ≡ decimal (n / 10) ++ (48 + n % 10) ∷ []
+pub decimal_large : (n : ℕ) → 9 < n → decimal n ≡ decimal (n / 10) ++ (48 + n % 10) ∷ []
 unfolding decimal digits
-decimal-large n h = rw (le-ltb n 10 (omega arith), digits-all n (suc (n / 10)) (n / 10) (omega arith) (omega arith)) refl
+decimal_large n h = rw (le-ltb n 10 (omega arith), digits-all n (suc (n / 10)) (n / 10) (omega arith) (omega arith)) refl
 
 -- one digit more
-pub length-large : (n : ℕ) → 9 < n → length (decimal n) ≡ length (decimal (n / 10)) + 1
-length-large n h = rw (decimal-large n h) (length-append (decimal (n / 10)) ((48 + n % 10) ∷ []))
+pub length_large : (n : ℕ) → 9 < n → length (decimal n) ≡ length (decimal (n / 10)) + 1
+length_large n h = rw (decimal_large n h) (length-append (decimal (n / 10)) ((48 + n % 10) ∷ []))
 
 -- a number below 10 ^ (d + 1) has at most d + 1 digits
 pub decimal-length : (d n : ℕ) → n < 10 ^ (d + 1) → length (decimal n) ≤ d + 1
@@ -48,7 +48,7 @@ decimal-length d n h = go d n (rw (add-one d) at h)
       where
         pick : Dec (m < 10) → length (decimal (m / 10)) ≤ e + 1 → length (decimal m) ≤ suc e + 1
         pick (yes s) i = rw (decimal-small m s) (omega arith)
-        pick (no s) i = omega (arith, length-large m (omega arith))
+        pick (no s) i = omega (arith, length_large m (omega arith))
 
 -- a number that is at least - 10 ^ (d + 1) + 1 and below 10 ^ (d + 2) takes at most d + 2 places
 pub number-length : (d n k : ℕ) (z : ℤ) → negsuc k ≤ℤ z → z ≤ℤ pos n → k + 1 < 10 ^ (d + 1) → n < 10 ^ (d + 2) → length (number z) ≤ d + 2

@@ -15,9 +15,9 @@ use mir.Syntax.{w32, w64}
 use mir.Val.{Fits, SFits, to_z, of_z}
 use mir.Facts.{to_z-of_z, not_T}
 use borrow.Author.Tests.{le-ltb}
-use Rattle.theory_lists.specs.Rows.{sets-append}
+use Rattle.theory_lists.specs.Rows.{sets_append}
 use Rattle.base_text.specs.Numbers.{decimal, number}
-use Rattle.base_text.proofs.Digits.{decimal-small, decimal-large}
+use Rattle.base_text.proofs.Digits.{decimal-small, decimal_large}
 
 -- what stands before the last digit of n is stored: with that digit stored too all of n is
 pub record Led (n place : ℕ) (l : List ℕ) (next : ℕ) (out : List ℕ) : Type 0 where
@@ -26,19 +26,19 @@ pub record Led (n place : ℕ) (l : List ℕ) (next : ℕ) (out : List ℕ) : Ty
   pub made : set out next (48 + n % 10) ≡ sets l place (decimal n)
 
 module _ {n place : ℕ} {l : List ℕ} where
-  pub led-small : {next : ℕ} {out : List ℕ} → n < 10 → out ≡ l → next ≡ place → Led n place l next out
-  led-small h e p =
+  pub led_small : {next : ℕ} {out : List ℕ} → n < 10 → out ≡ l → next ≡ place → Led n place l next out
+  led_small h e p =
       let d = decimal-small n h in
       let m : n % 10 ≡ n = mod-eq_of_lt h in
       record { ends = rw (p, d) refl; kept = ap length e; made = rw (e, p, d, m) refl }
 
-  pub led-large : {next : ℕ} {out : List ℕ} → 9 < n → out ≡ sets l place (decimal (n / 10)) → next ≡ place + length (decimal (n / 10)) → Led n place l next out
-  led-large {next} {out} h e p =
-      let d = decimal-large n h in
+  pub led_large : {next : ℕ} {out : List ℕ} → 9 < n → out ≡ sets l place (decimal (n / 10)) → next ≡ place + length (decimal (n / 10)) → Led n place l next out
+  led_large {next} {out} h e p =
+      let d = decimal_large n h in
       record {
         ends = rw d (omega (arith, length-append (decimal (n / 10)) ((48 + n % 10) ∷ [])));
         kept = rw e (length-sets l place (decimal (n / 10)));
-        made = rw (e, p, d) (sets-append (decimal (n / 10)) ((48 + n % 10) ∷ []) l place);
+        made = rw (e, p, d) (sets_append (decimal (n / 10)) ((48 + n % 10) ∷ []) l place);
       }
 
 -- ---- a number of 32 bits and its bits
@@ -82,8 +82,8 @@ module _ {z : ℤ} (f : SFits w32 z) where
     pub cast_fits : T (non_neg (seen (negsuc 0 -ℤ seen z))) × Fits w64 (nat_abs (seen (negsuc 0 -ℤ seen z)))
     cast_fits = rw same (tt, record { fits = omega (arith, f.sfits) })
 
-    pub add-fits : Fits w64 (nat_abs (seen (negsuc 0 -ℤ seen z)) + 1)
-    add-fits = rw same (record { fits = omega (arith, f.sfits) })
+    pub add_fits : Fits w64 (nat_abs (seen (negsuc 0 -ℤ seen z)) + 1)
+    add_fits = rw same (record { fits = omega (arith, f.sfits) })
 
     pub magnitude : nat_abs (seen (negsuc 0 -ℤ seen z)) + 1 ≡ nat_abs z
     magnitude = rw same (one_more z h)

@@ -10,27 +10,27 @@ use lib.ListN.{length, drop, length-drop, replicate}
 use lib.Seq.{sets}
 use borrow.Author.Tests.{ltb-false, ne_eqb}
 use Rattle.theory_lists.specs.Checks.{or-false}
-use Rattle.theory_lists.specs.Lent.{lentList}
+use Rattle.theory_lists.specs.Lent.{lent_list}
 use Rattle.theory_lists.specs.Rows.{front-sets}
 use Rattle.base_codes.specs.Code.{on}
-use Rattle.c_lists.specs.Lists.{pointBytes, lentPoints}
-use Rattle.c_lists.proofs.Laws.{Handing, points-stored}
-use Rattle.file_format.specs.Format.{dayOffset, dayCount, cutCount, floorAt, ceilingAt, riseAt}
-use Rattle.file_format.specs.Reading.{earlyReading}
+use Rattle.c_lists.specs.Lists.{point_bytes, lent_points}
+use Rattle.c_lists.proofs.Laws.{Handing, points_stored}
+use Rattle.file_format.specs.Format.{day_offset, day_count, cut_count, floor_at, ceiling_at, rise_at}
+use Rattle.file_format.specs.Reading.{early_reading}
 use Rattle.file_format.proofs.Taken.{Taken, not-refused}
 use Rattle.file_reading.specs.declared.ReadAnswer.{ReadAnswer}
-use Rattle.file_reading.specs.Reading.{contents, readFrom}
+use Rattle.file_reading.specs.Reading.{contents, read_from}
 use Rattle.file_reading.proofs.Laws.{read_number, read_taken}
 use Rattle.c_files.specs.declared.Contents.{Contents}
-use Rattle.c_files.specs.Reading.{noRoomOver, readingRefusalOver, refusedContents, readInto, cutsLent}
+use Rattle.c_files.specs.Reading.{no_room_over, reading_refusal_over, refused_contents, read_into, cuts_lent}
 
 -- what the reader of files found, where it refused nothing
 pub record Found (b : List ℕ) (r : ReadAnswer) : Type 0 where
   pub taken : Taken b
-  pub days : r.numbers.days ≡ dayCount b
+  pub days : r.numbers.days ≡ day_count b
   pub all : r ≡ contents b
 
-pub found : (b : List ℕ) {r : ReadAnswer} → r ≡ readFrom b 512 512 512 → r.refusal ≡ 0 → Found b r
+pub found : (b : List ℕ) {r : ReadAnswer} → r ≡ read_from b 512 512 512 → r.refusal ≡ 0 → Found b r
 unfolding contents
 found b e z =
     let t = read_taken b 512 512 512 (sym (ap (λ a. a.refusal) e) ∙ z) in
@@ -43,7 +43,7 @@ pub record Room (n m floors ceilings rises cuts : ℕ) : Type 0 where
   pub rises-long : (n - 1) * 2 ≤ rises
   pub cuts-long : m * 8 ≤ cuts
 
-pub roomy : (n m floors ceilings rises cuts : ℕ) → noRoomOver n m floors ceilings rises cuts ≡ false → Room n m floors ceilings rises cuts
+pub roomy : (n m floors ceilings rises cuts : ℕ) → no_room_over n m floors ceilings rises cuts ≡ false → Room n m floors ceilings rises cuts
 roomy n m floors ceilings rises cuts e =
     let low : Bool = ltb (floors / 2) n in
     let high : Bool = ltb (ceilings / 2) n in
@@ -62,52 +62,52 @@ module _ (b fs cs rs ks : List ℕ) where
   -- what `read` ensures
   abbrev Answers : Contents → List ℕ → List ℕ → List ℕ → List ℕ → Type 0
   Answers r floors ceilings rises cuts =
-      (r ≡ readInto b (length fs) (length cs) (length rs) (length ks))
-      × ((floors ≡ lentPoints r.refusal (floorAt b) (dayCount b) fs)
-      × ((ceilings ≡ lentPoints r.refusal (ceilingAt b) (dayCount b) cs)
-      × ((rises ≡ lentPoints r.refusal (riseAt b) (dayCount b - 1) rs)
-      × (cuts ≡ cutsLent r.refusal b ks))))
+      (r ≡ read_into b (length fs) (length cs) (length rs) (length ks))
+      × ((floors ≡ lent_points r.refusal (floor_at b) (day_count b) fs)
+      × ((ceilings ≡ lent_points r.refusal (ceiling_at b) (day_count b) cs)
+      × ((rises ≡ lent_points r.refusal (rise_at b) (day_count b - 1) rs)
+      × (cuts ≡ cuts_lent r.refusal b ks))))
 
-  refused : (number : ℕ) {r : Contents} → readingRefusalOver b (length fs) (length cs) (length rs) (length ks) ≡ number → (number ≡ 0 → ⊥) → r ≡ refusedContents number → Answers r fs cs rs ks
-  unfolding readInto lentPoints cutsLent
+  refused : (number : ℕ) {r : Contents} → reading_refusal_over b (length fs) (length cs) (length rs) (length ks) ≡ number → (number ≡ 0 → ⊥) → r ≡ refused_contents number → Answers r fs cs rs ks
+  unfolding read_into lent_points cuts_lent
   refused number e x a =
       let test = ne_eqb number 0 x in
       let z = ap (λ (s : Contents). s.refusal) a in
       (rw (e, test) a, (rw (z, test), (rw (z, test), (rw (z, test), rw (z, test)))))
 
-  pub bad-file : {a : ReadAnswer} {r : Contents} → a ≡ readFrom b 512 512 512 → (a.refusal ≡ 0 → ⊥) → r ≡ refusedContents a.refusal → Answers r fs cs rs ks
-  unfolding readingRefusalOver
-  bad-file {a} e x d =
-      let number : a.refusal ≡ earlyReading b = ap (λ s. s.refusal) e ∙ read_number b 512 512 512 (omega arith) (omega arith) (omega arith) in
+  pub bad_file : {a : ReadAnswer} {r : Contents} → a ≡ read_from b 512 512 512 → (a.refusal ≡ 0 → ⊥) → r ≡ refused_contents a.refusal → Answers r fs cs rs ks
+  unfolding reading_refusal_over
+  bad_file {a} e x d =
+      let number : a.refusal ≡ early_reading b = ap (λ s. s.refusal) e ∙ read_number b 512 512 512 (omega arith) (omega arith) (omega arith) in
       refused a.refusal (rw (← number, ne_eqb a.refusal 0 x) refl) x d
 
-  pub too_short : {a : ReadAnswer} {m : ℕ} {r : Contents} → Found b a → m ≡ cutCount b → noRoomOver a.numbers.days m (length fs) (length cs) (length rs) (length ks) ≡ true
-      → r ≡ refusedContents 2 → Answers r fs cs rs ks
-  unfolding readingRefusalOver
+  pub too_short : {a : ReadAnswer} {m : ℕ} {r : Contents} → Found b a → m ≡ cut_count b → no_room_over a.numbers.days m (length fs) (length cs) (length rs) (length ks) ≡ true
+      → r ≡ refused_contents 2 → Answers r fs cs rs ks
+  unfolding reading_refusal_over
   too_short here em e d = refused 2 (rw (not-refused b here.taken, rw (here.days, em) at e) refl) (λ z. omega arith) d
 
   -- what has passed: the file's own checks, with m cuts in it, and 2
   pub record Passed (a : ReadAnswer) (m : ℕ) : Type 0 where
     pub found : Found b a
-    pub count : m ≡ cutCount b
-    pub room : noRoomOver a.numbers.days m (length fs) (length cs) (length rs) (length ks) ≡ false
+    pub count : m ≡ cut_count b
+    pub room : no_room_over a.numbers.days m (length fs) (length cs) (length rs) (length ks) ≡ false
 
   -- what is stored in the lists: the points, by way of the arrays that the reader of files filled, and the file's cuts as they stand
   pub record Stored (a : ReadAnswer) (floors ceilings rises cuts : List ℕ) : Type 0 where
     pub low : List ℤ
     pub high : List ℤ
     pub steps : List ℤ
-    pub low_read : low ≡ lentList a.refusal (floorAt b) (dayCount b) (replicate 512 (pos 0))
-    pub high_read : high ≡ lentList a.refusal (ceilingAt b) (dayCount b) (replicate 512 (pos 0))
-    pub steps-read : steps ≡ lentList a.refusal (riseAt b) (dayCount b - 1) (replicate 512 (pos 0))
-    pub floors-put : floors ≡ sets fs 0 (pointBytes (on low) a.numbers.days)
-    pub ceilings-put : ceilings ≡ sets cs 0 (pointBytes (on high) a.numbers.days)
-    pub rises-put : rises ≡ sets rs 0 (pointBytes (on steps) (a.numbers.days - 1))
-    pub cuts-put : cuts ≡ sets ks 0 (drop (dayOffset a.numbers.days) b)
+    pub low_read : low ≡ lent_list a.refusal (floor_at b) (day_count b) (replicate 512 (pos 0))
+    pub high_read : high ≡ lent_list a.refusal (ceiling_at b) (day_count b) (replicate 512 (pos 0))
+    pub steps-read : steps ≡ lent_list a.refusal (rise_at b) (day_count b - 1) (replicate 512 (pos 0))
+    pub floors_put : floors ≡ sets fs 0 (point_bytes (on low) a.numbers.days)
+    pub ceilings_put : ceilings ≡ sets cs 0 (point_bytes (on high) a.numbers.days)
+    pub rises_put : rises ≡ sets rs 0 (point_bytes (on steps) (a.numbers.days - 1))
+    pub cuts_put : cuts ≡ sets ks 0 (drop (day_offset a.numbers.days) b)
 
   pub read_all : {a : ReadAnswer} {m : ℕ} {floors ceilings rises cuts : List ℕ} → Passed a m → Stored a floors ceilings rises cuts
       → Answers (record { refusal = 0; numbers = a.numbers; cuts = m }) floors ceilings rises cuts
-  unfolding readingRefusalOver readInto contents lentPoints cutsLent
+  unfolding reading_refusal_over read_into contents lent_points cuts_lent
   read_all {a} {m} p s =
       let here = p.found in
       let n = here.days in
@@ -115,10 +115,10 @@ module _ (b fs cs rs ks : List ℕ) where
       let few : a.numbers.days ≤ 512 = omega (arith, here.taken.few) in
       let less : a.numbers.days - 1 ≤ 512 = omega arith in
       let room = roomy a.numbers.days m (length fs) (length cs) (length rs) (length ks) p.room in
-      let low : Handing a.refusal (floorAt b) a.numbers.days fs s.low _ = record { none = z; few = few; room = room.floors-long; lent = rw (← n) at s.low_read; stored = s.floors-put } in
-      let high : Handing a.refusal (ceilingAt b) a.numbers.days cs s.high _ = record { none = z; few = few; room = room.ceilings-long; lent = rw (← n) at s.high_read; stored = s.ceilings-put } in
-      let steps : Handing a.refusal (riseAt b) (a.numbers.days - 1) rs s.steps _ = record { none = z; few = less; room = room.rises-long; lent = rw (← n) at s.steps-read; stored = s.rises-put } in
-      let rest = s.cuts-put ∙ front-sets (drop (dayOffset a.numbers.days) b) ks (omega (arith, length-drop (dayOffset a.numbers.days) b, here.taken.whole, room.cuts-long)) in (
+      let low : Handing a.refusal (floor_at b) a.numbers.days fs s.low _ = record { none = z; few = few; room = room.floors-long; lent = rw (← n) at s.low_read; stored = s.floors_put } in
+      let high : Handing a.refusal (ceiling_at b) a.numbers.days cs s.high _ = record { none = z; few = few; room = room.ceilings-long; lent = rw (← n) at s.high_read; stored = s.ceilings_put } in
+      let steps : Handing a.refusal (rise_at b) (a.numbers.days - 1) rs s.steps _ = record { none = z; few = less; room = room.rises-long; lent = rw (← n) at s.steps-read; stored = s.rises_put } in
+      let rest = s.cuts_put ∙ front-sets (drop (day_offset a.numbers.days) b) ks (omega (arith, length-drop (day_offset a.numbers.days) b, here.taken.whole, room.cuts-long)) in (
         rw (not-refused b here.taken, rw (n, p.count) at p.room, p.count, here.all) refl,
-        (rw (← n) (points-stored (floorAt b) a.numbers.days fs low), (rw (← n) (points-stored (ceilingAt b) a.numbers.days cs high), (rw (← n) (points-stored (riseAt b) (a.numbers.days - 1) rs steps), rw (← n) rest))),
+        (rw (← n) (points_stored (floor_at b) a.numbers.days fs low), (rw (← n) (points_stored (ceiling_at b) a.numbers.days cs high), (rw (← n) (points_stored (rise_at b) (a.numbers.days - 1) rs steps), rw (← n) rest))),
       )

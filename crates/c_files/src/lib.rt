@@ -1,13 +1,13 @@
 // Profile files, read into byte lists and written from them, as a caller in C hands them over.
 ghost use Rattle.std.specs.Prelude.{◌≡◌, ◌+◌, ◌-◌, ◌*◌, ◌≤◌, ◌<◌, length, drop};
 ghost use Rattle.std.proofs.lemmas.List.Edits.{sets};
-ghost use Rattle.limits.specs.Limits.{mostCuts};
-ghost use Rattle.theory_lists.specs.First.{firstNonzero};
-ghost use Rattle.c_lists.specs.Lists.{lentPoints};
-ghost use Rattle.c_lists.specs.Profiles.{byteProfile, byteCountsRefusal};
-ghost use Rattle.file_format.specs.Format.{cutLength, dayCount, floorAt, ceilingAt, riseAt, numberedAt};
-ghost use Rattle.c_files.specs.Reading.{noRoomOver, refusedContents, readInto, cutsLent};
-ghost use Rattle.c_files.specs.Writing.{numberedRefusal, lengthsRefusal, writeOver, outputOver};
+ghost use Rattle.limits.specs.Limits.{most_cuts};
+ghost use Rattle.theory_lists.specs.First.{first_nonzero};
+ghost use Rattle.c_lists.specs.Lists.{lent_points};
+ghost use Rattle.c_lists.specs.Profiles.{byte_profile, byte_counts_refusal};
+ghost use Rattle.file_format.specs.Format.{cut_length, day_count, floor_at, ceiling_at, rise_at, numbered_at};
+ghost use Rattle.c_files.specs.Reading.{no_room_over, refused_contents, read_into, cuts_lent};
+ghost use Rattle.c_files.specs.Writing.{numbered_refusal, lengths_refusal, write_over, output_over};
 
 use base_little_endian::u16_at;
 use base_numbers::wide;
@@ -45,7 +45,7 @@ fn put_rest(from: &[u8], start: usize, out: &mut [u8], place: usize)
 // ---- reading
 
 fn refused(number: u8) -> Contents
-    ensures { result ≡ refusedContents number }
+    ensures { result ≡ refused_contents number }
 {
     let numbers = Numbers::NONE;
     Contents {
@@ -64,8 +64,8 @@ fn has_no_room(
     rises: usize,
     list: usize,
 ) -> bool
-    requires { (0 < days) × (cuts ≤ mostCuts) }
-    ensures { result ≡ noRoomOver days cuts floors ceilings rises list }
+    requires { (0 < days) × (cuts ≤ most_cuts) }
+    ensures { result ≡ no_room_over days cuts floors ceilings rises list }
 {
     (floors / 2 < days) | (ceilings / 2 < days) | (rises / 2 < days - 1) | (list < cuts * CUT_BYTES)
 }
@@ -78,11 +78,11 @@ pub fn read(
     rises: &mut [u8],
     cuts: &mut [u8],
 ) -> Contents
-    ensures value { result ≡ readInto file.now (length floors.old) (length ceilings.old) (length rises.old) (length cuts.old) }
-    ensures floors_after { floors.new ≡ lentPoints result.refusal (floorAt file.now) (dayCount file.now) floors.old }
-    ensures ceilings_after { ceilings.new ≡ lentPoints result.refusal (ceilingAt file.now) (dayCount file.now) ceilings.old }
-    ensures rises_after { rises.new ≡ lentPoints result.refusal (riseAt file.now) (dayCount file.now - 1) rises.old }
-    ensures cuts_after { cuts.new ≡ cutsLent result.refusal file.now cuts.old }
+    ensures value { result ≡ read_into file.now (length floors.old) (length ceilings.old) (length rises.old) (length cuts.old) }
+    ensures floors_after { floors.new ≡ lent_points result.refusal (floor_at file.now) (day_count file.now) floors.old }
+    ensures ceilings_after { ceilings.new ≡ lent_points result.refusal (ceiling_at file.now) (day_count file.now) ceilings.old }
+    ensures rises_after { rises.new ≡ lent_points result.refusal (rise_at file.now) (day_count file.now - 1) rises.old }
+    ensures cuts_after { cuts.new ≡ cuts_lent result.refusal file.now cuts.old }
 {
     let mut low = [0i16; MOST_DAYS];
     let mut high = [0i16; MOST_DAYS];
@@ -119,7 +119,7 @@ pub fn read(
 
 // The refusal that a numbered cut has by itself: 12, 7, then 3 or 5, else 0.
 fn numbered_refusal(numbered: Numbered, days: usize) -> u8
-    ensures { result ≡ numberedRefusal days numbered }
+    ensures { result ≡ numbered_refusal days numbered }
 {
     let Numbered::Known(cut) = numbered else {
         return 12;
@@ -129,8 +129,8 @@ fn numbered_refusal(numbered: Numbered, days: usize) -> u8
 
 // The first refusal of the cuts in their order, or 0.
 fn cuts_refusal(cuts: &[u8], count: usize, days: usize) -> u8
-    requires { (count ≤ mostCuts) × (count * cutLength ≤ length cuts.now) }
-    ensures { result ≡ firstNonzero (λ j. numberedRefusal days (numberedAt cuts.now (j * cutLength))) count }
+    requires { (count ≤ most_cuts) × (count * cut_length ≤ length cuts.now) }
+    ensures { result ≡ first_nonzero (λ j. numbered_refusal days (numbered_at cuts.now (j * cut_length))) count }
 {
     let mut j = 0;
     while j < count {
@@ -145,7 +145,7 @@ fn cuts_refusal(cuts: &[u8], count: usize, days: usize) -> u8
 
 // 1 for the counts, then 2 for a list of the wrong length, else 0, by the lists' counts of bytes.
 fn lengths_refusal(days: usize, floors: usize, ceilings: usize, rises: usize, cuts: usize) -> u8
-    ensures { result ≡ lengthsRefusal (byteCountsRefusal days floors ceilings rises) cuts }
+    ensures { result ≡ lengths_refusal (byte_counts_refusal days floors ceilings rises) cuts }
 {
     if MOST_CUTS < cuts / CUT_BYTES {
         return 1;
@@ -178,8 +178,8 @@ pub fn write(
     cuts: &[u8],
     out: &mut [u8],
 ) -> WriteAnswer
-    ensures value { result ≡ writeOver (byteProfile numbers floors.now ceilings.now rises.now) cuts.now (length out.old) }
-    ensures out_after { out.new ≡ outputOver (byteProfile numbers floors.now ceilings.now rises.now) cuts.now out.old }
+    ensures value { result ≡ write_over (byte_profile numbers floors.now ceilings.now rises.now) cuts.now (length out.old) }
+    ensures out_after { out.new ≡ output_over (byte_profile numbers floors.now ceilings.now rises.now) cuts.now out.old }
 {
     let days = numbers.days;
     let of_lists = lengths_refusal(days, floors.len(), ceilings.len(), rises.len(), cuts.len());

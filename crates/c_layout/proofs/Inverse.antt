@@ -8,54 +8,54 @@ use native.Mathlib.Decide.{dec_lt}
 use lib.Dec.{eqb}
 use lib.ListN.{length, length-append, replicate, length-replicate, get_or-replicate}
 use lib.Seq.{ext_get_or}
-use Rattle.limits.specs.Limits.{lowestTotal, highestTotal}
+use Rattle.limits.specs.Limits.{lowest_total, highest_total}
 use Rattle.theory_lists.specs.Sum.{at}
 use Rattle.theory_lists.specs.Written.{length-written, written_below, written-past}
 use Rattle.base_codes.specs.Code.{within, code, decoded}
-use Rattle.base_codes.proofs.Laws.{total-less, decoded-less, within-yes, code-decoded, total-most}
+use Rattle.base_codes.proofs.Laws.{total_less, decoded_less, within-yes, code-decoded, total-most}
 use Rattle.theory_method.specs.Filter.{zeros}
-use Rattle.base_little_endian.specs.Fields.{u16At, i32At, u16Bytes, i32Bytes}
+use Rattle.base_little_endian.specs.Fields.{u16_at, i32_at, u16_bytes, i32_bytes}
 use Rattle.session.specs.Showing.{Fits}
 use Rattle.session.specs.declared.Ranges.{Ranges}
 use Rattle.session.specs.declared.Session.{Session}
 use mir.Syntax.{w32}
 use Rattle.theory_lists.specs.Rows.{rows}
-use Rattle.theory_lists.specs.Part.{Part, part_left, part_right, part-both, part-row, part-all}
-use Rattle.base_codes.proofs.Offset.{less-le}
-use Rattle.base_codes.proofs.Casts.{less-fits}
-use Rattle.base_little_endian.proofs.Laws.{u16-length, i32-length, u16-read, i32-read}
-use Rattle.c_lists.specs.Lists.{cellBytes}
-use Rattle.c_layout.proofs.Lengths.{totals-length, block-length}
+use Rattle.theory_lists.specs.Part.{Part, part_left, part_right, part_both, part_row, part_all}
+use Rattle.base_codes.proofs.Offset.{less_le}
+use Rattle.base_codes.proofs.Casts.{less_fits}
+use Rattle.base_little_endian.proofs.Laws.{u16-length, i32_length, u16-read, i32_read}
+use Rattle.c_lists.specs.Lists.{cell_bytes}
+use Rattle.c_layout.proofs.Lengths.{totals-length, block_length_lem}
 use Rattle.c_layout.specs.Storing.{DecodingInBounds, Padded, DecodingEncoding}
-use Rattle.c_layout.specs.Layout.{encoding, blockBytes, totalBytes, cellsAt, totalAt, rangesAt, daysAt, first_at, decoding}
+use Rattle.c_layout.specs.Layout.{encoding, block_bytes, total_bytes, cells_at, total_at, ranges_at, days_at, first_at, decoding}
 
 -- ---- in bounds
 
 module _ (b : List ℕ) (n : ℕ) (few : n ≤ 512) where
-  length-cells : (most place : ℕ) → length (cellsAt b n most place) ≡ 512
-  length-cells most place = length-written (λ k. min (u16At b (place + k * 2)) most) n zeros ∙ length-replicate {A = ℕ} 512 0
+  length_cells : (most place : ℕ) → length (cells_at b n most place) ≡ 512
+  length_cells most place = length-written (λ k. min (u16_at b (place + k * 2)) most) n zeros ∙ length-replicate {A = ℕ} 512 0
 
-  pub cell : (most place k : ℕ) → k < n → at (cellsAt b n most place) k ≡ min (u16At b (place + k * 2)) most
-  cell most place k h = written_below (λ j. min (u16At b (place + j * 2)) most) 0 n zeros k h (omega (arith, length-replicate {A = ℕ} 512 0))
+  pub cell : (most place k : ℕ) → k < n → at (cells_at b n most place) k ≡ min (u16_at b (place + k * 2)) most
+  cell most place k h = written_below (λ j. min (u16_at b (place + j * 2)) most) 0 n zeros k h (omega (arith, length-replicate {A = ℕ} 512 0))
 
-total-small : (b : List ℕ) (place : ℕ) → totalAt b place ≤ 2560000
-total-small b place = go (within lowestTotal highestTotal (i32At b place)) refl
+total-small : (b : List ℕ) (place : ℕ) → total_at b place ≤ 2560000
+total-small b place = go (within lowest_total highest_total (i32_at b place)) refl
   where
-    go : (t : Bool) → within lowestTotal highestTotal (i32At b place) ≡ t → cond t (code lowestTotal (i32At b place)) 0 ≤ 2560000
-    go true e = total-most (i32At b place) e
+    go : (t : Bool) → within lowest_total highest_total (i32_at b place) ≡ t → cond t (code lowest_total (i32_at b place)) 0 ≤ 2560000
+    go true e = total-most (i32_at b place) e
     go false e = omega arith
 
-fits : (b : List ℕ) (totals place : ℕ) → Fits (cellsAt b (daysAt b) 4000 20) (daysAt b) (first_at b) (rangesAt b (daysAt b) totals place)
-unfolding rangesAt
+fits : (b : List ℕ) (totals place : ℕ) → Fits (cells_at b (days_at b) 4000 20) (days_at b) (first_at b) (ranges_at b (days_at b) totals place)
+unfolding ranges_at
 fits b totals place =
-    let n = daysAt b in
+    let n = days_at b in
     let few : n ≤ 512 = omega arith in
     record {
       counts = omega arith;
       most = few;
-      floors = length-cells b n few 5000 place;
-      ceilings = length-cells b n few 5000 (place + 1024);
-      rises = length-cells b n few 4000 20;
+      floors = length_cells b n few 5000 place;
+      ceilings = length_cells b n few 5000 (place + 1024);
+      rises = length_cells b n few 4000 20;
       floor = λ k h. omega (arith, cell b n few 5000 place k h);
       ceiling = λ k h. omega (arith, cell b n few 5000 (place + 1024) k h);
       rise = λ k h. omega (arith, cell b n few 4000 20 k h);
@@ -63,9 +63,9 @@ fits b totals place =
       highest = total-small b (totals + 4);
     }
 
-pub decoding-in-bounds : DecodingInBounds
+pub decoding_in_bounds : DecodingInBounds
 unfolding decoding
-decoding-in-bounds b = record { opened = fits b 4 1044; present = fits b 12 3092 }
+decoding_in_bounds b = record { opened = fits b 4 1044; present = fits b 12 3092 }
 
 -- ---- what was encoded
 
@@ -77,45 +77,45 @@ record Cells (n most : ℕ) (cells : List ℕ) : Type 0 where
   pub past : Padded n cells
 
 module _ {b : List ℕ} where
-  total-read : {i : ℕ} (t : ℕ) → t ≤ 2560000 → Part b i (i32Bytes (decoded lowestTotal t)) → totalAt b i ≡ t
+  total-read : {i : ℕ} (t : ℕ) → t ≤ 2560000 → Part b i (i32_bytes (decoded lowest_total t)) → total_at b i ≡ t
   total-read t h p =
-      let d = decoded-less lowestTotal t 512000 total-less in
-      let e = i32-read (decoded lowestTotal t) (less-fits w32 (decoded lowestTotal t) t 512000 d (omega arith) (omega arith)) p in
-      let low = less-le lowestTotal (decoded lowestTotal t) 0 t 512000 total-less d (omega arith) in
-      let high = less-le (decoded lowestTotal t) highestTotal t 2560000 512000 d refl h in
-      rw (e, (within-yes lowestTotal highestTotal (decoded lowestTotal t)).1 (low, high)) (code-decoded lowestTotal t)
+      let d = decoded_less lowest_total t 512000 total_less in
+      let e = i32_read (decoded lowest_total t) (less_fits w32 (decoded lowest_total t) t 512000 d (omega arith) (omega arith)) p in
+      let low = less_le lowest_total (decoded lowest_total t) 0 t 512000 total_less d (omega arith) in
+      let high = less_le (decoded lowest_total t) highest_total t 2560000 512000 d refl h in
+      rw (e, (within-yes lowest_total highest_total (decoded lowest_total t)).1 (low, high)) (code-decoded lowest_total t)
 
   -- a cell of a block
-  cell-read : {place n : ℕ} (cells : List ℕ) → Part b place (blockBytes cells n) → (k : ℕ) → k < n → u16At b (place + k * 2) ≡ at cells k
-  unfolding blockBytes cellBytes
-  cell-read {n = n} cells p k h =
-      let row : (ℕ → List ℕ) = λ j. u16Bytes (at cells j) in
-      u16-read (at cells k) (part-row row 2 n (λ j u. u16-length (at cells j)) (part_left (rows row n) (replicate ((512 - n) * 2) 0) refl p) k h)
+  cell_read : {place n : ℕ} (cells : List ℕ) → Part b place (block_bytes cells n) → (k : ℕ) → k < n → u16_at b (place + k * 2) ≡ at cells k
+  unfolding block_bytes cell_bytes
+  cell_read {n = n} cells p k h =
+      let row : (ℕ → List ℕ) = λ j. u16_bytes (at cells j) in
+      u16-read (at cells k) (part_row row 2 n (λ j u. u16-length (at cells j)) (part_left (rows row n) (replicate ((512 - n) * 2) 0) refl p) k h)
 
-  cells-read : {place n : ℕ} (most : ℕ) (cells : List ℕ) → Cells n most cells → Part b place (blockBytes cells n) → cellsAt b n most place ≡ cells
-  cells-read {place} {n} most cells c p =
-      ext_get_or 0 (cellsAt b n most place) cells (length-cells b n c.few most place ∙ sym c.whole) (λ k h. go k (omega (arith, length-cells b n c.few most place)) (dec_lt k n))
+  cells_read : {place n : ℕ} (most : ℕ) (cells : List ℕ) → Cells n most cells → Part b place (block_bytes cells n) → cells_at b n most place ≡ cells
+  cells_read {place} {n} most cells c p =
+      ext_get_or 0 (cells_at b n most place) cells (length_cells b n c.few most place ∙ sym c.whole) (λ k h. go k (omega (arith, length_cells b n c.few most place)) (dec_lt k n))
     where
-      go : (k : ℕ) → k < 512 → Dec (k < n) → at (cellsAt b n most place) k ≡ at cells k
-      go k u (yes h) = omega (arith, cell b n c.few most place k h, cell-read cells p k h, c.small k h)
+      go : (k : ℕ) → k < 512 → Dec (k < n) → at (cells_at b n most place) k ≡ at cells k
+      go k u (yes h) = omega (arith, cell b n c.few most place k h, cell_read cells p k h, c.small k h)
       go k u (no h) =
-          written-past (λ j. min (u16At b (place + j * 2)) most) 0 n zeros k (omega arith) ∙ get_or-replicate {A = ℕ} 512 k 0 0 u ∙ sym (c.past k (omega arith) u)
+          written-past (λ j. min (u16_at b (place + j * 2)) most) 0 n zeros k (omega arith) ∙ get_or-replicate {A = ℕ} 512 k 0 0 u ∙ sym (c.past k (omega arith) u)
 
   ranges-read : {totals place : ℕ} (rs : List ℕ) (n first : ℕ) (r : Ranges) → Fits rs n first r → Padded n r.floors × Padded n r.ceilings
-      → Part b totals (totalBytes r.lowest r.highest) → Part b place (blockBytes r.floors n ++ blockBytes r.ceilings n) → rangesAt b n totals place ≡ r
-  unfolding rangesAt totalBytes
+      → Part b totals (total_bytes r.lowest r.highest) → Part b place (block_bytes r.floors n ++ block_bytes r.ceilings n) → ranges_at b n totals place ≡ r
+  unfolding ranges_at total_bytes
   ranges-read rs n first r f past t p =
-      let low : List ℕ = blockBytes r.floors n in
-      let high : List ℕ = blockBytes r.ceilings n in
-      let least : List ℕ = i32Bytes (decoded lowestTotal r.lowest) in
-      let most : List ℕ = i32Bytes (decoded lowestTotal r.highest) in
-      let wide = block-length r.floors n f.most in
-      let long = i32-length (decoded lowestTotal r.lowest) in
+      let low : List ℕ = block_bytes r.floors n in
+      let high : List ℕ = block_bytes r.ceilings n in
+      let least : List ℕ = i32_bytes (decoded lowest_total r.lowest) in
+      let most : List ℕ = i32_bytes (decoded lowest_total r.highest) in
+      let wide = block_length_lem r.floors n f.most in
+      let long = i32_length (decoded lowest_total r.lowest) in
       let floors : Cells n 5000 r.floors = record { few = f.most; whole = f.floors; small = f.floor; past = past.0 } in
       let ceilings : Cells n 5000 r.ceilings = record { few = f.most; whole = f.ceilings; small = f.ceiling; past = past.1 } in
       rw (
-        cells-read 5000 r.floors floors (part_left low high wide p),
-        cells-read 5000 r.ceilings ceilings (part_right low high wide p),
+        cells_read 5000 r.floors floors (part_left low high wide p),
+        cells_read 5000 r.ceilings ceilings (part_right low high wide p),
         total-read r.lowest f.lowest (part_left least most long t),
         total-read r.highest f.highest (part_right least most long t),
       )
@@ -129,28 +129,28 @@ mark-read false e = rw e refl
 
 module _ (s : Session) where
   abbrev pub count : List ℕ
-  count = u16Bytes s.days
+  count = u16_bytes s.days
 
   abbrev pub mark : List ℕ
-  mark = u16Bytes (cond s.spent 1 0)
+  mark = u16_bytes (cond s.spent 1 0)
 
   abbrev pub opening : List ℕ
-  opening = totalBytes s.opened.lowest s.opened.highest
+  opening = total_bytes s.opened.lowest s.opened.highest
 
   abbrev pub totals : List ℕ
-  totals = totalBytes s.present.lowest s.present.highest
+  totals = total_bytes s.present.lowest s.present.highest
 
   abbrev pub rises : List ℕ
-  rises = blockBytes s.rises s.days
+  rises = block_bytes s.rises s.days
 
-  abbrev pub openedRanges : List ℕ
-  openedRanges = blockBytes s.opened.floors s.days ++ blockBytes s.opened.ceilings s.days
+  abbrev pub opened_ranges : List ℕ
+  opened_ranges = block_bytes s.opened.floors s.days ++ block_bytes s.opened.ceilings s.days
 
-  abbrev pub presentRanges : List ℕ
-  presentRanges = blockBytes s.present.floors s.days ++ blockBytes s.present.ceilings s.days
+  abbrev pub present_ranges : List ℕ
+  present_ranges = block_bytes s.present.floors s.days ++ block_bytes s.present.ceilings s.days
 
   abbrev pub counted : List ℕ
-  counted = u16Bytes s.first
+  counted = u16_bytes s.first
 
   pub record Laid (b : List ℕ) : Type 0 where
     pub at0 : Part b 0 count
@@ -158,8 +158,8 @@ module _ (s : Session) where
     pub at4 : Part b 4 opening
     pub at12 : Part b 12 totals
     pub at20 : Part b 20 rises
-    pub at1044 : Part b 1044 openedRanges
-    pub at3092 : Part b 3092 presentRanges
+    pub at1044 : Part b 1044 opened_ranges
+    pub at3092 : Part b 3092 present_ranges
     pub at5140 : Part b 5140 counted
 
   pub laid : {b : List ℕ} → s.days ≤ 512 → Part b 0 (encoding s) → Laid b
@@ -168,12 +168,12 @@ module _ (s : Session) where
       let l1 : length (count ++ mark) ≡ 4 = simp (length-append, u16-length) in
       let l2 : length (count ++ mark ++ opening) ≡ 12 = simp (length-append, u16-length, totals-length) in
       let l3 : length (count ++ mark ++ opening ++ totals) ≡ 20 = simp (length-append, u16-length, totals-length) in
-      let l4 : length (count ++ mark ++ opening ++ totals ++ rises) ≡ 1044 = simp (length-append, u16-length, totals-length, block-length) in
-      let l5 : length (count ++ mark ++ opening ++ totals ++ rises ++ openedRanges) ≡ 3092 = simp (length-append, u16-length, totals-length, block-length) in
-      let l6 : length (count ++ mark ++ opening ++ totals ++ rises ++ openedRanges ++ presentRanges) ≡ 5140 = simp (length-append, u16-length, totals-length, block-length) in
-      let p6 = part_left (count ++ mark ++ opening ++ totals ++ rises ++ openedRanges ++ presentRanges) counted l6 p in
-      let p5 = part_left (count ++ mark ++ opening ++ totals ++ rises ++ openedRanges) presentRanges l5 p6 in
-      let p4 = part_left (count ++ mark ++ opening ++ totals ++ rises) openedRanges l4 p5 in
+      let l4 : length (count ++ mark ++ opening ++ totals ++ rises) ≡ 1044 = simp (length-append, u16-length, totals-length, block_length_lem) in
+      let l5 : length (count ++ mark ++ opening ++ totals ++ rises ++ opened_ranges) ≡ 3092 = simp (length-append, u16-length, totals-length, block_length_lem) in
+      let l6 : length (count ++ mark ++ opening ++ totals ++ rises ++ opened_ranges ++ present_ranges) ≡ 5140 = simp (length-append, u16-length, totals-length, block_length_lem) in
+      let p6 = part_left (count ++ mark ++ opening ++ totals ++ rises ++ opened_ranges ++ present_ranges) counted l6 p in
+      let p5 = part_left (count ++ mark ++ opening ++ totals ++ rises ++ opened_ranges) present_ranges l5 p6 in
+      let p4 = part_left (count ++ mark ++ opening ++ totals ++ rises) opened_ranges l4 p5 in
       let p3 = part_left (count ++ mark ++ opening ++ totals) rises l3 p4 in
       let p2 = part_left (count ++ mark ++ opening) totals l2 p3 in
       let p1 = part_left (count ++ mark) opening l1 p2 in
@@ -183,9 +183,9 @@ module _ (s : Session) where
         at4 = part_right (count ++ mark) opening l1 p2;
         at12 = part_right (count ++ mark ++ opening) totals l2 p3;
         at20 = part_right (count ++ mark ++ opening ++ totals) rises l3 p4;
-        at1044 = part_right (count ++ mark ++ opening ++ totals ++ rises) openedRanges l4 p5;
-        at3092 = part_right (count ++ mark ++ opening ++ totals ++ rises ++ openedRanges) presentRanges l5 p6;
-        at5140 = part_right (count ++ mark ++ opening ++ totals ++ rises ++ openedRanges ++ presentRanges) counted l6 p;
+        at1044 = part_right (count ++ mark ++ opening ++ totals ++ rises) opened_ranges l4 p5;
+        at3092 = part_right (count ++ mark ++ opening ++ totals ++ rises ++ opened_ranges) present_ranges l5 p6;
+        at5140 = part_right (count ++ mark ++ opening ++ totals ++ rises ++ opened_ranges ++ present_ranges) counted l6 p;
       }
 
 -- the parts, put together
@@ -196,29 +196,29 @@ joined s few l =
     let l1 : length (count s ++ mark s) ≡ 4 = simp (length-append, u16-length) in
     let l2 : length (count s ++ mark s ++ opening s) ≡ 12 = simp (length-append, u16-length, totals-length) in
     let l3 : length (count s ++ mark s ++ opening s ++ totals s) ≡ 20 = simp (length-append, u16-length, totals-length) in
-    let l4 : length (count s ++ mark s ++ opening s ++ totals s ++ rises s) ≡ 1044 = simp (length-append, u16-length, totals-length, block-length) in
-    let l5 : length (count s ++ mark s ++ opening s ++ totals s ++ rises s ++ openedRanges s) ≡ 3092 = simp (length-append, u16-length, totals-length, block-length) in
-    let l6 : length (count s ++ mark s ++ opening s ++ totals s ++ rises s ++ openedRanges s ++ presentRanges s) ≡ 5140 = simp (length-append, u16-length, totals-length, block-length) in
-    let p1 = part-both (count s) (mark s) l0 l.at0 l.at2 in
-    let p2 = part-both (count s ++ mark s) (opening s) l1 p1 l.at4 in
-    let p3 = part-both (count s ++ mark s ++ opening s) (totals s) l2 p2 l.at12 in
-    let p4 = part-both (count s ++ mark s ++ opening s ++ totals s) (rises s) l3 p3 l.at20 in
-    let p5 = part-both (count s ++ mark s ++ opening s ++ totals s ++ rises s) (openedRanges s) l4 p4 l.at1044 in
-    let p6 = part-both (count s ++ mark s ++ opening s ++ totals s ++ rises s ++ openedRanges s) (presentRanges s) l5 p5 l.at3092 in
-    part-both (count s ++ mark s ++ opening s ++ totals s ++ rises s ++ openedRanges s ++ presentRanges s) (counted s) l6 p6 l.at5140
+    let l4 : length (count s ++ mark s ++ opening s ++ totals s ++ rises s) ≡ 1044 = simp (length-append, u16-length, totals-length, block_length_lem) in
+    let l5 : length (count s ++ mark s ++ opening s ++ totals s ++ rises s ++ opened_ranges s) ≡ 3092 = simp (length-append, u16-length, totals-length, block_length_lem) in
+    let l6 : length (count s ++ mark s ++ opening s ++ totals s ++ rises s ++ opened_ranges s ++ present_ranges s) ≡ 5140 = simp (length-append, u16-length, totals-length, block_length_lem) in
+    let p1 = part_both (count s) (mark s) l0 l.at0 l.at2 in
+    let p2 = part_both (count s ++ mark s) (opening s) l1 p1 l.at4 in
+    let p3 = part_both (count s ++ mark s ++ opening s) (totals s) l2 p2 l.at12 in
+    let p4 = part_both (count s ++ mark s ++ opening s ++ totals s) (rises s) l3 p3 l.at20 in
+    let p5 = part_both (count s ++ mark s ++ opening s ++ totals s ++ rises s) (opened_ranges s) l4 p4 l.at1044 in
+    let p6 = part_both (count s ++ mark s ++ opening s ++ totals s ++ rises s ++ opened_ranges s) (present_ranges s) l5 p5 l.at3092 in
+    part_both (count s ++ mark s ++ opening s ++ totals s ++ rises s ++ opened_ranges s ++ present_ranges s) (counted s) l6 p6 l.at5140
 
 -- what was encoded is decoded
 pub decoding-encoding : DecodingEncoding
 unfolding decoding
 decoding-encoding s h =
     let z = h.bounds.opened in
-    let l = laid s z.most (part-all (encoding s)) in
-    let days : daysAt (encoding s) ≡ s.days = omega (arith, u16-read s.days l.at0, z.counts, z.most) in
-    let first : min (u16At (encoding s) 5140) (s.days - 1) ≡ s.first = omega (arith, u16-read s.first l.at5140, z.counts) in
+    let l = laid s z.most (part_all (encoding s)) in
+    let days : days_at (encoding s) ≡ s.days = omega (arith, u16-read s.days l.at0, z.counts, z.most) in
+    let first : min (u16_at (encoding s) 5140) (s.days - 1) ≡ s.first = omega (arith, u16-read s.first l.at5140, z.counts) in
     rw (
       days,
       first,
-      cells-read 4000 s.rises (record { few = z.most; whole = z.rises; small = z.rise; past = h.rises }) l.at20,
+      cells_read 4000 s.rises (record { few = z.most; whole = z.rises; small = z.rise; past = h.rises }) l.at20,
       ranges-read s.rises s.days s.first s.opened z h.opened l.at4 l.at1044,
       ranges-read s.rises s.days s.first s.present h.bounds.present h.present l.at12 l.at3092,
       mark-read s.spent (u16-read (cond s.spent 1 0) l.at2),

@@ -8,23 +8,23 @@ use native.Mathlib.Omega.{arith}
 use lib.ListN.{length, length-append, replicate, length-replicate}
 use lib.Seq.{sets, length-sets}
 use Rattle.theory_lists.specs.Sum.{at}
-use Rattle.theory_lists.specs.Part.{Part, part_left, part_right, part-both, part-all, part_same, part-stored, part-before, part-past}
+use Rattle.theory_lists.specs.Part.{Part, part_left, part_right, part_both, part_all, part_same, part_stored, part_before, part_past}
 use Rattle.base_little_endian.proofs.Laws.{u16-length}
 use Rattle.session.specs.declared.Ranges.{Ranges}
 use Rattle.session.specs.declared.Session.{Session}
-use Rattle.c_lists.specs.Lists.{cellBytes}
-use Rattle.c_layout.specs.Layout.{blockBytes, encoding, patched}
+use Rattle.c_lists.specs.Lists.{cell_bytes}
+use Rattle.c_layout.specs.Layout.{block_bytes, encoding, patched}
 use Rattle.c_layout.specs.Storing.{Storable, PatchedEncoding}
-use Rattle.c_layout.proofs.Lengths.{totals-length, cells-length, block-length, encoding-length}
-use Rattle.c_layout.proofs.Inverse.{Laid, laid, joined, count, mark, opening, totals, rises, openedRanges, counted}
+use Rattle.c_layout.proofs.Lengths.{totals-length, cells_length, block_length_lem, encoding-length}
+use Rattle.c_layout.proofs.Inverse.{Laid, laid, joined, count, mark, opening, totals, rises, opened_ranges, counted}
 
 -- w elements from place i on, and the part ys from k on, have none in common
 abbrev Apart : ℕ → List ℕ → ℕ → ℕ → Type 0
 Apart k ys i w = (k + length ys ≤ i) ⊎ (i + w ≤ k)
 
 kept : {l : List ℕ} (i : ℕ) (xs : List ℕ) {k w : ℕ} (ys : List ℕ) → length xs ≡ w → Apart k ys i w → Part l k ys → Part (sets l i xs) k ys
-kept {l} i xs ys e (inl h) p = part-before l i xs ys h p
-kept {l} i xs ys e (inr h) p = part-past l i xs ys (omega arith) p
+kept {l} i xs ys e (inl h) p = part_before l i xs ys h p
+kept {l} i xs ys e (inr h) p = part_past l i xs ys (omega arith) p
 
 module _ (s : Session) (few : s.days ≤ 512) (spent : Bool) (r : Ranges) where
   abbrev n : ℕ
@@ -35,10 +35,10 @@ module _ (s : Session) (few : s.days ≤ 512) (spent : Bool) (r : Ranges) where
   t = record { days = n; first = s.first; rises = s.rises; opened = s.opened; present = r; spent = spent }
 
   abbrev floors : List ℕ
-  floors = cellBytes (at r.floors) n
+  floors = cell_bytes (at r.floors) n
 
   abbrev ceilings : List ℕ
-  ceilings = cellBytes (at r.ceilings) n
+  ceilings = cell_bytes (at r.ceilings) n
 
   -- past the last day
   abbrev zeros : List ℕ
@@ -70,10 +70,10 @@ module _ (s : Session) (few : s.days ≤ 512) (spent : Bool) (r : Ranges) where
 
   -- a part that is kept by the stores that follow each of the first ones
   after3 : {k : ℕ} (ys : List ℕ) → Apart k ys 4116 (n * 2) → Part b3 k ys → Part b4 k ys
-  after3 ys a p = kept 4116 ceilings ys (cells-length (at r.ceilings) n) a p
+  after3 ys a p = kept 4116 ceilings ys (cells_length (at r.ceilings) n) a p
 
   after2 : {k : ℕ} (ys : List ℕ) → Apart k ys 3092 (n * 2) → Apart k ys 4116 (n * 2) → Part b2 k ys → Part b4 k ys
-  after2 ys a b p = after3 ys b (kept 3092 floors ys (cells-length (at r.floors) n) a p)
+  after2 ys a b p = after3 ys b (kept 3092 floors ys (cells_length (at r.floors) n) a p)
 
   after1 : {k : ℕ} (ys : List ℕ) → Apart k ys 12 8 → Apart k ys 3092 (n * 2) → Apart k ys 4116 (n * 2) → Part b1 k ys → Part b4 k ys
   after1 ys a b c p = after2 ys b c (kept 12 (totals t) ys (totals-length r.lowest r.highest) a p)
@@ -84,67 +84,67 @@ module _ (s : Session) (few : s.days ≤ 512) (spent : Bool) (r : Ranges) where
   -- ---- the parts
 
   was : Laid s b0
-  was = laid s few (part-all b0)
+  was = laid s few (part_all b0)
 
   low : length floors ≡ n * 2
-  low = cells-length (at r.floors) n
+  low = cells_length (at r.floors) n
 
   high : length ceilings ≡ n * 2
-  high = cells-length (at r.ceilings) n
+  high = cells_length (at r.ceilings) n
 
   past : length zeros ≡ (512 - n) * 2
   past = length-replicate ((512 - n) * 2) 0
 
   -- the zeros past the last day, of the floors and of the ceilings
   tails : Part b0 (3092 + n * 2) zeros × Part b0 (4116 + n * 2) zeros
-  unfolding blockBytes
+  unfolding block_bytes
   tails =
-      let fs : List ℕ = blockBytes s.present.floors n in
-      let cs : List ℕ = blockBytes s.present.ceilings n in
-      let f = part_left fs cs (block-length s.present.floors n few) was.at3092 in
-      let c = part_right fs cs (block-length s.present.floors n few) was.at3092 in (
-        part_right (cellBytes (at s.present.floors) n) zeros (cells-length (at s.present.floors) n) f,
-        part_right (cellBytes (at s.present.ceilings) n) zeros (cells-length (at s.present.ceilings) n) c,
+      let fs : List ℕ = block_bytes s.present.floors n in
+      let cs : List ℕ = block_bytes s.present.ceilings n in
+      let f = part_left fs cs (block_length_lem s.present.floors n few) was.at3092 in
+      let c = part_right fs cs (block_length_lem s.present.floors n few) was.at3092 in (
+        part_right (cell_bytes (at s.present.floors) n) zeros (cells_length (at s.present.floors) n) f,
+        part_right (cell_bytes (at s.present.ceilings) n) zeros (cells_length (at s.present.ceilings) n) c,
       )
 
-  block-floors : Part b4 3092 (blockBytes r.floors n)
-  unfolding blockBytes
-  block-floors =
-      part-both floors zeros low
-      (after3 floors (inl (omega (arith, low))) (part-stored b2 3092 floors (omega (arith, low, lengths.2))))
+  block_floors : Part b4 3092 (block_bytes r.floors n)
+  unfolding block_bytes
+  block_floors =
+      part_both floors zeros low
+      (after3 floors (inl (omega (arith, low))) (part_stored b2 3092 floors (omega (arith, low, lengths.2))))
       (after0 zeros (inr (omega arith)) (inr (omega arith)) (inr (omega arith)) (inl (omega (arith, past))) tails.0)
 
-  block-ceilings : Part b4 4116 (blockBytes r.ceilings n)
-  unfolding blockBytes
-  block-ceilings =
-      part-both ceilings zeros high (part-stored b3 4116 ceilings (omega (arith, high, lengths.3)))
+  block_ceilings : Part b4 4116 (block_bytes r.ceilings n)
+  unfolding block_bytes
+  block_ceilings =
+      part_both ceilings zeros high (part_stored b3 4116 ceilings (omega (arith, high, lengths.3)))
       (after0 zeros (inr (omega arith)) (inr (omega arith)) (inr (omega arith)) (inr (omega arith)) tails.1)
 
-  now-laid : Laid t b4
-  now-laid =
+  now_laid : Laid t b4
+  now_laid =
       let days = u16-length n in
       let opened = totals-length s.opened.lowest s.opened.highest in
       let sums = totals-length r.lowest r.highest in
-      let steps = block-length s.rises n few in
-      let ranges : length (openedRanges s) ≡ 2048 = simp (length-append, block-length) in
+      let steps = block_length_lem s.rises n few in
+      let ranges : length (opened_ranges s) ≡ 2048 = simp (length-append, block_length_lem) in
       record {
         at0 = after0 (count s) (inl (omega (arith, days))) (inl (omega (arith, days))) (inl (omega (arith, days))) (inl (omega (arith, days))) was.at0;
         at2 = let e = u16-length (cond spent 1 0) in
-            after1 (mark t) (inl (omega (arith, e))) (inl (omega (arith, e))) (inl (omega (arith, e))) (part-stored b0 2 (mark t) (omega (arith, e, lengths.0)));
+            after1 (mark t) (inl (omega (arith, e))) (inl (omega (arith, e))) (inl (omega (arith, e))) (part_stored b0 2 (mark t) (omega (arith, e, lengths.0)));
         at4 = after0 (opening s) (inr (omega arith)) (inl (omega (arith, opened))) (inl (omega (arith, opened))) (inl (omega (arith, opened))) was.at4;
-        at12 = after2 (totals t) (inl (omega (arith, sums))) (inl (omega (arith, sums))) (part-stored b1 12 (totals t) (omega (arith, sums, lengths.1)));
+        at12 = after2 (totals t) (inl (omega (arith, sums))) (inl (omega (arith, sums))) (part_stored b1 12 (totals t) (omega (arith, sums, lengths.1)));
         at20 = after0 (rises s) (inr (omega arith)) (inr (omega arith)) (inl (omega (arith, steps))) (inl (omega (arith, steps))) was.at20;
-        at1044 = after0 (openedRanges s) (inr (omega arith)) (inr (omega arith)) (inl (omega (arith, ranges))) (inl (omega (arith, ranges))) was.at1044;
-        at3092 = part-both (blockBytes r.floors n) (blockBytes r.ceilings n) (block-length r.floors n few) block-floors block-ceilings;
+        at1044 = after0 (opened_ranges s) (inr (omega arith)) (inr (omega arith)) (inl (omega (arith, ranges))) (inl (omega (arith, ranges))) was.at1044;
+        at3092 = part_both (block_bytes r.floors n) (block_bytes r.ceilings n) (block_length_lem r.floors n few) block_floors block_ceilings;
         at5140 = after0 (counted s) (inr (omega arith)) (inr (omega arith)) (inr (omega arith)) (inr (omega arith)) was.at5140;
       }
 
-  patched-encoded : patched (encoding s) n spent r ≡ encoding t
+  patched_encoded : patched (encoding s) n spent r ≡ encoding t
   unfolding patched
-  patched-encoded = sym (part_same (encoding t) (encoding-length t few ∙ sym lengths.4) (joined t few now-laid))
+  patched_encoded = sym (part_same (encoding t) (encoding-length t few ∙ sym lengths.4) (joined t few now_laid))
 
 pub patched-encoding : PatchedEncoding
-patched-encoding s h spent r = patched-encoded s h.bounds.opened.most spent r
+patched-encoding s h spent r = patched_encoded s h.bounds.opened.most spent r
 
 -- so the patch of a session that keeps the rest is its encoding
 pub patched-kept : (s e : Session) → Storable s → e.days ≡ s.days → e.first ≡ s.first → e.rises ≡ s.rises → e.opened ≡ s.opened

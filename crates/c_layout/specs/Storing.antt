@@ -1,6 +1,6 @@
 -- What is kept by a session's bytes, as statements.
 use Rattle.std.specs.Prelude.{◌≡◌, List, Bool, ℕ, ◌≤◌, ◌<◌}
-use Rattle.limits.specs.Limits.{mostDays}
+use Rattle.limits.specs.Limits.{most_days}
 use Rattle.theory_lists.specs.Sum.{at}
 use Rattle.session.specs.Showing.{SessionInBounds}
 use Rattle.session.specs.declared.Ranges.{Ranges}
@@ -13,7 +13,7 @@ DecodingInBounds = (b : List ℕ) → SessionInBounds (decoding b)
 
 -- cells past the last day are 0
 abbrev pub Padded : ℕ → List ℕ → Type 0
-Padded n cells = (k : ℕ) → n ≤ k → k < mostDays → at cells k ≡ 0
+Padded n cells = (k : ℕ) → n ≤ k → k < most_days → at cells k ≡ 0
 
 -- a session that encoding keeps: its numbers are in bounds, and past the last day stands 0
 pub record Storable (s : Session) : Type 0 where

@@ -10,30 +10,30 @@ use lib.ListN.{length, take, replicate, length-replicate}
 use lib.Seq.{sets}
 use borrow.Author.Tests.{ltb-false, eq-eqb, ne_eqb, eqb-true, eqb-false}
 use Rattle.theory_lists.specs.Checks.{cond-zero, cond-first, or-false}
-use Rattle.theory_lists.specs.ListOf.{list_of, length-listOf, take-written}
+use Rattle.theory_lists.specs.ListOf.{list_of, length-list_of, take-written}
 use Rattle.theory_lists.specs.Written.{written, length-written, written_below}
-use Rattle.theory_lists.specs.Lent.{lentList, list-filled}
-use Rattle.theory_lists.specs.Front.{inFront}
+use Rattle.theory_lists.specs.Lent.{lent_list, list-filled}
+use Rattle.theory_lists.specs.Front.{in_front}
 use Rattle.theory_lists.specs.Rows.{rows, rows_same, length-rows, front-sets}
 use Rattle.base_codes.specs.Code.{on}
 use Rattle.session.proofs.Lengths.{days-taken}
-use Rattle.base_little_endian.specs.Fields.{i16Bytes}
-use Rattle.base_little_endian.proofs.Laws.{i16-length}
-use Rattle.c_lists.specs.Lists.{pointAt, pointsIn, pointBytes, lentPoints}
-use Rattle.c_lists.specs.Profiles.{ByteProfile, haveLengths, byteCountsRefusal, byteLengthRefusal}
+use Rattle.base_little_endian.specs.Fields.{i16_bytes}
+use Rattle.base_little_endian.proofs.Laws.{i16_length}
+use Rattle.c_lists.specs.Lists.{point_at, points_in, point_bytes, lent_points}
+use Rattle.c_lists.specs.Profiles.{ByteProfile, have_lengths, byte_counts_refusal, byte_length_refusal}
 
 -- ---- the lengths by what the tests found
 
-module _ (n floors ceilings rises : ℕ) {found : Bool} (some : n ≡ 0 → ⊥) (few : n ≤ 512) (e : found ≡ haveLengths n floors ceilings rises) where
-  judged : cond {A = ℕ} found 0 2 ≡ byteCountsRefusal n floors ceilings rises
-  unfolding byteCountsRefusal
-  judged = ap (λ b. cond b 0 2) e ∙ days-taken n (cond (haveLengths n floors ceilings rises) 0 2) some few
+module _ (n floors ceilings rises : ℕ) {found : Bool} (some : n ≡ 0 → ⊥) (few : n ≤ 512) (e : found ≡ have_lengths n floors ceilings rises) where
+  judged : cond {A = ℕ} found 0 2 ≡ byte_counts_refusal n floors ceilings rises
+  unfolding byte_counts_refusal
+  judged = ap (λ b. cond b 0 2) e ∙ days-taken n (cond (have_lengths n floors ceilings rises) 0 2) some few
 
-  pub lengths-wrong : found ≡ false → 2 ≡ byteCountsRefusal n floors ceilings rises
-  lengths-wrong h = ap (λ b. cond b 0 2) (sym h) ∙ judged
+  pub lengths_wrong : found ≡ false → 2 ≡ byte_counts_refusal n floors ceilings rises
+  lengths_wrong h = ap (λ b. cond b 0 2) (sym h) ∙ judged
 
-  pub lengths-right : found ≡ true → 0 ≡ byteCountsRefusal n floors ceilings rises
-  lengths-right h = ap (λ b. cond b 0 2) (sym h) ∙ judged
+  pub lengths_right : found ≡ true → 0 ≡ byte_counts_refusal n floors ceilings rises
+  lengths_right h = ap (λ b. cond b 0 2) (sym h) ∙ judged
 
 -- what 1 and 2 let pass
 pub record Long (h : ByteProfile) : Type 0 where
@@ -43,8 +43,8 @@ pub record Long (h : ByteProfile) : Type 0 where
   pub ceilings-long : length h.ceilings ≡ h.numbers.days * 2
   pub rises-long : length h.rises ≡ (h.numbers.days - 1) * 2
 
-pub long : (h : ByteProfile) → byteLengthRefusal h ≡ 0 → Long h
-unfolding byteCountsRefusal
+pub long : (h : ByteProfile) → byte_length_refusal h ≡ 0 → Long h
+unfolding byte_counts_refusal
 long h e =
     let n : ℕ = h.numbers.days in
     let floors : Bool = eqb (length h.floors) (n * 2) in
@@ -67,31 +67,31 @@ long h e =
 pub record Held (b : List ℕ) (n : ℕ) (l : List ℤ) : Type 0 where
   pub room : n ≤ length l
   pub long : n ≡ length (take n l)
-  pub same : take n l ≡ pointsIn b n
+  pub same : take n l ≡ points_in b n
 
-pub held : (b : List ℕ) (n : ℕ) {l : List ℤ} → n ≤ 512 → l ≡ written (pointAt b) n (replicate 512 (pos 0)) → Held b n l
-unfolding pointsIn
+pub held : (b : List ℕ) (n : ℕ) {l : List ℤ} → n ≤ 512 → l ≡ written (point_at b) n (replicate 512 (pos 0)) → Held b n l
+unfolding points_in
 held b n {l} few e =
     let zeros : List ℤ = replicate 512 (pos 0) in
     let size : length zeros ≡ 512 = length-replicate 512 (pos 0) in
-    let same : take n l ≡ list_of (pointAt b) n = rw e (take-written (pointAt b) n zeros (omega arith)) in
+    let same : take n l ≡ list_of (point_at b) n = rw e (take-written (point_at b) n zeros (omega arith)) in
     record {
-      room = rw e (omega (arith, length-written (pointAt b) n zeros));
-      long = rw same (sym (length-listOf (pointAt b) n));
+      room = rw e (omega (arith, length-written (point_at b) n zeros));
+      long = rw same (sym (length-list_of (point_at b) n));
       same = same;
     }
 
 -- ---- points stored as the front of a list
 
-pub points-front : (f g : ℕ → ℤ) (n : ℕ) (l : List ℕ) {out : List ℕ} → ((k : ℕ) → k < n → g k ≡ f k) → n * 2 ≤ length l
-    → out ≡ sets l 0 (pointBytes g n) → out ≡ inFront (pointBytes f n) l
-unfolding pointBytes
-points-front f g n l same room e =
-    let row : (ℕ → ℤ) → ℕ → List ℕ = λ h k. i16Bytes (h k) in
-    e ∙ rw (← rows_same (row g) (row f) n (λ k h. ap i16Bytes (same k h))) (front-sets (rows (row g) n) l (omega (arith, length-rows (row g) 2 n (λ k h. i16-length (g k)))))
+pub points_front : (f g : ℕ → ℤ) (n : ℕ) (l : List ℕ) {out : List ℕ} → ((k : ℕ) → k < n → g k ≡ f k) → n * 2 ≤ length l
+    → out ≡ sets l 0 (point_bytes g n) → out ≡ in_front (point_bytes f n) l
+unfolding point_bytes
+points_front f g n l same room e =
+    let row : (ℕ → ℤ) → ℕ → List ℕ = λ h k. i16_bytes (h k) in
+    e ∙ rw (← rows_same (row g) (row f) n (λ k h. ap i16_bytes (same k h))) (front-sets (rows (row g) n) l (omega (arith, length-rows (row g) 2 n (λ k h. i16_length (g k)))))
 
 -- what stands in a lent list
-lent_at : {refusal n : ℕ} (f : ℕ → ℤ) {points : List ℤ} (l : List ℤ) → refusal ≡ 0 → n ≤ length l → points ≡ lentList refusal f n l → (k : ℕ) → k < n → on points k ≡ f k
+lent_at : {refusal n : ℕ} (f : ℕ → ℤ) {points : List ℤ} (l : List ℤ) → refusal ≡ 0 → n ≤ length l → points ≡ lent_list refusal f n l → (k : ℕ) → k < n → on points k ≡ f k
 lent_at {refusal} {n} f l z h e k u = rw (e, list-filled refusal f n l z) (written_below f (pos 0) n l k u h)
 
 -- n points of an array that was lent and filled, stored as the front of the list l, which gives out
@@ -99,19 +99,19 @@ pub record Handing (refusal : ℕ) (f : ℕ → ℤ) (n : ℕ) (l : List ℕ) (p
   pub none : refusal ≡ 0
   pub few : n ≤ 512
   pub room : n * 2 ≤ length l
-  pub lent : points ≡ lentList refusal f n (replicate 512 (pos 0))
-  pub stored : out ≡ sets l 0 (pointBytes (on points) n)
+  pub lent : points ≡ lent_list refusal f n (replicate 512 (pos 0))
+  pub stored : out ≡ sets l 0 (point_bytes (on points) n)
 
-pub points-stored : {refusal : ℕ} (f : ℕ → ℤ) (n : ℕ) (l : List ℕ) {points : List ℤ} {out : List ℕ} → Handing refusal f n l points out → out ≡ inFront (pointBytes f n) l
-points-stored f n l {points} h =
-    points-front f (on points) n l (lent_at f (replicate 512 (pos 0)) h.none (omega (arith, h.few, length-replicate 512 (pos 0))) h.lent) h.room h.stored
+pub points_stored : {refusal : ℕ} (f : ℕ → ℤ) (n : ℕ) (l : List ℕ) {points : List ℤ} {out : List ℕ} → Handing refusal f n l points out → out ≡ in_front (point_bytes f n) l
+points_stored f n l {points} h =
+    points_front f (on points) n l (lent_at f (replicate 512 (pos 0)) h.none (omega (arith, h.few, length-replicate 512 (pos 0))) h.lent) h.room h.stored
 
 -- a list by the refusal
 module _ (refusal : ℕ) (f : ℕ → ℤ) (n : ℕ) (l : List ℕ) where
-  pub points-left : (refusal ≡ 0 → ⊥) → lentPoints refusal f n l ≡ l
-  unfolding lentPoints
-  points-left h = rw (ne_eqb refusal 0 h) refl
+  pub points_left : (refusal ≡ 0 → ⊥) → lent_points refusal f n l ≡ l
+  unfolding lent_points
+  points_left h = rw (ne_eqb refusal 0 h) refl
 
-  pub points-filled : refusal ≡ 0 → lentPoints refusal f n l ≡ inFront (pointBytes f n) l
-  unfolding lentPoints
-  points-filled z = rw (eq-eqb refusal 0 z) refl
+  pub points_filled : refusal ≡ 0 → lent_points refusal f n l ≡ in_front (point_bytes f n) l
+  unfolding lent_points
+  points_filled z = rw (eq-eqb refusal 0 z) refl

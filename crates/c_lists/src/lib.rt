@@ -1,12 +1,12 @@
 // Lists as a caller in C hands them over: byte strings of 2-byte little-endian elements.
 ghost use Rattle.std.specs.Prelude.{◌≡◌, true, not, ◌||◌, ℕ, ◌+◌, ◌*◌, ◌≤◌, ◌<◌, length};
 ghost use Rattle.std.proofs.lemmas.List.Edits.{sets};
-ghost use Rattle.limits.specs.Limits.{mostDays, lowestPoint, highestPoint, highestLevel, lowestSetpoint, highestSetpoint};
+ghost use Rattle.limits.specs.Limits.{most_days, lowest_point, highest_point, highest_level, lowest_setpoint, highest_setpoint};
 ghost use Rattle.theory_lists.specs.Sum.{at};
 ghost use Rattle.theory_lists.specs.Written.{written};
-ghost use Rattle.base_codes.specs.Code.{within, code, decoded, on, every, codeOrZero};
-ghost use Rattle.c_lists.specs.Lists.{pointAt, pointsIn, levelAt, levelsCrossed, pointBytes, cellBytes};
-ghost use Rattle.c_lists.specs.Profiles.{haveLengths, byteCountsRefusal};
+ghost use Rattle.base_codes.specs.Code.{within, code, decoded, on, every, code_or_zero};
+ghost use Rattle.c_lists.specs.Lists.{point_at, points_in, level_at, levels_crossed, point_bytes, cell_bytes};
+ghost use Rattle.c_lists.specs.Profiles.{have_lengths, byte_counts_refusal};
 
 use base_codes::{code_cell, decode_short};
 use base_little_endian::{i16_at, put_i16, put_u16};
@@ -23,8 +23,8 @@ pub struct CodedRanges {
 
 // Stores the first n points of a list.
 pub fn points(bytes: &[u8], n: usize, out: &mut [i16; MOST_DAYS])
-    requires { (n ≤ mostDays) × (n * 2 ≤ length bytes.now) }
-    ensures { out.new ≡ written (pointAt bytes.now) n out.old }
+    requires { (n ≤ most_days) × (n * 2 ≤ length bytes.now) }
+    ensures { out.new ≡ written (point_at bytes.now) n out.old }
 {
     let mut k = 0;
     while k < n {
@@ -35,10 +35,10 @@ pub fn points(bytes: &[u8], n: usize, out: &mut [i16; MOST_DAYS])
 
 // Stores the codes of the first n points of a list, 0 for one outside its bounds, and says whether there is one. All have 16 bits.
 pub fn code_points(bytes: &[u8], n: usize, low: i32, high: i32, out: &mut [u16; MOST_DAYS]) -> bool
-    requires { (code low high ≤ 65535) × (n ≤ mostDays) × (n * 2 ≤ length bytes.now) }
-    ensures value { result ≡ not (every (within low high) (pointsIn bytes.now n)) }
-    ensures out_after { out.new ≡ written (λ k. codeOrZero low high (pointAt bytes.now k)) n out.old }
-    ensures n_value { every (within lowestSetpoint highestSetpoint) (pointsIn bytes.now n) ≡ true }
+    requires { (code low high ≤ 65535) × (n ≤ most_days) × (n * 2 ≤ length bytes.now) }
+    ensures value { result ≡ not (every (within low high) (points_in bytes.now n)) }
+    ensures out_after { out.new ≡ written (λ k. code_or_zero low high (point_at bytes.now k)) n out.old }
+    ensures n_value { every (within lowest_setpoint highest_setpoint) (points_in bytes.now n) ≡ true }
 {
     let mut outside = false;
     let mut j = 0u32;
@@ -61,11 +61,11 @@ pub fn code_ranges(
     low: &mut [u16; MOST_DAYS],
     high: &mut [u16; MOST_DAYS],
 ) -> CodedRanges
-    requires { (n ≤ mostDays) × (n * 2 ≤ length floors.now) × (n * 2 ≤ length ceilings.now) }
-    ensures outside_value { result.outside ≡ (not (every (within lowestPoint highestPoint) (pointsIn floors.now n)) || not (every (within lowestPoint highestPoint) (pointsIn ceilings.now n))) }
-    ensures crossed_value { result.crossed ≡ levelsCrossed floors.now ceilings.now n }
-    ensures low_after { low.new ≡ written (levelAt floors.now) n low.old }
-    ensures high_after { high.new ≡ written (levelAt ceilings.now) n high.old }
+    requires { (n ≤ most_days) × (n * 2 ≤ length floors.now) × (n * 2 ≤ length ceilings.now) }
+    ensures outside_value { result.outside ≡ (not (every (within lowest_point highest_point) (points_in floors.now n)) || not (every (within lowest_point highest_point) (points_in ceilings.now n))) }
+    ensures crossed_value { result.crossed ≡ levels_crossed floors.now ceilings.now n }
+    ensures low_after { low.new ≡ written (level_at floors.now) n low.old }
+    ensures high_after { high.new ≡ written (level_at ceilings.now) n high.old }
 {
     let mut outside = false;
     let mut crossed = false;
@@ -86,8 +86,8 @@ pub fn code_ranges(
 
 // Stores n points as the front of a list.
 pub fn put_points(points: &[i16; MOST_DAYS], n: usize, out: &mut [u8])
-    requires { (n ≤ mostDays) × (n * 2 ≤ length out.old) }
-    ensures { out.new ≡ sets out.old 0 (pointBytes (on points.now) n) }
+    requires { (n ≤ most_days) × (n * 2 ≤ length out.old) }
+    ensures { out.new ≡ sets out.old 0 (point_bytes (on points.now) n) }
 {
     let mut k = 0;
     while k < n {
@@ -98,8 +98,8 @@ pub fn put_points(points: &[i16; MOST_DAYS], n: usize, out: &mut [u8])
 
 // Stores the points of n levels as the front of a list.
 pub fn put_levels(levels: &[u16; MOST_DAYS], n: usize, out: &mut [u8])
-    requires { (n ≤ mostDays) × (n * 2 ≤ length out.old) × ((k : ℕ) → k < n → at levels.now k ≤ highestLevel) }
-    ensures { out.new ≡ sets out.old 0 (pointBytes (λ k. decoded lowestPoint (at levels.now k)) n) }
+    requires { (n ≤ most_days) × (n * 2 ≤ length out.old) × ((k : ℕ) → k < n → at levels.now k ≤ highest_level) }
+    ensures { out.new ≡ sets out.old 0 (point_bytes (λ k. decoded lowest_point (at levels.now k)) n) }
 {
     let mut k = 0;
     while k < n {
@@ -110,8 +110,8 @@ pub fn put_levels(levels: &[u16; MOST_DAYS], n: usize, out: &mut [u8])
 
 // Stores n unsigned numbers from a place on.
 pub fn put_cells(cells: &[u16; MOST_DAYS], n: usize, place: usize, out: &mut [u8])
-    requires { (n ≤ mostDays) × (place + n * 2 ≤ length out.old) }
-    ensures { out.new ≡ sets out.old place (cellBytes (at cells.now) n) }
+    requires { (n ≤ most_days) × (place + n * 2 ≤ length out.old) }
+    ensures { out.new ≡ sets out.old place (cell_bytes (at cells.now) n) }
 {
     let mut j = 0u32;
     let end = n as u32;
@@ -124,15 +124,15 @@ pub fn put_cells(cells: &[u16; MOST_DAYS], n: usize, place: usize, out: &mut [u8
 
 // Whether a profile's lists are as long as its days ask, by their counts of bytes.
 fn have_lengths(days: usize, floors: usize, ceilings: usize, rises: usize) -> bool
-    requires { (0 < days) × (days ≤ mostDays) }
-    ensures { result ≡ haveLengths days floors ceilings rises }
+    requires { (0 < days) × (days ≤ most_days) }
+    ensures { result ≡ have_lengths days floors ceilings rises }
 {
     (floors == days * 2) & (ceilings == days * 2) & (rises == (days - 1) * 2)
 }
 
 // 1 for a bad day count, 2 for a list of the wrong length, else 0.
 pub fn length_refusal(days: usize, floors: usize, ceilings: usize, rises: usize) -> u8
-    ensures { result ≡ byteCountsRefusal days floors ceilings rises }
+    ensures { result ≡ byte_counts_refusal days floors ceilings rises }
 {
     if days == 0 {
         return 1;

@@ -1,16 +1,16 @@
 // What a session's bytes hold, each part read when it is needed.
 ghost use Rattle.std.specs.Prelude.{◌≡◌, ◌+◌, ◌*◌, ◌≤◌, ◌<◌, min, length};
 ghost use Rattle.std.proofs.lemmas.List.Edits.{sets};
-ghost use Rattle.limits.specs.Limits.{mostDays, lowestPoint, highestLevel};
+ghost use Rattle.limits.specs.Limits.{most_days, lowest_point, highest_level};
 ghost use Rattle.theory_lists.specs.Sum.{at};
-ghost use Rattle.theory_lists.specs.Front.{inFront};
+ghost use Rattle.theory_lists.specs.Front.{in_front};
 ghost use Rattle.theory_lists.specs.Written.{written};
 ghost use Rattle.base_codes.specs.Code.{decoded};
-ghost use Rattle.base_little_endian.specs.Fields.{u16At};
+ghost use Rattle.base_little_endian.specs.Fields.{u16_at};
 ghost use Rattle.theory_method.specs.Filter.{zeros};
-ghost use Rattle.session.specs.Showing.{floorOn, ceilingOn};
-ghost use Rattle.c_lists.specs.Lists.{pointBytes};
-ghost use Rattle.c_layout.specs.Layout.{cellLength, totalLength, totalsLength, sessionBytes, totalAt, decoding};
+ghost use Rattle.session.specs.Showing.{floor_on, ceiling_on};
+ghost use Rattle.c_lists.specs.Lists.{point_bytes};
+ghost use Rattle.c_layout.specs.Layout.{cell_length, total_length, totals_length, session_bytes, total_at, decoding};
 
 use base_codes::{Coded, decode_short};
 use base_little_endian::{i32_at, put_i16, u16_at};
@@ -37,8 +37,8 @@ fn at_most(x: u16, most: u16) -> u16
 
 // The first n cells from a place on.
 fn cells(bytes: &[u8], place: usize, n: usize, most: u16, out: &mut [u16; MOST_DAYS])
-    requires { (n ≤ mostDays) × (place + n * cellLength ≤ length bytes.now) }
-    ensures { out.new ≡ written (λ k. min (u16At bytes.now (place + k * cellLength)) most) n out.old }
+    requires { (n ≤ most_days) × (place + n * cell_length ≤ length bytes.now) }
+    ensures { out.new ≡ written (λ k. min (u16_at bytes.now (place + k * cell_length)) most) n out.old }
 {
     let mut k = 0;
     while k < n {
@@ -49,8 +49,8 @@ fn cells(bytes: &[u8], place: usize, n: usize, most: u16, out: &mut [u16; MOST_D
 
 // A bound of the total, as it is held.
 fn bound(bytes: &[u8], place: usize) -> usize
-    requires { place + totalLength ≤ length bytes.now }
-    ensures { result ≡ totalAt bytes.now place }
+    requires { place + total_length ≤ length bytes.now }
+    ensures { result ≡ total_at bytes.now place }
 {
     let Coded::Code(held) = base_codes::code(
         i32_at(bytes, place),
@@ -70,8 +70,8 @@ pub struct Total {
 }
 
 pub fn totals(bytes: &[u8], place: usize) -> Total
-    requires { place + totalsLength ≤ length bytes.now }
-    ensures { (result.lowest ≡ totalAt bytes.now place) × (result.highest ≡ totalAt bytes.now (place + totalLength)) }
+    requires { place + totals_length ≤ length bytes.now }
+    ensures { (result.lowest ≡ total_at bytes.now place) × (result.highest ≡ total_at bytes.now (place + total_length)) }
 {
     Total {
         lowest: bound(bytes, place),
@@ -80,8 +80,8 @@ pub fn totals(bytes: &[u8], place: usize) -> Total
 }
 
 pub fn level(bytes: &[u8], place: usize) -> u16
-    requires { place + cellLength ≤ length bytes.now }
-    ensures { result ≡ min (u16At bytes.now place) highestLevel }
+    requires { place + cell_length ≤ length bytes.now }
+    ensures { result ≡ min (u16_at bytes.now place) highest_level }
 {
     at_most(u16_at(bytes, place), MOST_LEVEL)
 }
@@ -89,7 +89,7 @@ pub fn level(bytes: &[u8], place: usize) -> u16
 // ---- parts of the session, each read when it is needed
 
 pub fn days_of(bytes: &[u8]) -> usize
-    requires { length bytes.now ≡ sessionBytes }
+    requires { length bytes.now ≡ session_bytes }
     ensures { result ≡ (decoding bytes.now).days }
 {
     max(1, min(Session::MOST_DAYS, wide(u16_at(bytes, DAYS_AT))))
@@ -97,7 +97,7 @@ pub fn days_of(bytes: &[u8]) -> usize
 
 // The first counted day, one of the session's days.
 pub fn first_of(bytes: &[u8]) -> usize
-    requires { length bytes.now ≡ sessionBytes }
+    requires { length bytes.now ≡ session_bytes }
     ensures { result ≡ (decoding bytes.now).first }
 {
     let last = days_of(bytes) - 1;
@@ -105,7 +105,7 @@ pub fn first_of(bytes: &[u8]) -> usize
 }
 
 pub fn is_spent(bytes: &[u8]) -> bool
-    requires { length bytes.now ≡ sessionBytes }
+    requires { length bytes.now ≡ session_bytes }
     ensures { result ≡ (decoding bytes.now).spent }
 {
     u16_at(bytes, MARK_AT) != 0
@@ -113,7 +113,7 @@ pub fn is_spent(bytes: &[u8]) -> bool
 
 // The total's present range.
 pub fn total_of(bytes: &[u8]) -> Total
-    requires { length bytes.now ≡ sessionBytes }
+    requires { length bytes.now ≡ session_bytes }
     ensures { (result.lowest ≡ (decoding bytes.now).present.lowest) × (result.highest ≡ (decoding bytes.now).present.highest) }
 {
     totals(bytes, PRESENT_TOTALS_AT)
@@ -121,14 +121,14 @@ pub fn total_of(bytes: &[u8]) -> Total
 
 // The present range of a day.
 pub fn floor_of(bytes: &[u8], day: usize) -> u16
-    requires { (length bytes.now ≡ sessionBytes) × (day < (decoding bytes.now).days) }
+    requires { (length bytes.now ≡ session_bytes) × (day < (decoding bytes.now).days) }
     ensures { result ≡ at (decoding bytes.now).present.floors day }
 {
     level(bytes, PRESENT_AT + day * CELL_BYTES)
 }
 
 pub fn ceiling_of(bytes: &[u8], day: usize) -> u16
-    requires { (length bytes.now ≡ sessionBytes) × (day < (decoding bytes.now).days) }
+    requires { (length bytes.now ≡ session_bytes) × (day < (decoding bytes.now).days) }
     ensures { result ≡ at (decoding bytes.now).present.ceilings day }
 {
     level(bytes, PRESENT_AT + BLOCK_BYTES + day * CELL_BYTES)
@@ -141,7 +141,7 @@ pub fn load_present(
     floors: &mut [u16; MOST_DAYS],
     ceilings: &mut [u16; MOST_DAYS],
 )
-    requires { (length bytes.now ≡ sessionBytes) × (rises.old ≡ zeros) × (floors.old ≡ zeros) × (ceilings.old ≡ zeros) }
+    requires { (length bytes.now ≡ session_bytes) × (rises.old ≡ zeros) × (floors.old ≡ zeros) × (ceilings.old ≡ zeros) }
     ensures rises_after { rises.new ≡ (decoding bytes.now).rises }
     ensures floors_after { floors.new ≡ (decoding bytes.now).present.floors }
     ensures ceilings_after { ceilings.new ≡ (decoding bytes.now).present.ceilings }
@@ -156,8 +156,8 @@ pub fn load_present(
 
 // Stores the points of n levels as the front of a list.
 fn show_levels(bytes: &[u8], place: usize, n: usize, out: &mut [u8])
-    requires { (n ≤ mostDays) × (place + n * cellLength ≤ length bytes.now) × (n * cellLength ≤ length out.old) }
-    ensures { out.new ≡ sets out.old 0 (pointBytes (λ k. decoded lowestPoint (min (u16At bytes.now (place + k * cellLength)) highestLevel)) n) }
+    requires { (n ≤ most_days) × (place + n * cell_length ≤ length bytes.now) × (n * cell_length ≤ length out.old) }
+    ensures { out.new ≡ sets out.old 0 (point_bytes (λ k. decoded lowest_point (min (u16_at bytes.now (place + k * cell_length)) highest_level)) n) }
 {
     let mut k = 0;
     while k < n {
@@ -169,9 +169,9 @@ fn show_levels(bytes: &[u8], place: usize, n: usize, out: &mut [u8])
 
 // Stores the present range of each day, in points, as the front of both lists.
 pub fn show_present(bytes: &[u8], floors: &mut [u8], ceilings: &mut [u8])
-    requires { (length bytes.now ≡ sessionBytes) × ((decoding bytes.now).days * cellLength ≤ length floors.old) × ((decoding bytes.now).days * cellLength ≤ length ceilings.old) }
-    ensures floors_after { floors.new ≡ inFront (pointBytes (floorOn (decoding bytes.now)) (decoding bytes.now).days) floors.old }
-    ensures ceilings_after { ceilings.new ≡ inFront (pointBytes (ceilingOn (decoding bytes.now)) (decoding bytes.now).days) ceilings.old }
+    requires { (length bytes.now ≡ session_bytes) × ((decoding bytes.now).days * cell_length ≤ length floors.old) × ((decoding bytes.now).days * cell_length ≤ length ceilings.old) }
+    ensures floors_after { floors.new ≡ in_front (point_bytes (floor_on (decoding bytes.now)) (decoding bytes.now).days) floors.old }
+    ensures ceilings_after { ceilings.new ≡ in_front (point_bytes (ceiling_on (decoding bytes.now)) (decoding bytes.now).days) ceilings.old }
 {
     let n = days_of(bytes);
     show_levels(bytes, PRESENT_AT, n, floors);

@@ -3,10 +3,10 @@ ghost use Rattle.std.specs.Prelude.{◌≡◌, ◌*◌, length};
 ghost use Rattle.theory_lists.specs.Written.{written};
 ghost use Rattle.theory_method.specs.Filter.{zeros};
 ghost use Rattle.schedule_inspection.specs.Inspecting.{finding, judged};
-ghost use Rattle.c_lists.specs.Lists.{pointsIn, lentPoints};
-ghost use Rattle.c_layout.specs.Layout.{sessionBytes, decoding};
-ghost use Rattle.c_schedules.specs.Schedules.{setpointFor, writeRefusal, inspectedOver};
-ghost use Rattle.c_schedules.specs.Stages.{checkedFor, CodeFits, levelsFor};
+ghost use Rattle.c_lists.specs.Lists.{points_in, lent_points};
+ghost use Rattle.c_layout.specs.Layout.{session_bytes, decoding};
+ghost use Rattle.c_schedules.specs.Schedules.{setpoint_for, write_refusal, inspected_over};
+ghost use Rattle.c_schedules.specs.Stages.{checked_for, CodeFits, levels_for};
 
 use c_layout::SESSION_BYTES;
 use c_lists::{code_points, put_levels};
@@ -33,8 +33,8 @@ pub enum Subject {
 
 // Checks 7, 9 and 10 of a value for a day.
 fn check_day(session: &[u8], day: usize, value: i32) -> Checked
-    requires { length session.now ≡ sessionBytes }
-    ensures { result ≡ checkedFor (decoding session.now) (Subject.Day day) value }
+    requires { length session.now ≡ session_bytes }
+    ensures { result ≡ checked_for (decoding session.now) (Subject.Day day) value }
 {
     if days_of(session) <= day {
         return Checked {
@@ -52,16 +52,16 @@ fn check_day(session: &[u8], day: usize, value: i32) -> Checked
 
 // Checks 9 and 10 of a value for the total.
 fn check_total(session: &[u8], value: i32) -> Checked
-    requires { length session.now ≡ sessionBytes }
-    ensures { result ≡ checkedFor (decoding session.now) Subject.Total value }
+    requires { length session.now ≡ session_bytes }
+    ensures { result ≡ checked_for (decoding session.now) Subject.Total value }
 {
     let total = total_of(session);
     schedule_writing::check_total(value, total.lowest, total.highest, is_spent(session))
 }
 
 fn check(session: &[u8], subject: Subject, value: i32) -> Checked
-    requires { length session.now ≡ sessionBytes }
-    ensures { result ≡ checkedFor (decoding session.now) subject value }
+    requires { length session.now ≡ session_bytes }
+    ensures { result ≡ checked_for (decoding session.now) subject value }
 {
     match subject {
         Subject::Day(day) => check_day(session, day, value),
@@ -71,8 +71,8 @@ fn check(session: &[u8], subject: Subject, value: i32) -> Checked
 
 // Turns zeros into the schedule's levels, by the code of the value that it is written for.
 fn load_levels(session: &[u8], subject: Subject, code: usize, levels: &mut [u16; MOST_DAYS])
-    requires { (length session.now ≡ sessionBytes) × CodeFits (decoding session.now) subject code × (levels.old ≡ zeros) }
-    ensures { levels.new ≡ written (levelsFor (decoding session.now) subject code) (decoding session.now).days (decoding session.now).present.floors }
+    requires { (length session.now ≡ session_bytes) × CodeFits (decoding session.now) subject code × (levels.old ≡ zeros) }
+    ensures { levels.new ≡ written (levels_for (decoding session.now) subject code) (decoding session.now).days (decoding session.now).present.floors }
 {
     let n = days_of(session);
     let first = first_of(session);
@@ -89,8 +89,8 @@ fn load_levels(session: &[u8], subject: Subject, code: usize, levels: &mut [u16;
 }
 
 pub fn write(session: &[u8], subject: Subject, value: i32, list: &mut [u8]) -> u8
-    ensures value { result ≡ writeRefusal session.now subject value list.old }
-    ensures list_after { list.new ≡ lentPoints result (setpointFor (decoding session.now) subject value) (decoding session.now).days list.old }
+    ensures value { result ≡ write_refusal session.now subject value list.old }
+    ensures list_after { list.new ≡ lent_points result (setpoint_for (decoding session.now) subject value) (decoding session.now).days list.old }
 {
     if session.len() != SESSION_BYTES {
         return 2;
@@ -149,8 +149,8 @@ fn number(answer: Inspection) -> Finding
 
 // Judges a list that is n long by the present ranges and rises.
 fn judge_points(session: &[u8], list: &[u8]) -> Inspection
-    requires { (length session.now ≡ sessionBytes) × (length list.now ≡ (decoding session.now).days * 2) }
-    ensures { finding result ≡ judged (decoding session.now) (pointsIn list.now (decoding session.now).days) }
+    requires { (length session.now ≡ session_bytes) × (length list.now ≡ (decoding session.now).days * 2) }
+    ensures { finding result ≡ judged (decoding session.now) (points_in list.now (decoding session.now).days) }
 {
     let n = days_of(session);
     let first = first_of(session);
@@ -174,7 +174,7 @@ fn judge_points(session: &[u8], list: &[u8]) -> Inspection
 }
 
 fn judge(session: &[u8], list: &[u8]) -> Inspection
-    ensures { finding result ≡ inspectedOver session.now list.now }
+    ensures { finding result ≡ inspected_over session.now list.now }
 {
     if session.len() != SESSION_BYTES {
         return Inspection::WrongLength;
@@ -189,7 +189,7 @@ fn judge(session: &[u8], list: &[u8]) -> Inspection
 }
 
 pub fn inspect(session: &[u8], list: &[u8]) -> Finding
-    ensures { record { refusal = result.refusal; rule = result.rule; place = result.place } ≡ inspectedOver session.now list.now }
+    ensures { record { refusal = result.refusal; rule = result.rule; place = result.place } ≡ inspected_over session.now list.now }
 {
     number(judge(session, list))
 }

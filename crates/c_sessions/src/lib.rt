@@ -1,16 +1,16 @@
 // A session's bytes, opened, cut and shown, as a caller in C hands them over.
 ghost use Rattle.std.specs.Prelude.{◌≡◌, ◌-◌, ◌/◌, length};
-ghost use Rattle.limits.specs.Limits.{lowestRise, highestRise};
+ghost use Rattle.limits.specs.Limits.{lowest_rise, highest_rise};
 ghost use Rattle.theory_lists.specs.Written.{written};
-ghost use Rattle.base_codes.specs.Code.{codeOrZero};
-ghost use Rattle.session.specs.Showing.{listTooShort, floorOn, ceilingOn};
-ghost use Rattle.session.specs.Stages.{codedProfile};
+ghost use Rattle.base_codes.specs.Code.{code_or_zero};
+ghost use Rattle.session.specs.Showing.{list_too_short, floor_on, ceiling_on};
+ghost use Rattle.session.specs.Stages.{coded_profile};
 ghost use Rattle.session_cuts.specs.Numbered.{numbered};
-ghost use Rattle.session_cutting.specs.Cutting.{afterCut};
-ghost use Rattle.c_lists.specs.Lists.{pointAt, levelAt, levelsCrossed, lentPoints};
-ghost use Rattle.c_lists.specs.Profiles.{byteProfile, byteLengthRefusal, profileOf};
-ghost use Rattle.c_layout.specs.Layout.{sessionBytes, decoding};
-ghost use Rattle.c_sessions.specs.Sessions.{openRefusal, bytesOpened, bytesFor, listFor, cutAnswer, bytesCut, changedBytes, shownOver};
+ghost use Rattle.session_cutting.specs.Cutting.{after_cut};
+ghost use Rattle.c_lists.specs.Lists.{point_at, level_at, levels_crossed, lent_points};
+ghost use Rattle.c_lists.specs.Profiles.{byte_profile, byte_length_refusal, profile_of};
+ghost use Rattle.c_layout.specs.Layout.{session_bytes, decoding};
+ghost use Rattle.c_sessions.specs.Sessions.{open_refusal, bytes_opened, bytes_for, list_for, cut_answer, bytes_cut, changed_bytes, shown_over};
 ghost use Rattle.c_sessions.specs.Stages.{Cuttable, made_of};
 
 use base_codes::CodedNumbers;
@@ -42,12 +42,12 @@ fn code_lists(
     high: &mut [u16; MOST_DAYS],
     steps: &mut [u16; MOST_DAYS],
 ) -> CodedLists
-    requires { byteLengthRefusal (byteProfile numbers floors.now ceilings.now rises.now) ≡ 0 }
-    ensures profile_value { result.profile ≡ codedProfile (profileOf (byteProfile numbers floors.now ceilings.now rises.now)) }
-    ensures crossed_value { result.crossed ≡ levelsCrossed floors.now ceilings.now numbers.days }
-    ensures low_after { low.new ≡ written (levelAt floors.now) numbers.days low.old }
-    ensures high_after { high.new ≡ written (levelAt ceilings.now) numbers.days high.old }
-    ensures steps_after { steps.new ≡ written (λ k. codeOrZero lowestRise highestRise (pointAt rises.now k)) (numbers.days - 1) steps.old }
+    requires { byte_length_refusal (byte_profile numbers floors.now ceilings.now rises.now) ≡ 0 }
+    ensures profile_value { result.profile ≡ coded_profile (profile_of (byte_profile numbers floors.now ceilings.now rises.now)) }
+    ensures crossed_value { result.crossed ≡ levels_crossed floors.now ceilings.now numbers.days }
+    ensures low_after { low.new ≡ written (level_at floors.now) numbers.days low.old }
+    ensures high_after { high.new ≡ written (level_at ceilings.now) numbers.days high.old }
+    ensures steps_after { steps.new ≡ written (λ k. code_or_zero lowest_rise highest_rise (point_at rises.now k)) (numbers.days - 1) steps.old }
 {
     let days = numbers.days;
     let ranges = code_ranges(floors, ceilings, days, low, high);
@@ -66,9 +66,9 @@ fn open_lists(
     ceilings: &[u8],
     rises: &[u8],
 ) -> u8
-    requires { (length session.old ≡ sessionBytes) × (byteLengthRefusal (byteProfile numbers floors.now ceilings.now rises.now) ≡ 0) }
-    ensures value { result ≡ openRefusal session.old (byteProfile numbers floors.now ceilings.now rises.now) }
-    ensures session_after { session.new ≡ bytesOpened session.old (byteProfile numbers floors.now ceilings.now rises.now) }
+    requires { (length session.old ≡ session_bytes) × (byte_length_refusal (byte_profile numbers floors.now ceilings.now rises.now) ≡ 0) }
+    ensures value { result ≡ open_refusal session.old (byte_profile numbers floors.now ceilings.now rises.now) }
+    ensures session_after { session.new ≡ bytes_opened session.old (byte_profile numbers floors.now ceilings.now rises.now) }
 {
     let mut low = [0u16; MOST_DAYS];
     let mut high = [0u16; MOST_DAYS];
@@ -102,8 +102,8 @@ pub fn open(
     ceilings: &[u8],
     rises: &[u8],
 ) -> u8
-    ensures value { result ≡ openRefusal session.old (byteProfile numbers floors.now ceilings.now rises.now) }
-    ensures session_after { session.new ≡ bytesOpened session.old (byteProfile numbers floors.now ceilings.now rises.now) }
+    ensures value { result ≡ open_refusal session.old (byte_profile numbers floors.now ceilings.now rises.now) }
+    ensures session_after { session.new ≡ bytes_opened session.old (byte_profile numbers floors.now ceilings.now rises.now) }
 {
     if session.len() != SESSION_BYTES {
         return 2;
@@ -130,8 +130,8 @@ fn refuse(number: u8) -> CutAnswer
 fn cut_present(session: &mut [u8], cut: Cut, value: usize, changed: &mut [u8]) -> CutAnswer
     requires { Cuttable session.old cut value changed.old }
     ensures value { result ≡ (made_of session.old cut).answer }
-    ensures session_after { session.new ≡ bytesFor session.old (made_of session.old cut) }
-    ensures changed_after { changed.new ≡ listFor session.old (made_of session.old cut) changed.old }
+    ensures session_after { session.new ≡ bytes_for session.old (made_of session.old cut) }
+    ensures changed_after { changed.new ≡ list_for session.old (made_of session.old cut) changed.old }
 {
     let mut rises = [0u16; MOST_DAYS];
     let mut floors = [0u16; MOST_DAYS];
@@ -174,10 +174,10 @@ fn cut_present(session: &mut [u8], cut: Cut, value: usize, changed: &mut [u8]) -
 
 // Document 01's checks 12, 7, 3 or 5, 2, 9 from a few bytes, then 8.
 fn cut_known(session: &mut [u8], cut: Cut, changed: &mut [u8]) -> CutAnswer
-    requires { length session.old ≡ sessionBytes }
-    ensures value { result ≡ (afterCut (decoding session.old) cut (length changed.old / 2)).answer }
-    ensures session_after { session.new ≡ bytesFor session.old (afterCut (decoding session.old) cut (length changed.old / 2)) }
-    ensures changed_after { changed.new ≡ listFor session.old (afterCut (decoding session.old) cut (length changed.old / 2)) changed.old }
+    requires { length session.old ≡ session_bytes }
+    ensures value { result ≡ (after_cut (decoding session.old) cut (length changed.old / 2)).answer }
+    ensures session_after { session.new ≡ bytes_for session.old (after_cut (decoding session.old) cut (length changed.old / 2)) }
+    ensures changed_after { changed.new ≡ list_for session.old (after_cut (decoding session.old) cut (length changed.old / 2)) changed.old }
 {
     let days = days_of(session);
     let checked = session_cutting::check(cut, days);
@@ -194,9 +194,9 @@ fn cut_known(session: &mut [u8], cut: Cut, changed: &mut [u8]) -> CutAnswer
 }
 
 pub fn cut(session: &mut [u8], kind: usize, day: usize, value: i32, changed: &mut [u8]) -> CutAnswer
-    ensures value { result ≡ cutAnswer session.old (numbered kind day value) (length changed.old) }
-    ensures session_after { session.new ≡ bytesCut session.old (numbered kind day value) (length changed.old) }
-    ensures changed_after { changed.new ≡ changedBytes session.old (numbered kind day value) changed.old }
+    ensures value { result ≡ cut_answer session.old (numbered kind day value) (length changed.old) }
+    ensures session_after { session.new ≡ bytes_cut session.old (numbered kind day value) (length changed.old) }
+    ensures changed_after { changed.new ≡ changed_bytes session.old (numbered kind day value) changed.old }
 {
     if session.len() != SESSION_BYTES {
         return refuse(2);
@@ -210,7 +210,7 @@ pub fn cut(session: &mut [u8], kind: usize, day: usize, value: i32, changed: &mu
 // ---- showing
 
 fn too_short() -> Shown
-    ensures { result ≡ listTooShort }
+    ensures { result ≡ list_too_short }
 {
     Shown {
         refusal: 2,
@@ -221,9 +221,9 @@ fn too_short() -> Shown
 }
 
 pub fn show(session: &[u8], floors: &mut [u8], ceilings: &mut [u8]) -> Shown
-    ensures value { result ≡ shownOver session.now (length floors.old) (length ceilings.old) }
-    ensures floors_after { floors.new ≡ lentPoints result.refusal (floorOn (decoding session.now)) (decoding session.now).days floors.old }
-    ensures ceilings_after { ceilings.new ≡ lentPoints result.refusal (ceilingOn (decoding session.now)) (decoding session.now).days ceilings.old }
+    ensures value { result ≡ shown_over session.now (length floors.old) (length ceilings.old) }
+    ensures floors_after { floors.new ≡ lent_points result.refusal (floor_on (decoding session.now)) (decoding session.now).days floors.old }
+    ensures ceilings_after { ceilings.new ≡ lent_points result.refusal (ceiling_on (decoding session.now)) (decoding session.now).days ceilings.old }
 {
     if session.len() != SESSION_BYTES {
         return too_short();

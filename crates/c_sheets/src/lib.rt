@@ -1,14 +1,14 @@
 // A sheet of cuts on a session's bytes (request Three). The ranges are loaded one time, cut in arrays, and stored one time.
 ghost use Rattle.std.specs.Prelude.{◌≡◌, ◌+◌, ◌*◌, ◌≤◌, length};
 ghost use Rattle.std.proofs.lemmas.List.Edits.{sets};
-ghost use Rattle.limits.specs.Limits.{mostDays};
+ghost use Rattle.limits.specs.Limits.{most_days};
 ghost use Rattle.theory_method.specs.Filter.{zeros};
 ghost use Rattle.session.specs.Showing.{SessionInBounds};
 ghost use Rattle.session.specs.declared.Session.{Session};
-ghost use Rattle.session_cutting.specs.Cutting.{afterNumbered};
+ghost use Rattle.session_cutting.specs.Cutting.{after_numbered};
 ghost use Rattle.session_steps.specs.Steps.{Holds, Holding, Stepped};
-ghost use Rattle.c_layout.specs.Layout.{sessionBytes, decoding};
-ghost use Rattle.c_sheets.specs.Sheets.{askedAt, answerLength, answerBytes, sheetAnswer, bytesAfterSheet, answersAfter, daysAfter};
+ghost use Rattle.c_layout.specs.Layout.{session_bytes, decoding};
+ghost use Rattle.c_sheets.specs.Sheets.{asked_at, answer_length, answer_bytes, sheet_answer, bytes_after_sheet, answers_after, days_after};
 ghost use Rattle.c_sheets.specs.Stages.{RoomFor, Made, Sheetable, MadeOver};
 
 use base_codes::CodedNumbers;
@@ -28,8 +28,8 @@ const ANSWER_BYTES: usize = 2 * CELL_BYTES;
 
 // Stores an answer.
 fn put_answer(answer: CutAnswer, place: usize, out: &mut [u8])
-    requires { (answer.changed ≤ mostDays) × (place + answerLength ≤ length out.old) }
-    ensures { out.new ≡ sets out.old place (answerBytes answer) }
+    requires { (answer.changed ≤ most_days) × (place + answer_length ≤ length out.old) }
+    ensures { out.new ≡ sets out.old place (answer_bytes answer) }
 {
     put_u16(out, place, answer.refusal as u16);
     put_u16(out, place + CELL_BYTES, narrow(answer.changed));
@@ -47,8 +47,8 @@ fn cut_listed(
     answers: &mut [u8],
 ) -> Step
     requires { Holding step rises.now floors.old ceilings.old widths.old × RoomFor (j + 1) cuts.now answers.old }
-    ensures stepped { (s : Session) → SessionInBounds s → Holds s step rises.now floors.old ceilings.old widths.old → Stepped (afterNumbered s (askedAt cuts.now j) s.days) result rises.now floors.new ceilings.new widths.new }
-    ensures answers_after { answers.new ≡ sets answers.old (j * answerLength) (answerBytes result.answer) }
+    ensures stepped { (s : Session) → SessionInBounds s → Holds s step rises.now floors.old ceilings.old widths.old → Stepped (after_numbered s (asked_at cuts.now j) s.days) result rises.now floors.new ceilings.new widths.new }
+    ensures answers_after { answers.new ≡ sets answers.old (j * answer_length) (answer_bytes result.answer) }
 {
     let asked = numbered_at(cuts, j * CUT_BYTES);
     let next = cut_next(step, asked, rises, floors, ceilings, widths);
@@ -88,7 +88,7 @@ fn load(
     ceilings: &mut [u16; MOST_DAYS],
     widths: &mut [u16; MOST_DAYS],
 ) -> Step
-    requires { (length session.now ≡ sessionBytes) × (rises.old ≡ zeros) × (floors.old ≡ zeros) × (ceilings.old ≡ zeros) × (widths.old ≡ zeros) }
+    requires { (length session.now ≡ session_bytes) × (rises.old ≡ zeros) × (floors.old ≡ zeros) × (ceilings.old ≡ zeros) × (widths.old ≡ zeros) }
     ensures { Holds (decoding session.now) result rises.new floors.new ceilings.new widths.new }
 {
     load_present(session, rises, floors, ceilings);
@@ -173,10 +173,10 @@ pub fn cut_sheet(
     answers: &mut [u8],
     changed: &mut [u8],
 ) -> CutAnswer
-    ensures value { result ≡ sheetAnswer session.old cuts.now (length answers.old) (length changed.old) }
-    ensures session_after { session.new ≡ bytesAfterSheet result.refusal session.old cuts.now }
-    ensures answers_after { answers.new ≡ answersAfter result.refusal session.old cuts.now answers.old }
-    ensures changed_after { changed.new ≡ daysAfter result.refusal session.old cuts.now changed.old }
+    ensures value { result ≡ sheet_answer session.old cuts.now (length answers.old) (length changed.old) }
+    ensures session_after { session.new ≡ bytes_after_sheet result.refusal session.old cuts.now }
+    ensures answers_after { answers.new ≡ answers_after result.refusal session.old cuts.now answers.old }
+    ensures changed_after { changed.new ≡ days_after result.refusal session.old cuts.now changed.old }
 {
     if session.len() != SESSION_BYTES {
         return refuse(2);

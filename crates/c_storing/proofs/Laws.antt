@@ -6,10 +6,10 @@ use native.Mathlib.Numerals.{add-one}
 use native.Mathlib.Omega.{arith}
 use lib.ListN.{length, length-append, replicate, replicate-append-replicate}
 use lib.Seq.{sets, drop-length}
-use Rattle.theory_lists.specs.Front.{inFront}
-use Rattle.theory_lists.specs.Part.{stored-before, stored_past}
-use Rattle.base_little_endian.specs.Fields.{u16At}
-use Rattle.theory_lists.specs.Rows.{rows, front-sets, stored-after}
+use Rattle.theory_lists.specs.Front.{in_front}
+use Rattle.theory_lists.specs.Part.{stored_before, stored_past}
+use Rattle.base_little_endian.specs.Fields.{u16_at}
+use Rattle.theory_lists.specs.Rows.{rows, front-sets, stored_after}
 
 -- rows of one element each
 pub rows-replicate : {A : Type 0} (a : A) (n : ℕ) → rows (λ k. a ∷ []) n ≡ replicate n a
@@ -27,23 +27,23 @@ laid l place xs e f = record { made = e; long = f }
 
 -- and others after them
 module _ {l m out xs : List ℕ} {place w : ℕ} (h : Laid l place xs w m) (ys : List ℕ) (e : out ≡ sets m (place + w) ys) where
-  pub laid-last : out ≡ sets l place (xs ++ ys)
-  laid-last = stored-after l place w xs ys h.long h.made e
+  pub laid_last : out ≡ sets l place (xs ++ ys)
+  laid_last = stored_after l place w xs ys h.long h.made e
 
   pub laid_more : {v : ℕ} → length ys ≡ v → Laid l place (xs ++ ys) (w + v) out
-  laid_more f = record { made = laid-last; long = omega (arith, length-append xs ys, h.long) }
+  laid_more f = record { made = laid_last; long = omega (arith, length-append xs ys, h.long) }
 
 -- a list stored over the whole of another
 pub sets-whole : (xs l : List ℕ) → length xs ≡ length l → sets l 0 xs ≡ xs
-unfolding inFront
+unfolding in_front
 sets-whole xs l e = front-sets xs l (omega arith) ∙ rw (e, drop-length) (append-nil xs)
 
 -- ---- a field that no store reached
 
-pub field-before : (xs l : List ℕ) (i k : ℕ) → k + 2 ≤ i → u16At (sets l i xs) k ≡ u16At l k
-unfolding u16At
-field-before xs l i k h = rw (stored-before xs l i k (omega arith), stored-before xs l i (k + 1) (omega arith)) refl
+pub field_before : (xs l : List ℕ) (i k : ℕ) → k + 2 ≤ i → u16_at (sets l i xs) k ≡ u16_at l k
+unfolding u16_at
+field_before xs l i k h = rw (stored_before xs l i k (omega arith), stored_before xs l i (k + 1) (omega arith)) refl
 
-pub field_past : (xs l : List ℕ) (i k : ℕ) → i + length xs ≤ k → u16At (sets l i xs) k ≡ u16At l k
-unfolding u16At
+pub field_past : (xs l : List ℕ) (i k : ℕ) → i + length xs ≤ k → u16_at (sets l i xs) k ≡ u16_at l k
+unfolding u16_at
 field_past xs l i k h = rw (stored_past xs l i k h, stored_past xs l i (k + 1) (omega arith)) refl

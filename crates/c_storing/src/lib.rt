@@ -1,19 +1,19 @@
 // A session's bytes stored: a fresh session whole, and what a cut changes.
 ghost use Rattle.std.specs.Prelude.{◌≡◌, true, false, cond, ◌++◌, ◌+◌, ◌-◌, ◌*◌, ◌≤◌, min, length, replicate};
 ghost use Rattle.std.proofs.lemmas.List.Edits.{sets};
-ghost use Rattle.limits.specs.Limits.{mostDays, highestLevel, highestTotalCode};
+ghost use Rattle.limits.specs.Limits.{most_days, highest_level, highest_total_code};
 ghost use Rattle.theory_lists.specs.Sum.{at};
-ghost use Rattle.theory_lists.specs.Front.{inFront};
+ghost use Rattle.theory_lists.specs.Front.{in_front};
 ghost use Rattle.theory_lists.specs.Written.{written};
-ghost use Rattle.base_little_endian.specs.Fields.{u16At};
+ghost use Rattle.base_little_endian.specs.Fields.{u16_at};
 ghost use Rattle.theory_method.specs.Filter.{InBounds};
 ghost use Rattle.tighten_filtering.specs.Boxed.{boxed};
 ghost use Rattle.session.specs.Opening.{fresh};
-ghost use Rattle.session_order.specs.Order.{settledLosers, dayCells};
+ghost use Rattle.session_order.specs.Order.{settled_losers, day_cells};
 ghost use Rattle.session_changed.specs.Changes.{lost};
-ghost use Rattle.c_lists.specs.Lists.{cellBytes};
-ghost use Rattle.c_layout.specs.Layout.{cellLength, totalsLength, blockLength, rangesLength, sessionBytes, totalBytes, blockBytes, encoding, decoding};
-ghost use Rattle.c_layout.specs.Layout.{presentPlace, patched};
+ghost use Rattle.c_lists.specs.Lists.{cell_bytes};
+ghost use Rattle.c_layout.specs.Layout.{cell_length, totals_length, block_length, ranges_length, session_bytes, total_bytes, block_bytes, encoding, decoding};
+ghost use Rattle.c_layout.specs.Layout.{present_place, patched};
 
 use base_codes::CodedNumbers;
 use base_little_endian::{put_i32, put_u16};
@@ -36,8 +36,8 @@ fn mark(spent: bool) -> u16
 }
 
 fn put_totals(least: usize, most: usize, place: usize, out: &mut [u8])
-    requires { (least ≤ highestTotalCode) × (most ≤ highestTotalCode) × (place + totalsLength ≤ length out.old) }
-    ensures { out.new ≡ sets out.old place (totalBytes least most) }
+    requires { (least ≤ highest_total_code) × (most ≤ highest_total_code) × (place + totals_length ≤ length out.old) }
+    ensures { out.new ≡ sets out.old place (total_bytes least most) }
 {
     put_i32(out, place, base_codes::decode(least, Session::LOWEST_TOTAL));
     put_i32(
@@ -60,8 +60,8 @@ fn put_zeros(out: &mut [u8], from: usize, to: usize)
 
 // The cells of n days, and 0 past the last.
 fn put_block(cells: &[u16; MOST_DAYS], n: usize, place: usize, out: &mut [u8])
-    requires { (n ≤ mostDays) × (place + blockLength ≤ length out.old) }
-    ensures { out.new ≡ sets out.old place (blockBytes cells.now n) }
+    requires { (n ≤ most_days) × (place + block_length ≤ length out.old) }
+    ensures { out.new ≡ sets out.old place (block_bytes cells.now n) }
 {
     put_cells(cells, n, place, out);
     put_zeros(out, place + n * CELL_BYTES, place + BLOCK_BYTES);
@@ -74,8 +74,8 @@ fn put_ranges(
     place: usize,
     out: &mut [u8],
 )
-    requires { (n ≤ mostDays) × (place + rangesLength ≤ length out.old) }
-    ensures { out.new ≡ sets out.old place (blockBytes floors.now n ++ blockBytes ceilings.now n) }
+    requires { (n ≤ most_days) × (place + ranges_length ≤ length out.old) }
+    ensures { out.new ≡ sets out.old place (block_bytes floors.now n ++ block_bytes ceilings.now n) }
 {
     put_block(floors, n, place, out);
     put_block(ceilings, n, place + BLOCK_BYTES, out);
@@ -89,7 +89,7 @@ pub fn store_fresh(
     numbers: CodedNumbers,
     out: &mut [u8],
 )
-    requires { InBounds (boxed floors.now ceilings.now rises.now numbers) × (length out.old ≡ sessionBytes) }
+    requires { InBounds (boxed floors.now ceilings.now rises.now numbers) × (length out.old ≡ session_bytes) }
     ensures { out.new ≡ encoding (fresh numbers.days numbers.first rises.now (record { floors = floors.entry.now; ceilings = ceilings.now; lowest = numbers.lowest; highest = numbers.highest })) }
 {
     let n = numbers.days;
@@ -116,9 +116,9 @@ fn store_days(
     out: &mut [u8],
     losses: &mut [u16; MOST_DAYS],
 )
-    requires { (length out.old ≡ sessionBytes) × (n ≤ mostDays) }
-    ensures losses_after { losses.new ≡ written (λ k. (min (u16At out.old (presentPlace + blockLength + k * cellLength)) highestLevel - min (u16At out.old (presentPlace + k * cellLength)) highestLevel) - (at ceilings.now k - at floors.now k)) n losses.old }
-    ensures out_after { out.new ≡ sets (sets out.old presentPlace (cellBytes (at floors.now) n)) (presentPlace + blockLength) (cellBytes (at ceilings.now) n) }
+    requires { (length out.old ≡ session_bytes) × (n ≤ most_days) }
+    ensures losses_after { losses.new ≡ written (λ k. (min (u16_at out.old (present_place + block_length + k * cell_length)) highest_level - min (u16_at out.old (present_place + k * cell_length)) highest_level) - (at ceilings.now k - at floors.now k)) n losses.old }
+    ensures out_after { out.new ≡ sets (sets out.old present_place (cell_bytes (at floors.now) n)) (present_place + block_length) (cell_bytes (at ceilings.now) n) }
 {
     let mut j = 0u32;
     let end = n as u32;
@@ -147,10 +147,10 @@ pub fn store_cut(
     out: &mut [u8],
     changed: &mut [u8],
 ) -> usize
-    requires losses_len { (length losses.old ≡ mostDays) × (length floors.old ≡ mostDays) × (length ceilings.old ≡ mostDays) }
-    requires lowest_le_highest_total_code { (numbers.lowest ≤ highestTotalCode) × (numbers.highest ≤ highestTotalCode) × (length out.old ≡ sessionBytes) × (numbers.days ≡ (decoding out.old).days) × (numbers.days * cellLength ≤ length changed.old) }
-    ensures value { result ≡ length (settledLosers (lost (decoding out.old).present.floors (decoding out.old).present.ceilings floors.old ceilings.old) numbers.days) }
-    ensures changed_after { changed.new ≡ inFront (dayCells (settledLosers (lost (decoding out.old).present.floors (decoding out.old).present.ceilings floors.old ceilings.old) numbers.days)) changed.old }
+    requires losses_len { (length losses.old ≡ most_days) × (length floors.old ≡ most_days) × (length ceilings.old ≡ most_days) }
+    requires lowest_le_highest_total_code { (numbers.lowest ≤ highest_total_code) × (numbers.highest ≤ highest_total_code) × (length out.old ≡ session_bytes) × (numbers.days ≡ (decoding out.old).days) × (numbers.days * cell_length ≤ length changed.old) }
+    ensures value { result ≡ length (settled_losers (lost (decoding out.old).present.floors (decoding out.old).present.ceilings floors.old ceilings.old) numbers.days) }
+    ensures changed_after { changed.new ≡ in_front (day_cells (settled_losers (lost (decoding out.old).present.floors (decoding out.old).present.ceilings floors.old ceilings.old) numbers.days)) changed.old }
     ensures out_after { out.new ≡ patched out.old numbers.days false (record { floors = floors.entry.now; ceilings = ceilings.old; lowest = numbers.lowest; highest = numbers.highest }) }
 {
     let n = numbers.days;
@@ -164,8 +164,8 @@ pub fn store_cut(
 
 // Stores n levels from one place at a place behind them.
 fn copy_levels(bytes: &mut [u8], from: usize, n: usize, place: usize)
-    requires { (n ≤ mostDays) × (from + n * cellLength ≤ place) × (place + n * cellLength ≤ length bytes.old) }
-    ensures { bytes.new ≡ sets bytes.old place (cellBytes (λ k. min (u16At bytes.old (from + k * cellLength)) highestLevel) n) }
+    requires { (n ≤ most_days) × (from + n * cell_length ≤ place) × (place + n * cell_length ≤ length bytes.old) }
+    ensures { bytes.new ≡ sets bytes.old place (cell_bytes (λ k. min (u16_at bytes.old (from + k * cell_length)) highest_level) n) }
 {
     let mut k = 0;
     while k < n {
@@ -177,7 +177,7 @@ fn copy_levels(bytes: &mut [u8], from: usize, n: usize, place: usize)
 
 // Marks the session spent: its present ranges are those that it had when opened.
 pub fn spend(bytes: &mut [u8])
-    requires { length bytes.old ≡ sessionBytes }
+    requires { length bytes.old ≡ session_bytes }
     ensures { bytes.new ≡ patched bytes.old (decoding bytes.old).days true (decoding bytes.old).opened }
 {
     let n = days_of(bytes);

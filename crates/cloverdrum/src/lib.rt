@@ -2,17 +2,17 @@
 // and its other results through lent numbers, which are 0 beside a refusal.
 ghost use Rattle.std.specs.Prelude.{◌≡◌, cond, ◌-◌, length};
 ghost use Rattle.session_cuts.specs.Numbered.{numbered};
-ghost use Rattle.session.specs.Opening.{numbersWith};
-ghost use Rattle.session.specs.Showing.{floorOn, ceilingOn};
-ghost use Rattle.file_format.specs.Format.{dayCount, floorAt, ceilingAt, riseAt};
-ghost use Rattle.c_lists.specs.Lists.{lentPoints};
-ghost use Rattle.c_lists.specs.Profiles.{byteProfile};
-ghost use Rattle.c_layout.specs.Layout.{sessionBytes, decoding};
-ghost use Rattle.c_files.specs.Reading.{readInto, cutsLent};
-ghost use Rattle.c_files.specs.Writing.{writeOver, outputOver};
-ghost use Rattle.c_sessions.specs.Sessions.{openRefusal, bytesOpened, cutAnswer, bytesCut, changedBytes, shownOver, marked};
-ghost use Rattle.c_sheets.specs.Sheets.{sheetAnswer, bytesAfterSheet, answersAfter, daysAfter};
-ghost use Rattle.c_schedules.specs.Schedules.{setpointFor, writeRefusal, inspectedOver};
+ghost use Rattle.session.specs.Opening.{numbers_with};
+ghost use Rattle.session.specs.Showing.{floor_on, ceiling_on};
+ghost use Rattle.file_format.specs.Format.{day_count, floor_at, ceiling_at, rise_at};
+ghost use Rattle.c_lists.specs.Lists.{lent_points};
+ghost use Rattle.c_lists.specs.Profiles.{byte_profile};
+ghost use Rattle.c_layout.specs.Layout.{session_bytes, decoding};
+ghost use Rattle.c_files.specs.Reading.{read_into, cuts_lent};
+ghost use Rattle.c_files.specs.Writing.{write_over, output_over};
+ghost use Rattle.c_sessions.specs.Sessions.{open_refusal, bytes_opened, cut_answer, bytes_cut, changed_bytes, shown_over, marked};
+ghost use Rattle.c_sheets.specs.Sheets.{sheet_answer, bytes_after_sheet, answers_after, days_after};
+ghost use Rattle.c_schedules.specs.Schedules.{setpoint_for, write_refusal, inspected_over};
 ghost use Rattle.c_schedules.specs.declared.Subject.TheVariants.{Day, Total};
 
 use c_layout::SESSION_BYTES;
@@ -22,7 +22,7 @@ use session::Numbers;
 // How many bytes a session has.
 #[unsafe(no_mangle)]
 pub extern "C" fn cloverdrum_session_bytes() -> usize
-    ensures { result ≡ sessionBytes }
+    ensures { result ≡ session_bytes }
 {
     SESSION_BYTES
 }
@@ -40,8 +40,8 @@ pub extern "C" fn cloverdrum_open(
     total_ceiling: i32,
     first_counted_day: usize,
 ) -> u8
-    ensures value { result ≡ openRefusal session.old (byteProfile (numbersWith days first_counted_day total_floor total_ceiling) floors.now ceilings.now rises.now) }
-    ensures session_after { session.new ≡ bytesOpened session.old (byteProfile (numbersWith days first_counted_day total_floor total_ceiling) floors.now ceilings.now rises.now) }
+    ensures value { result ≡ open_refusal session.old (byte_profile (numbers_with days first_counted_day total_floor total_ceiling) floors.now ceilings.now rises.now) }
+    ensures session_after { session.new ≡ bytes_opened session.old (byte_profile (numbers_with days first_counted_day total_floor total_ceiling) floors.now ceilings.now rises.now) }
 {
     let numbers = Numbers {
         days,
@@ -63,9 +63,9 @@ pub extern "C" fn cloverdrum_cut(
     changed: &mut [u8],
     changed_days: &mut usize,
 ) -> u8
-    ensures changed_days_after { record { refusal = result; changed = changed_days.new } ≡ cutAnswer session.old (numbered kind day value) (length changed.old) }
-    ensures session_after { session.new ≡ bytesCut session.old (numbered kind day value) (length changed.old) }
-    ensures changed_after { changed.new ≡ changedBytes session.old (numbered kind day value) changed.old }
+    ensures changed_days_after { record { refusal = result; changed = changed_days.new } ≡ cut_answer session.old (numbered kind day value) (length changed.old) }
+    ensures session_after { session.new ≡ bytes_cut session.old (numbered kind day value) (length changed.old) }
+    ensures changed_after { changed.new ≡ changed_bytes session.old (numbered kind day value) changed.old }
 {
     let answer = c_sessions::cut(session, kind, day, value, changed);
     *changed_days = answer.changed;
@@ -81,10 +81,10 @@ pub extern "C" fn cloverdrum_cut_sheet(
     changed: &mut [u8],
     changed_days: &mut usize,
 ) -> u8
-    ensures changed_days_after { record { refusal = result; changed = changed_days.new } ≡ sheetAnswer session.old cuts.now (length answers.old) (length changed.old) }
-    ensures session_after { session.new ≡ bytesAfterSheet result session.old cuts.now }
-    ensures answers_after { answers.new ≡ answersAfter result session.old cuts.now answers.old }
-    ensures changed_after { changed.new ≡ daysAfter result session.old cuts.now changed.old }
+    ensures changed_days_after { record { refusal = result; changed = changed_days.new } ≡ sheet_answer session.old cuts.now (length answers.old) (length changed.old) }
+    ensures session_after { session.new ≡ bytes_after_sheet result session.old cuts.now }
+    ensures answers_after { answers.new ≡ answers_after result session.old cuts.now answers.old }
+    ensures changed_after { changed.new ≡ days_after result session.old cuts.now changed.old }
 {
     let answer = c_sheets::cut_sheet(session, cuts, answers, changed);
     *changed_days = answer.changed;
@@ -109,9 +109,9 @@ pub extern "C" fn cloverdrum_read(
     total_ceiling: &mut i32,
     spent: &mut u8,
 ) -> u8
-    ensures spent_after { record { refusal = result; lowest = total_floor.new; highest = total_ceiling.new; spent = spent.new } ≡ marked (shownOver session.now (length floors.old) (length ceilings.old)) }
-    ensures floors_after { floors.new ≡ lentPoints result (floorOn (decoding session.now)) (decoding session.now).days floors.old }
-    ensures ceilings_after { ceilings.new ≡ lentPoints result (ceilingOn (decoding session.now)) (decoding session.now).days ceilings.old }
+    ensures spent_after { record { refusal = result; lowest = total_floor.new; highest = total_ceiling.new; spent = spent.new } ≡ marked (shown_over session.now (length floors.old) (length ceilings.old)) }
+    ensures floors_after { floors.new ≡ lent_points result (floor_on (decoding session.now)) (decoding session.now).days floors.old }
+    ensures ceilings_after { ceilings.new ≡ lent_points result (ceiling_on (decoding session.now)) (decoding session.now).days ceilings.old }
 {
     let shown = c_sessions::show(session, floors, ceilings);
     let low = shown.lowest;
@@ -131,16 +131,16 @@ pub extern "C" fn cloverdrum_write_day(
     value: i32,
     schedule: &mut [u8],
 ) -> u8
-    ensures value { result ≡ writeRefusal session.now (Day day) value schedule.old }
-    ensures schedule_after { schedule.new ≡ lentPoints result (setpointFor (decoding session.now) (Day day) value) (decoding session.now).days schedule.old }
+    ensures value { result ≡ write_refusal session.now (Day day) value schedule.old }
+    ensures schedule_after { schedule.new ≡ lent_points result (setpoint_for (decoding session.now) (Day day) value) (decoding session.now).days schedule.old }
 {
     c_schedules::write(session, Subject::Day(day), value, schedule)
 }
 
 #[unsafe(no_mangle)]
 pub extern "C" fn cloverdrum_write_total(session: &[u8], value: i32, schedule: &mut [u8]) -> u8
-    ensures value { result ≡ writeRefusal session.now Total value schedule.old }
-    ensures schedule_after { schedule.new ≡ lentPoints result (setpointFor (decoding session.now) Total value) (decoding session.now).days schedule.old }
+    ensures value { result ≡ write_refusal session.now Total value schedule.old }
+    ensures schedule_after { schedule.new ≡ lent_points result (setpoint_for (decoding session.now) Total value) (decoding session.now).days schedule.old }
 {
     c_schedules::write(session, Subject::Total, value, schedule)
 }
@@ -152,7 +152,7 @@ pub extern "C" fn cloverdrum_inspect(
     rule: &mut usize,
     place: &mut usize,
 ) -> u8
-    ensures { record { refusal = result; rule = rule.new; place = place.new } ≡ inspectedOver session.now schedule.now }
+    ensures { record { refusal = result; rule = rule.new; place = place.new } ≡ inspected_over session.now schedule.now }
 {
     let found = c_schedules::inspect(session, schedule);
     *rule = found.rule;
@@ -175,11 +175,11 @@ pub extern "C" fn cloverdrum_read_file(
     total_ceiling: &mut i32,
     first_counted_day: &mut usize,
 ) -> u8
-    ensures cuts_count_after { record { refusal = result; numbers = record { days = days.exit.now; first = first_counted_day.new; lowest = total_floor.new; highest = total_ceiling.new }; cuts = cuts_count.new } ≡ readInto file.now (length floors.old) (length ceilings.old) (length rises.old) (length cuts.old) }
-    ensures floors_after { floors.new ≡ lentPoints result (floorAt file.now) (dayCount file.now) floors.old }
-    ensures ceilings_after { ceilings.new ≡ lentPoints result (ceilingAt file.now) (dayCount file.now) ceilings.old }
-    ensures rises_after { rises.new ≡ lentPoints result (riseAt file.now) (dayCount file.now - 1) rises.old }
-    ensures cuts_after { cuts.new ≡ cutsLent result file.now cuts.old }
+    ensures cuts_count_after { record { refusal = result; numbers = record { days = days.exit.now; first = first_counted_day.new; lowest = total_floor.new; highest = total_ceiling.new }; cuts = cuts_count.new } ≡ read_into file.now (length floors.old) (length ceilings.old) (length rises.old) (length cuts.old) }
+    ensures floors_after { floors.new ≡ lent_points result (floor_at file.now) (day_count file.now) floors.old }
+    ensures ceilings_after { ceilings.new ≡ lent_points result (ceiling_at file.now) (day_count file.now) ceilings.old }
+    ensures rises_after { rises.new ≡ lent_points result (rise_at file.now) (day_count file.now - 1) rises.old }
+    ensures cuts_after { cuts.new ≡ cuts_lent result file.now cuts.old }
 {
     let contents = c_files::read(file, floors, ceilings, rises, cuts);
     let numbers = contents.numbers;
@@ -206,8 +206,8 @@ pub extern "C" fn cloverdrum_write_file(
     file: &mut [u8],
     file_bytes: &mut usize,
 ) -> u8
-    ensures file_bytes_after { record { refusal = result; length = file_bytes.new } ≡ writeOver (byteProfile (numbersWith days first_counted_day total_floor total_ceiling) floors.now ceilings.now rises.now) cuts.now (length file.old) }
-    ensures file_after { file.new ≡ outputOver (byteProfile (numbersWith days first_counted_day total_floor total_ceiling) floors.now ceilings.now rises.now) cuts.now file.old }
+    ensures file_bytes_after { record { refusal = result; length = file_bytes.new } ≡ write_over (byte_profile (numbers_with days first_counted_day total_floor total_ceiling) floors.now ceilings.now rises.now) cuts.now (length file.old) }
+    ensures file_after { file.new ≡ output_over (byte_profile (numbers_with days first_counted_day total_floor total_ceiling) floors.now ceilings.now rises.now) cuts.now file.old }
 {
     let numbers = Numbers {
         days,

@@ -7,12 +7,12 @@ use native.Mathlib.Omega.{arith}
 use lib.Dec.{eqb, ltb}
 use lib.ListN.{length}
 use borrow.Author.Tests.{eq-eqb, ne_eqb, lt-ltb, le-ltb}
-use Rattle.theory_lists.specs.First.{firstWhere}
+use Rattle.theory_lists.specs.First.{first_where}
 use Rattle.theory_lists.specs.Checks.{cond-zero}
-use Rattle.base_little_endian.specs.Fields.{u16At}
+use Rattle.base_little_endian.specs.Fields.{u16_at}
 use Rattle.base_little_endian.proofs.Laws.{zero_field}
-use Rattle.file_format.specs.Format.{dayOffset, fileLength, dayCount, cutCount, daysOffset, cutsOffset, numberedAt}
-use Rattle.file_format.specs.Reading.{badCounts, badLayout, badFields, badCut, earlyReading}
+use Rattle.file_format.specs.Format.{day_offset, file_length, day_count, cut_count, days_offset, cuts_offset, numbered_at}
+use Rattle.file_format.specs.Reading.{bad_counts, bad_layout, bad_fields, bad_cut, early_reading}
 use Rattle.file_format.proofs.Taken.{counted, laid}
 
 -- ---- counts_refusal
@@ -21,67 +21,67 @@ module _ (days cuts : ℕ) where
   abbrev counts : ℕ
   counts = cond (eqb days 0 || ltb 512 days || ltb 512 cuts) 1 0
 
-  pub no-days : days ≡ 0 → 1 ≡ counts
-  no-days h = rw (eq-eqb days 0 h)
+  pub no_days : days ≡ 0 → 1 ≡ counts
+  no_days h = rw (eq-eqb days 0 h)
 
-  pub many-days : 512 < days → 1 ≡ counts
-  many-days h = rw (lt-ltb 512 days h, or-true)
+  pub many_days : 512 < days → 1 ≡ counts
+  many_days h = rw (lt-ltb 512 days h, or-true)
 
-  pub many-cuts : 512 < cuts → 1 ≡ counts
-  many-cuts h = rw (lt-ltb 512 cuts h, or-true)
+  pub many_cuts : 512 < cuts → 1 ≡ counts
+  many_cuts h = rw (lt-ltb 512 cuts h, or-true)
 
   pub counts-taken : (days ≡ 0 → ⊥) → days ≤ 512 → cuts ≤ 512 → 0 ≡ counts
   counts-taken h few cuts-few = rw (ne_eqb days 0 h, le-ltb 512 days few, le-ltb 512 cuts cuts-few)
 
 -- n and m are the counts that the header says
 pub record Said (b : List ℕ) (n m : ℕ) : Type 0 where
-  pub days : n ≡ dayCount b
-  pub cuts : m ≡ cutCount b
+  pub days : n ≡ day_count b
+  pub cuts : m ≡ cut_count b
 
 -- ---- layout_refusal
 
 abbrev layout : List ℕ → ℕ
-layout b = cond (badLayout b) 11 0
+layout b = cond (bad_layout b) 11 0
 
 module _ (b : List ℕ) where
-  pub days-elsewhere : {o : ℕ} → o ≡ daysOffset b → (o ≡ 18 → ⊥) → 11 ≡ layout b
-  days-elsewhere {o} eo h = rw (← eo, ne_eqb o 18 h)
+  pub days_elsewhere : {o : ℕ} → o ≡ days_offset b → (o ≡ 18 → ⊥) → 11 ≡ layout b
+  days_elsewhere {o} eo h = rw (← eo, ne_eqb o 18 h)
 
   module _ {n m : ℕ} (k : Said b n m) where
-    pub cuts-elsewhere : {o : ℕ} → o ≡ cutsOffset b → (o ≡ dayOffset n → ⊥) → 11 ≡ layout b
-    cuts-elsewhere {o} eo h = rw (← eo, ← k.days, ne_eqb o (dayOffset n) h, and-false)
+    pub cuts_elsewhere : {o : ℕ} → o ≡ cuts_offset b → (o ≡ day_offset n → ⊥) → 11 ≡ layout b
+    cuts_elsewhere {o} eo h = rw (← eo, ← k.days, ne_eqb o (day_offset n) h, and-false)
 
-    pub wrong-length : (length b ≡ fileLength n m → ⊥) → 11 ≡ layout b
-    wrong-length h = rw (← k.days, ← k.cuts, ne_eqb (length b) (fileLength n m) h, and-false)
+    pub wrong_length : (length b ≡ file_length n m → ⊥) → 11 ≡ layout b
+    wrong_length h = rw (← k.days, ← k.cuts, ne_eqb (length b) (file_length n m) h, and-false)
 
-    pub layout-taken : daysOffset b ≡ 18 → cutsOffset b ≡ dayOffset n → length b ≡ fileLength n m → 0 ≡ layout b
-    layout-taken ho hp h = rw (← k.days, ← k.cuts, eq-eqb (daysOffset b) 18 ho, eq-eqb (cutsOffset b) (dayOffset n) hp, eq-eqb (length b) (fileLength n m) h)
+    pub layout_taken : days_offset b ≡ 18 → cuts_offset b ≡ day_offset n → length b ≡ file_length n m → 0 ≡ layout b
+    layout_taken ho hp h = rw (← k.days, ← k.cuts, eq-eqb (days_offset b) 18 ho, eq-eqb (cuts_offset b) (day_offset n) hp, eq-eqb (length b) (file_length n m) h)
 
 -- ---- fields_refusal
 
 abbrev fields : List ℕ → ℕ
-fields b = cond (badFields b) 12 0
+fields b = cond (bad_fields b) 12 0
 
 -- r is the rise of the last day, which there is
 pub record Risen (b : List ℕ) (n m r : ℕ) : Type 0 where
   pub said : Said b n m
   pub some : 0 < n
-  pub rise : r ≡ u16At b (dayOffset n - 2)
+  pub rise : r ≡ u16_at b (day_offset n - 2)
 
 module _ (b : List ℕ) {n m : ℕ} where
-  pub cut-bad : {f : ℕ} → Said b n m → f ≡ firstWhere (λ j. badCut (numberedAt b (dayOffset n + j * 8))) m → f < m → 12 ≡ fields b
-  cut-bad {f} k ef h = rw (← k.days, ← k.cuts, ← ef, lt-ltb f m h, or-true)
+  pub cut_bad : {f : ℕ} → Said b n m → f ≡ first_where (λ j. bad_cut (numbered_at b (day_offset n + j * 8))) m → f < m → 12 ≡ fields b
+  cut_bad {f} k ef h = rw (← k.days, ← k.cuts, ← ef, lt-ltb f m h, or-true)
 
   module _ {r : ℕ} (k : Risen b n m r) where
-    last-rise : r ≡ u16At b (dayOffset (n - 1) + 4)
-    last-rise = let q : dayOffset n - 2 ≡ dayOffset (n - 1) + 4 = omega (arith, k.some) in rw q at k.rise
+    last-rise : r ≡ u16_at b (day_offset (n - 1) + 4)
+    last-rise = let q : day_offset n - 2 ≡ day_offset (n - 1) + 4 = omega (arith, k.some) in rw q at k.rise
 
     pub rise-left : (r ≡ 0 → ⊥) → 12 ≡ fields b
-    rise-left h = rw (← k.said.days, zero_field b (dayOffset (n - 1) + 4), ← last-rise, ne_eqb r 0 h)
+    rise-left h = rw (← k.said.days, zero_field b (day_offset (n - 1) + 4), ← last-rise, ne_eqb r 0 h)
 
-    pub fields-taken : r ≡ 0 → {f : ℕ} → f ≡ firstWhere (λ j. badCut (numberedAt b (dayOffset n + j * 8))) m → m ≤ f → 0 ≡ fields b
-    fields-taken hr {f} ef h =
-        rw (← k.said.days, ← k.said.cuts, ← ef, zero_field b (dayOffset (n - 1) + 4), ← last-rise, eq-eqb r 0 hr, le-ltb f m h)
+    pub fields_taken : r ≡ 0 → {f : ℕ} → f ≡ first_where (λ j. bad_cut (numbered_at b (day_offset n + j * 8))) m → m ≤ f → 0 ≡ fields b
+    fields_taken hr {f} ef h =
+        rw (← k.said.days, ← k.said.cuts, ← ef, zero_field b (day_offset (n - 1) + 4), ← last-rise, eq-eqb r 0 hr, le-ltb f m h)
 
 -- ---- file_refusal
 
@@ -105,36 +105,36 @@ pub record Laid (b : List ℕ) (n m : ℕ) : Type 0 where
   pub none : layout b ≡ 0
 
 module _ (b : List ℕ) where
-  pub no_header : length b < 18 → 11 ≡ earlyReading b
-  unfolding earlyReading
+  pub no_header : length b < 18 → 11 ≡ early_reading b
+  unfolding early_reading
   no_header h = rw (lt-ltb (length b) 18 h)
 
   module _ {n m : ℕ} where
-    by-counts : Said b n m → counts n m ≡ cond (badCounts b) 1 0
-    by-counts k = rw (← k.days, ← k.cuts) refl
+    by_counts : Said b n m → counts n m ≡ cond (bad_counts b) 1 0
+    by_counts k = rw (← k.days, ← k.cuts) refl
 
-    pub counts-refused : {r : ℕ} → Header b n m → r ≡ counts n m → (r ≡ 0 → ⊥) → 1 ≡ earlyReading b
-    unfolding earlyReading
-    counts-refused k er h = rw (le-ltb (length b) 18 k.long, refuses (badCounts b) 1 (er ∙ by-counts k.said) h)
+    pub counts-refused : {r : ℕ} → Header b n m → r ≡ counts n m → (r ≡ 0 → ⊥) → 1 ≡ early_reading b
+    unfolding early_reading
+    counts-refused k er h = rw (le-ltb (length b) 18 k.long, refuses (bad_counts b) 1 (er ∙ by_counts k.said) h)
 
     module _ (k : Counted b n m) where
-      counts-good : badCounts b ≡ false
-      counts-good = (cond-zero (badCounts b) 0 0 (sym (by-counts k.header.said) ∙ k.none)).0
+      counts_good : bad_counts b ≡ false
+      counts_good = (cond-zero (bad_counts b) 0 0 (sym (by_counts k.header.said) ∙ k.none)).0
 
-      pub counted-here : (0 < dayCount b) × (dayCount b ≤ 512) × (cutCount b ≤ 512)
-      counted-here = counted b counts-good
+      pub counted-here : (0 < day_count b) × (day_count b ≤ 512) × (cut_count b ≤ 512)
+      counted-here = counted b counts_good
 
-      pub layout-refused : {s : ℕ} → s ≡ layout b → (s ≡ 0 → ⊥) → 11 ≡ earlyReading b
-      unfolding earlyReading
-      layout-refused es h = rw (le-ltb (length b) 18 k.header.long, counts-good, refuses (badLayout b) 11 es h)
+      pub layout_refused : {s : ℕ} → s ≡ layout b → (s ≡ 0 → ⊥) → 11 ≡ early_reading b
+      unfolding early_reading
+      layout_refused es h = rw (le-ltb (length b) 18 k.header.long, counts_good, refuses (bad_layout b) 11 es h)
 
     module _ (k : Laid b n m) where
-      layout-good : badLayout b ≡ false
-      layout-good = (cond-zero (badLayout b) 10 0 k.none).0
+      layout_good : bad_layout b ≡ false
+      layout_good = (cond-zero (bad_layout b) 10 0 k.none).0
 
-      pub whole_here : fileLength n m ≡ length b
-      whole_here = let s = k.counted.header.said in rw (s.days, s.cuts) (sym (laid b layout-good).2)
+      pub whole_here : file_length n m ≡ length b
+      whole_here = let s = k.counted.header.said in rw (s.days, s.cuts) (sym (laid b layout_good).2)
 
-      pub fields-last : {t : ℕ} → t ≡ fields b → t ≡ earlyReading b
-      unfolding earlyReading
-      fields-last e = rw (le-ltb (length b) 18 k.counted.header.long, counts-good k.counted, layout-good) e
+      pub fields_last : {t : ℕ} → t ≡ fields b → t ≡ early_reading b
+      unfolding early_reading
+      fields_last e = rw (le-ltb (length b) 18 k.counted.header.long, counts_good k.counted, layout_good) e

@@ -1,9 +1,9 @@
 // What the profile file's reader refuses before it stores anything.
 ghost use Rattle.std.specs.Prelude.{◌≡◌, cond, ◌||◌, ◌+◌, ◌*◌, ◌≤◌, ◌<◌, eqb, ltb, length};
-ghost use Rattle.limits.specs.Limits.{mostDays, mostCuts};
-ghost use Rattle.theory_lists.specs.First.{firstWhere};
-ghost use Rattle.file_format.specs.Format.{daysBegin, cutLength, fileLength, dayCount, cutCount, numberedAt};
-ghost use Rattle.file_format.specs.Reading.{badLayout, badFields, badCut, earlyReading};
+ghost use Rattle.limits.specs.Limits.{most_days, most_cuts};
+ghost use Rattle.theory_lists.specs.First.{first_where};
+ghost use Rattle.file_format.specs.Format.{days_begin, cut_length, file_length, day_count, cut_count, numbered_at};
+ghost use Rattle.file_format.specs.Reading.{bad_layout, bad_fields, bad_cut, early_reading};
 
 use base_little_endian::{i32_at, u16_at};
 use base_numbers::wide;
@@ -13,8 +13,8 @@ use session_cuts::{Cut, Numbered};
 
 // The cut that begins at a place.
 pub fn numbered_at(bytes: &[u8], at: usize) -> Numbered
-    requires { at + cutLength ≤ length bytes.now }
-    ensures { result ≡ numberedAt bytes.now at }
+    requires { at + cut_length ≤ length bytes.now }
+    ensures { result ≡ numbered_at bytes.now at }
 {
     let kind = wide(u16_at(bytes, at));
     let day = wide(u16_at(bytes, at + 2));
@@ -24,7 +24,7 @@ pub fn numbered_at(bytes: &[u8], at: usize) -> Numbered
 
 // A kind that is unknown, or a total's cut whose day is not 0.
 fn is_bad(numbered: Numbered) -> bool
-    ensures { result ≡ badCut numbered }
+    ensures { result ≡ bad_cut numbered }
 {
     let Numbered::Known(cut) = numbered else {
         return true;
@@ -39,8 +39,8 @@ fn is_bad(numbered: Numbered) -> bool
 
 // The first bad one of the cuts that begin at `from`, or how many they are.
 fn first_bad(bytes: &[u8], from: usize, count: usize) -> usize
-    requires { from + count * cutLength ≤ length bytes.now }
-    ensures { result ≡ firstWhere (λ j. badCut (numberedAt bytes.now (from + j * cutLength))) count }
+    requires { from + count * cut_length ≤ length bytes.now }
+    ensures { result ≡ first_where (λ j. bad_cut (numbered_at bytes.now (from + j * cut_length))) count }
 {
     let mut j = 0;
     while j < count {
@@ -53,7 +53,7 @@ fn first_bad(bytes: &[u8], from: usize, count: usize) -> usize
 }
 
 fn counts_refusal(days: usize, cuts: usize) -> u8
-    ensures { result ≡ cond (eqb days 0 || ltb mostDays days || ltb mostCuts cuts) 1 0 }
+    ensures { result ≡ cond (eqb days 0 || ltb most_days days || ltb most_cuts cuts) 1 0 }
 {
     if days == 0 {
         return 1;
@@ -68,8 +68,8 @@ fn counts_refusal(days: usize, cuts: usize) -> u8
 }
 
 fn layout_refusal(bytes: &[u8], days: usize, cuts: usize) -> u8
-    requires { (daysBegin ≤ length bytes.now) × (days ≡ dayCount bytes.now) × (cuts ≡ cutCount bytes.now) × (days ≤ mostDays) × (cuts ≤ mostCuts) }
-    ensures { result ≡ cond (badLayout bytes.now) 11 0 }
+    requires { (days_begin ≤ length bytes.now) × (days ≡ day_count bytes.now) × (cuts ≡ cut_count bytes.now) × (days ≤ most_days) × (cuts ≤ most_cuts) }
+    ensures { result ≡ cond (bad_layout bytes.now) 11 0 }
 {
     let from = day_offset(days);
     if wide(u16_at(bytes, 4)) != DAYS_BEGIN {
@@ -85,8 +85,8 @@ fn layout_refusal(bytes: &[u8], days: usize, cuts: usize) -> u8
 }
 
 fn fields_refusal(bytes: &[u8], days: usize, cuts: usize) -> u8
-    requires { (fileLength days cuts ≡ length bytes.now) × (days ≡ dayCount bytes.now) × (cuts ≡ cutCount bytes.now) × (0 < days) × (days ≤ mostDays) × (cuts ≤ mostCuts) }
-    ensures { result ≡ cond (badFields bytes.now) 12 0 }
+    requires { (file_length days cuts ≡ length bytes.now) × (days ≡ day_count bytes.now) × (cuts ≡ cut_count bytes.now) × (0 < days) × (days ≤ most_days) × (cuts ≤ most_cuts) }
+    ensures { result ≡ cond (bad_fields bytes.now) 12 0 }
 {
     let from = day_offset(days);
     // The last rise.
@@ -101,7 +101,7 @@ fn fields_refusal(bytes: &[u8], days: usize, cuts: usize) -> u8
 
 // 11 under 18 bytes, 1, 11 for the offsets and the length, 12, else 0.
 pub fn file_refusal(bytes: &[u8]) -> u8
-    ensures { result ≡ earlyReading bytes.now }
+    ensures { result ≡ early_reading bytes.now }
 {
     if bytes.len() < DAYS_BEGIN {
         return 11;

@@ -1,20 +1,20 @@
 -- The days of a file, one after another. A reader of the definitions may pass this page over: `read`'s own contract does not cite it.
 use Rattle.std.specs.Prelude.{ℕ, ◌+◌, List}
-use Rattle.file_format.specs.Format.{dayLength}
-use Rattle.base_little_endian.specs.Fields.{i16At}
+use Rattle.file_format.specs.Format.{day_length}
+use Rattle.base_little_endian.specs.Fields.{i16_at}
 use Rattle.file_days.specs.declared.Day.{Day}
 use Rattle.file_days.specs.declared.DayReader.{DayReader}
 use Rattle.file_days.specs.declared.DayStep.{DayStep}
 use Rattle.file_days.specs.declared.Taken.{Taken}
 
 -- the day that begins at a place
-abbrev pub dayAt : List ℕ → ℕ → Day
-dayAt b i = record { floor = i16At b i; ceiling = i16At b (i + 2); rise = i16At b (i + 4) }
+abbrev pub day_at : List ℕ → ℕ → Day
+day_at b i = record { floor = i16_at b i; ceiling = i16_at b (i + 2); rise = i16_at b (i + 4) }
 
 -- the day at a reader's place, and the reader moved on past it
 abbrev pub step_of : DayReader → DayStep
-step_of r = record { day = dayAt r.bytes.now r.at; next = record { bytes = r.bytes; at = r.at + dayLength } }
+step_of r = record { day = day_at r.bytes.now r.at; next = record { bytes = r.bytes; at = r.at + day_length } }
 
 -- the day that begins at a place, and where the next begins
-abbrev pub takenAt : List ℕ → ℕ → Taken
-takenAt b i = record { day = dayAt b i; next = i + dayLength }
+abbrev pub taken_at : List ℕ → ℕ → Taken
+taken_at b i = record { day = day_at b i; next = i + day_length }

@@ -1,8 +1,8 @@
 // The days of a profile file, one after another from its bytes.
 ghost use Rattle.std.specs.Prelude.{◌≡◌, ◌+◌, ◌-◌, ◌≤◌, ◌<◌, length, set};
 ghost use Rattle.theory_lists.specs.Written.{written};
-ghost use Rattle.file_format.specs.Format.{dayLength, dayOffset, floorAt, ceilingAt, riseAt};
-ghost use Rattle.file_days.specs.Days.{dayAt, step_of, takenAt};
+ghost use Rattle.file_format.specs.Format.{day_length, day_offset, floor_at, ceiling_at, rise_at};
+ghost use Rattle.file_days.specs.Days.{day_at, step_of, taken_at};
 
 use base_little_endian::i16_at;
 use file_format::{DAY_BYTES, DAYS_BEGIN};
@@ -36,8 +36,8 @@ struct DayStep<'a> {
 }
 
 fn day_at(bytes: &[u8], at: usize) -> Day
-    requires { at + dayLength ≤ length bytes.now }
-    ensures { result ≡ dayAt bytes.now at }
+    requires { at + day_length ≤ length bytes.now }
+    ensures { result ≡ day_at bytes.now at }
 {
     let floor = i16_at(bytes, at);
     let ceiling = i16_at(bytes, at + 2);
@@ -51,7 +51,7 @@ fn day_at(bytes: &[u8], at: usize) -> Day
 
 // The next day, and the reader moved on past it.
 fn next<'a>(r: DayReader<'a>) -> DayStep<'a>
-    requires { r.at + dayLength ≤ length r.bytes.now }
+    requires { r.at + day_length ≤ length r.bytes.now }
     ensures { result ≡ step_of r.entry }
 {
     let bytes = r.bytes;
@@ -68,8 +68,8 @@ fn next<'a>(r: DayReader<'a>) -> DayStep<'a>
 
 // The day that begins at a place, and where its reader says that the next begins. Callers see no reader.
 fn day_from(bytes: &[u8], at: usize) -> Taken
-    requires { at + dayLength ≤ length bytes.now }
-    ensures { result ≡ takenAt bytes.now at }
+    requires { at + day_length ≤ length bytes.now }
+    ensures { result ≡ taken_at bytes.now at }
 {
     let step = next(DayReader { bytes, at });
     Taken {
@@ -98,11 +98,11 @@ fn store_day(
     ceilings: &mut [i16],
     rises: &mut [i16],
 ) -> usize
-    requires { (at + dayLength ≤ length bytes.now) × (k < length floors.old) × (k < length ceilings.old) × (k < length rises.old) }
-    ensures value { result ≡ at + dayLength }
-    ensures floors_after { floors.new ≡ set floors.old k (dayAt bytes.now at).floor }
-    ensures ceilings_after { ceilings.new ≡ set ceilings.old k (dayAt bytes.now at).ceiling }
-    ensures rises_after { rises.new ≡ set rises.old k (dayAt bytes.now at).rise }
+    requires { (at + day_length ≤ length bytes.now) × (k < length floors.old) × (k < length ceilings.old) × (k < length rises.old) }
+    ensures value { result ≡ at + day_length }
+    ensures floors_after { floors.new ≡ set floors.old k (day_at bytes.now at).floor }
+    ensures ceilings_after { ceilings.new ≡ set ceilings.old k (day_at bytes.now at).ceiling }
+    ensures rises_after { rises.new ≡ set rises.old k (day_at bytes.now at).rise }
 {
     let taken = day_from(bytes, at);
     let day = taken.day;
@@ -121,10 +121,10 @@ pub fn store_days(
     ceilings: &mut [i16],
     rises: &mut [i16],
 )
-    requires { (0 < days) × (dayOffset days ≤ length bytes.now) × (days ≤ length floors.old) × (days ≤ length ceilings.old) × (days - 1 ≤ length rises.old) }
-    ensures floors_after { floors.new ≡ written (floorAt bytes.now) days floors.old }
-    ensures ceilings_after { ceilings.new ≡ written (ceilingAt bytes.now) days ceilings.old }
-    ensures rises_after { rises.new ≡ written (riseAt bytes.now) (days - 1) rises.old }
+    requires { (0 < days) × (day_offset days ≤ length bytes.now) × (days ≤ length floors.old) × (days ≤ length ceilings.old) × (days - 1 ≤ length rises.old) }
+    ensures floors_after { floors.new ≡ written (floor_at bytes.now) days floors.old }
+    ensures ceilings_after { ceilings.new ≡ written (ceiling_at bytes.now) days ceilings.old }
+    ensures rises_after { rises.new ≡ written (rise_at bytes.now) (days - 1) rises.old }
 {
     let last = days - 1;
     let mut at = DAYS_BEGIN;

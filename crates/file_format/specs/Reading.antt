@@ -1,25 +1,25 @@
 -- Document 01: what the file's reader refuses, in its order. It leaves values to opening and cutting.
 use Rattle.std.specs.Prelude.{Bool, true, false, cond, not, ◌&&◌, ◌||◌, List, ℕ, ◌-◌, nat_abs, eqb, ltb, length}
-use Rattle.limits.specs.Limits.{mostDays, mostCuts}
-use Rattle.theory_lists.specs.First.{firstWhere}
+use Rattle.limits.specs.Limits.{most_days, most_cuts}
+use Rattle.theory_lists.specs.First.{first_where}
 use Rattle.session_cuts.specs.declared.Cut.{Cut}
 use Rattle.session_cuts.specs.declared.Cut.TheVariants.{DayFloor, DayCeiling, TotalFloor, TotalCeiling}
 use Rattle.session_cuts.specs.declared.Numbered.{Numbered}
 use Rattle.session_cuts.specs.declared.Numbered.TheVariants.{Known, Unknown}
-use Rattle.file_format.specs.Format.{daysBegin, dayOffset, fileLength, dayCount, cutCount, daysOffset, cutsOffset, riseAt, cut_at}
+use Rattle.file_format.specs.Format.{days_begin, day_offset, file_length, day_count, cut_count, days_offset, cuts_offset, rise_at, cut_at}
 
 -- 11: under 18 bytes
 abbrev pub no_header : List ℕ → Bool
-no_header b = ltb (length b) daysBegin
+no_header b = ltb (length b) days_begin
 
 -- 1: the day count is 0 or over 512; more than 512 cuts
-abbrev pub badCounts : List ℕ → Bool
-badCounts b = eqb (dayCount b) 0 || ltb mostDays (dayCount b) || ltb mostCuts (cutCount b)
+abbrev pub bad_counts : List ℕ → Bool
+bad_counts b = eqb (day_count b) 0 || ltb most_days (day_count b) || ltb most_cuts (cut_count b)
 
 -- 11: an offset or the length is wrong
-abbrev pub badLayout : List ℕ → Bool
-badLayout b =
-    not (eqb (daysOffset b) daysBegin && eqb (cutsOffset b) (dayOffset (dayCount b)) && eqb (length b) (fileLength (dayCount b) (cutCount b)))
+abbrev pub bad_layout : List ℕ → Bool
+bad_layout b =
+    not (eqb (days_offset b) days_begin && eqb (cuts_offset b) (day_offset (day_count b)) && eqb (length b) (file_length (day_count b) (cut_count b)))
 
 -- a total cut whose day is not 0
 abbrev pub misplaced : Cut → Bool
@@ -29,27 +29,27 @@ misplaced (TotalFloor day value) = not (eqb day 0)
 misplaced (TotalCeiling day value) = not (eqb day 0)
 
 -- an unknown kind, or a total cut whose day is not 0
-abbrev pub badCut : Numbered → Bool
-badCut (Known c) = misplaced c
-badCut Unknown = true
+abbrev pub bad_cut : Numbered → Bool
+bad_cut (Known c) = misplaced c
+bad_cut Unknown = true
 
 -- 12: the last rise is not 0, or some cut is bad
-abbrev pub badFields : List ℕ → Bool
-badFields b =
-    not (eqb (nat_abs (riseAt b (dayCount b - 1))) 0) || ltb (firstWhere (λ j. badCut (cut_at b j)) (cutCount b)) (cutCount b)
+abbrev pub bad_fields : List ℕ → Bool
+bad_fields b =
+    not (eqb (nat_abs (rise_at b (day_count b - 1))) 0) || ltb (first_where (λ j. bad_cut (cut_at b j)) (cut_count b)) (cut_count b)
 
 -- the first refusal of reading before 2 that applies, or 0
-unfoldable pub earlyReading : List ℕ → ℕ
-earlyReading b =
+unfoldable pub early_reading : List ℕ → ℕ
+early_reading b =
     cond (no_header b) 11
-    (cond (badCounts b) 1
-    (cond (badLayout b) 11
-    (cond (badFields b) 12 0)))
+    (cond (bad_counts b) 1
+    (cond (bad_layout b) 11
+    (cond (bad_fields b) 12 0)))
 
 -- 2: a lent list is too short for what it would hold
-abbrev pub noRoom : List ℕ → ℕ → ℕ → ℕ → Bool
-noRoom b floors ceilings rises = ltb floors (dayCount b) || ltb ceilings (dayCount b) || ltb rises (dayCount b - 1)
+abbrev pub no_room : List ℕ → ℕ → ℕ → ℕ → Bool
+no_room b floors ceilings rises = ltb floors (day_count b) || ltb ceilings (day_count b) || ltb rises (day_count b - 1)
 
 -- the first refusal of reading that applies, or 0, with lists of these lengths lent for floors, ceilings and rises
-unfoldable pub readingRefusal : List ℕ → ℕ → ℕ → ℕ → ℕ
-readingRefusal b floors ceilings rises = cond (eqb (earlyReading b) 0) (cond (noRoom b floors ceilings rises) 2 0) (earlyReading b)
+unfoldable pub reading_refusal : List ℕ → ℕ → ℕ → ℕ → ℕ
+reading_refusal b floors ceilings rises = cond (eqb (early_reading b) 0) (cond (no_room b floors ceilings rises) 2 0) (early_reading b)

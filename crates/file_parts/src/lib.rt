@@ -1,12 +1,12 @@
 // The bytes of a profile file, stored part by part: header, days, cuts.
 ghost use Rattle.std.specs.Prelude.{◌≡◌, ◌++◌, ℕ, ◌+◌, ◌*◌, ◌≤◌, ◌<◌, length, get_or};
 ghost use Rattle.std.proofs.lemmas.List.Edits.{sets};
-ghost use Rattle.limits.specs.Limits.{mostDays, mostCuts};
+ghost use Rattle.limits.specs.Limits.{most_days, most_cuts};
 ghost use Rattle.theory_lists.specs.Rows.{rows};
 ghost use Rattle.base_codes.specs.Code.{on};
-ghost use Rattle.base_little_endian.specs.Fields.{u16Bytes, i32Bytes};
-ghost use Rattle.session_cuts.specs.Sheet.{blank, dayOf};
-ghost use Rattle.file_format.specs.Format.{daysBegin, dayLength, cutLength, dayOffset, header, dayBytes, cutBytes};
+ghost use Rattle.base_little_endian.specs.Fields.{u16_bytes, i32_bytes};
+ghost use Rattle.session_cuts.specs.Sheet.{blank, day_of};
+ghost use Rattle.file_format.specs.Format.{days_begin, day_length, cut_length, day_offset, header, day_bytes, cut_bytes};
 
 use base_little_endian::{put_i16, put_i32, put_u16};
 use file_format::{CUT_BYTES, DAYS_BEGIN, FIRST_DAY_AT, day_offset};
@@ -19,7 +19,7 @@ const DAYS_OFFSET: u16 = DAYS_BEGIN as u16;
 
 // The header, and the first counted day behind it.
 pub fn put_header(numbers: Numbers, cuts: usize, out: &mut [u8])
-    requires { (numbers.days ≤ mostDays) × (numbers.first < numbers.days) × (cuts ≤ mostCuts) × (daysBegin ≤ length out.old) }
+    requires { (numbers.days ≤ most_days) × (numbers.first < numbers.days) × (cuts ≤ most_cuts) × (days_begin ≤ length out.old) }
     ensures { out.new ≡ sets out.old 0 (header numbers cuts) }
 {
     let days = numbers.days;
@@ -36,8 +36,8 @@ pub fn put_header(numbers: Numbers, cuts: usize, out: &mut [u8])
 }
 
 fn put_day(out: &mut [u8], at: usize, floor: i16, ceiling: i16, rise: i16)
-    requires { at + dayLength ≤ length out.old }
-    ensures { out.new ≡ sets out.old at (dayBytes floor ceiling rise) }
+    requires { at + day_length ≤ length out.old }
+    ensures { out.new ≡ sets out.old at (day_bytes floor ceiling rise) }
 {
     put_i16(out, at, floor);
     put_i16(out, at + 2, ceiling);
@@ -55,8 +55,8 @@ fn rise_on(rises: &[i16], k: usize) -> i16
 }
 
 pub fn put_days(floors: &[i16], ceilings: &[i16], rises: &[i16], days: usize, out: &mut [u8])
-    requires { (days ≡ length floors.now) × (days ≡ length ceilings.now) × (days ≤ mostDays) × (dayOffset days ≤ length out.old) }
-    ensures { out.new ≡ sets out.old daysBegin (rows (λ k. dayBytes (on floors.now k) (on ceilings.now k) (on rises.now k)) days) }
+    requires { (days ≡ length floors.now) × (days ≡ length ceilings.now) × (days ≤ most_days) × (day_offset days ≤ length out.old) }
+    ensures { out.new ≡ sets out.old days_begin (rows (λ k. day_bytes (on floors.now k) (on ceilings.now k) (on rises.now k)) days) }
 {
     let mut k = 0;
     while k < days {
@@ -72,8 +72,8 @@ pub fn put_days(floors: &[i16], ceilings: &[i16], rises: &[i16], days: usize, ou
 }
 
 fn put_fields(kind: u16, day: usize, value: i32, at: usize, out: &mut [u8])
-    requires { (day < 65536) × (at + cutLength ≤ length out.old) }
-    ensures { out.new ≡ sets out.old at (u16Bytes kind ++ u16Bytes day ++ i32Bytes value) }
+    requires { (day < 65536) × (at + cut_length ≤ length out.old) }
+    ensures { out.new ≡ sets out.old at (u16_bytes kind ++ u16_bytes day ++ i32_bytes value) }
 {
     put_u16(out, at, kind);
     put_u16(out, at + 2, day as u16);
@@ -81,8 +81,8 @@ fn put_fields(kind: u16, day: usize, value: i32, at: usize, out: &mut [u8])
 }
 
 fn put_entry(entry: Entry, at: usize, out: &mut [u8])
-    requires { (dayOf entry.cut < 65536) × (at + cutLength ≤ length out.old) }
-    ensures { out.new ≡ sets out.old at (cutBytes entry.cut) }
+    requires { (day_of entry.cut < 65536) × (at + cut_length ≤ length out.old) }
+    ensures { out.new ≡ sets out.old at (cut_bytes entry.cut) }
 {
     let cut = entry.cut;
     match cut {
@@ -94,8 +94,8 @@ fn put_entry(entry: Entry, at: usize, out: &mut [u8])
 }
 
 pub fn put_entries(entries: [Entry; MOST_CUTS], count: usize, from: usize, out: &mut [u8])
-    requires { (count ≤ mostCuts) × (from + count * cutLength ≤ length out.old) × ((j : ℕ) → j < count → dayOf (get_or entries j blank).cut < 65536) }
-    ensures { out.new ≡ sets out.old from (rows (λ j. cutBytes (get_or entries j blank).cut) count) }
+    requires { (count ≤ most_cuts) × (from + count * cut_length ≤ length out.old) × ((j : ℕ) → j < count → day_of (get_or entries j blank).cut < 65536) }
+    ensures { out.new ≡ sets out.old from (rows (λ j. cut_bytes (get_or entries j blank).cut) count) }
 {
     let mut j = 0;
     while j < count {

@@ -3,8 +3,8 @@ use Rattle.std.specs.Prelude.{cond, ℕ, eqb}
 use Rattle.file_printing.specs.declared.Stage.{Stage}
 use Rattle.file_printing.specs.declared.Stage.TheVariants.{Passed, Refused}
 
-abbrev pub stageOf : ℕ → Stage
-stageOf refusal = cond (eqb refusal 0) Passed (Refused refusal)
+abbrev pub stage_of : ℕ → Stage
+stage_of refusal = cond (eqb refusal 0) Passed (Refused refusal)
 
 abbrev pub number_of : Stage → ℕ
 number_of Passed = 0

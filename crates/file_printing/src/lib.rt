@@ -1,15 +1,15 @@
 // What the program `ranges` prints for a file.
 ghost use Rattle.std.specs.Prelude.{◌≡◌, ℕ, ◌+◌, ◌-◌, ◌*◌, ◌≤◌, ◌<◌, length, get_or, take};
 ghost use Rattle.std.proofs.lemmas.List.Edits.{sets};
-ghost use Rattle.limits.specs.Limits.{mostDays, mostCuts};
-ghost use Rattle.theory_lists.specs.Front.{inFront};
+ghost use Rattle.limits.specs.Limits.{most_days, most_cuts};
+ghost use Rattle.theory_lists.specs.Front.{in_front};
 ghost use Rattle.theory_lists.specs.Rows.{rows};
 ghost use Rattle.base_codes.specs.Code.{on};
 ghost use Rattle.session.specs.Opening.{opened, profile};
 ghost use Rattle.session.specs.Showing.{SessionInBounds};
 ghost use Rattle.session_cuts.specs.Sheet.{blank};
-ghost use Rattle.file_printing.specs.Printing.{dayLineLength, cutOnce, cutAll, range, totalLine, dayLine, refusedLine, rangesText, printed};
-ghost use Rattle.file_printing.specs.Stages.{stageOf, number_of};
+ghost use Rattle.file_printing.specs.Printing.{day_line_length, cut_once, cut_all, range, total_line, day_line, refused_line, ranges_text, printed};
+ghost use Rattle.file_printing.specs.Stages.{stage_of, number_of};
 
 use limits::{MOST_CUTS, MOST_DAYS};
 use session::{Numbers, Opened, Session};
@@ -32,7 +32,7 @@ enum Stage {
 }
 
 fn stage_of(refusal: u8) -> Stage
-    ensures { result ≡ stageOf refusal }
+    ensures { result ≡ stage_of refusal }
 {
     if refusal == 0 {
         return Stage::Passed;
@@ -54,7 +54,7 @@ fn number_of(stage: Stage) -> u8
 
 fn cut_once(opened: Opened, entry: Entry) -> Opened
     requires { SessionInBounds opened.session }
-    ensures { (result ≡ cutOnce opened entry.cut) × SessionInBounds result.session }
+    ensures { (result ≡ cut_once opened entry.cut) × SessionInBounds result.session }
 {
     let Stage::Passed = stage_of(opened.refusal) else {
         return opened;
@@ -73,8 +73,8 @@ fn cut_once(opened: Opened, entry: Entry) -> Opened
 
 // Applies the first `count` entries in order, up to the first refusal.
 fn cut_all(opened: Opened, count: usize, entries: [Entry; MOST_CUTS]) -> Opened
-    requires { SessionInBounds opened.session × (count ≤ mostCuts) }
-    ensures { (result ≡ cutAll opened (λ j. (get_or entries j blank).cut) count) × SessionInBounds result.session }
+    requires { SessionInBounds opened.session × (count ≤ most_cuts) }
+    ensures { (result ≡ cut_all opened (λ j. (get_or entries j blank).cut) count) × SessionInBounds result.session }
 {
     let mut after = opened;
     let mut j = 0;
@@ -100,18 +100,18 @@ fn put_range(out: &mut [u8], at: usize, low: i32, high: i32) -> usize
 }
 
 fn put_total(out: &mut [u8], low: i32, high: i32) -> usize
-    requires { length (totalLine low high) ≤ length out.old }
-    ensures out_after { out.new ≡ sets out.old 0 (totalLine low high) }
-    ensures value { result ≡ length (totalLine low high) }
+    requires { length (total_line low high) ≤ length out.old }
+    ensures out_after { out.new ≡ sets out.old 0 (total_line low high) }
+    ensures value { result ≡ length (total_line low high) }
 {
     let at = base_text::put(out, 0, b"total");
     put_range(out, at, low, high)
 }
 
 fn put_day(out: &mut [u8], at: usize, day: usize, low: i16, high: i16) -> usize
-    requires { at + length (dayLine day low high) ≤ length out.old }
-    ensures out_after { out.new ≡ sets out.old at (dayLine day low high) }
-    ensures value { result ≡ at + length (dayLine day low high) }
+    requires { at + length (day_line day low high) ≤ length out.old }
+    ensures out_after { out.new ≡ sets out.old at (day_line day low high) }
+    ensures value { result ≡ at + length (day_line day low high) }
 {
     let number = base_text::put(out, at, b"day ");
     let after = base_text::put_decimal(out, number, day);
@@ -126,9 +126,9 @@ fn put_days(
     floors: &[i16; MOST_DAYS],
     ceilings: &[i16; MOST_DAYS],
 ) -> usize
-    requires { (days ≤ mostDays) × ((k : ℕ) → k < days → length (dayLine k (on floors.now k) (on ceilings.now k)) ≤ dayLineLength) × (at + days * dayLineLength ≤ length out.old) }
-    ensures out_after { out.new ≡ sets out.old at (rows (λ k. dayLine k (on floors.now k) (on ceilings.now k)) days) }
-    ensures value { result ≡ at + length (rows (λ k. dayLine k (on floors.now k) (on ceilings.now k)) days) }
+    requires { (days ≤ most_days) × ((k : ℕ) → k < days → length (day_line k (on floors.now k) (on ceilings.now k)) ≤ day_line_length) × (at + days * day_line_length ≤ length out.old) }
+    ensures out_after { out.new ≡ sets out.old at (rows (λ k. day_line k (on floors.now k) (on ceilings.now k)) days) }
+    ensures value { result ≡ at + length (rows (λ k. day_line k (on floors.now k) (on ceilings.now k)) days) }
 {
     let mut next = at;
     let mut k = 0;
@@ -141,8 +141,8 @@ fn put_days(
 
 fn put_ranges(session: Session, out: &mut [u8; MOST_TEXT_BYTES]) -> usize
     requires { SessionInBounds session }
-    ensures out_after { out.new ≡ inFront (rangesText session) out.old }
-    ensures value { result ≡ length (rangesText session) }
+    ensures out_after { out.new ≡ in_front (ranges_text session) out.old }
+    ensures value { result ≡ length (ranges_text session) }
 {
     let days = session.days;
     let mut floors = [0i16; MOST_DAYS];
@@ -153,8 +153,8 @@ fn put_ranges(session: Session, out: &mut [u8; MOST_TEXT_BYTES]) -> usize
 }
 
 fn put_refusal(number: u8, out: &mut [u8; MOST_TEXT_BYTES]) -> usize
-    ensures out_after { out.new ≡ inFront (refusedLine number) out.old }
-    ensures value { result ≡ length (refusedLine number) }
+    ensures out_after { out.new ≡ in_front (refused_line number) out.old }
+    ensures value { result ≡ length (refused_line number) }
 {
     let at = base_text::put(out, 0, b"refused ");
     let end = base_text::put_decimal(out, at, number as usize);
@@ -170,7 +170,7 @@ fn open_read(
     ceilings: &[i16; MOST_DAYS],
     rises: &[i16; MOST_RISES],
 ) -> Opened
-    requires { (0 < numbers.days) × (numbers.days ≤ mostDays) }
+    requires { (0 < numbers.days) × (numbers.days ≤ most_days) }
     ensures { result ≡ opened (profile numbers (take numbers.days floors.now) (take numbers.days ceilings.now) (take (numbers.days - 1) rises.now)) }
 {
     let days = numbers.days;
@@ -184,7 +184,7 @@ fn open_read(
 // Reads a file, opens its profile, applies its cuts in order, and stores at the front of `out` the first refusal, or the ranges.
 // Answers how long the text is.
 pub fn print_ranges(file: &[u8], out: &mut [u8; MOST_TEXT_BYTES]) -> usize
-    ensures out_after { out.new ≡ inFront (printed file.now) out.old }
+    ensures out_after { out.new ≡ in_front (printed file.now) out.old }
     ensures value { result ≡ length (printed file.now) }
 {
     let mut floors = [0i16; MOST_DAYS];

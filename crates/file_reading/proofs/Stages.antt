@@ -7,27 +7,27 @@ use lib.IntN.{ℤ}
 use lib.ListN.{length}
 use borrow.Author.Tests.{ne_eqb, lt-ltb}
 use Rattle.theory_lists.specs.Written.{written}
-use Rattle.theory_lists.specs.Lent.{lentList, list_left, list-filled}
+use Rattle.theory_lists.specs.Lent.{lent_list, list_left, list-filled}
 use Rattle.session.specs.declared.Numbers.{Numbers}
 use Rattle.session_cuts.specs.declared.Sheet.{Sheet}
-use Rattle.file_format.specs.Format.{dayOffset, dayCount, cutCount, numbersIn, floorAt, ceilingAt, riseAt}
-use Rattle.file_format.specs.Reading.{earlyReading, readingRefusal}
+use Rattle.file_format.specs.Format.{day_offset, day_count, cut_count, numbers_in, floor_at, ceiling_at, rise_at}
+use Rattle.file_format.specs.Reading.{early_reading, reading_refusal}
 use Rattle.file_reading.specs.declared.ReadAnswer.{ReadAnswer}
-use Rattle.file_reading.specs.Reading.{sheetFrom, refusedRead, contents, readFrom}
+use Rattle.file_reading.specs.Reading.{sheet_from, refused_read, contents, read_from}
 use Rattle.file_reading.proofs.Laws.{Room, read_all}
 
 -- ---- read_contents
 
 -- what its calls gave of the file
 pub record Gave (b : List ℕ) (numbers : Numbers) (m : ℕ) (s : Sheet) : Type 0 where
-  pub found : numbers ≡ numbersIn b
-  pub cuts : m ≡ cutCount b
-  pub sheet : s ≡ sheetFrom b (dayOffset numbers.days) m
+  pub found : numbers ≡ numbers_in b
+  pub cuts : m ≡ cut_count b
+  pub sheet : s ≡ sheet_from b (day_offset numbers.days) m
 
-pub contents-as : {b : List ℕ} {numbers : Numbers} {m : ℕ} {s : Sheet} → Gave b numbers m s → record { refusal = 0; numbers = numbers; sheet = s } ≡ contents b
+pub contents_as : {b : List ℕ} {numbers : Numbers} {m : ℕ} {s : Sheet} → Gave b numbers m s → record { refusal = 0; numbers = numbers; sheet = s } ≡ contents b
 unfolding contents
-contents-as {b} g i =
-    record { refusal = 0; numbers = g.found i; sheet = (g.sheet ∙ (λ j. sheetFrom b (dayOffset (g.found j).days) (g.cuts j))) i }
+contents_as {b} g i =
+    record { refusal = 0; numbers = g.found i; sheet = (g.sheet ∙ (λ j. sheet_from b (day_offset (g.found j).days) (g.cuts j))) i }
 
 -- ---- read
 
@@ -40,60 +40,60 @@ pub record ReadCall : Type 0 where
 
 -- no check of the file itself refuses it, and n is its day count
 pub record Counted (b : List ℕ) (n : ℕ) : Type 0 where
-  pub passed : earlyReading b ≡ 0
-  pub days : n ≡ dayCount b
+  pub passed : early_reading b ≡ 0
+  pub days : n ≡ day_count b
 
 -- each list has room, and these are the lists that hold n days
 pub record Stored (h : ReadCall) (n : ℕ) (floors ceilings rises : List ℤ) : Type 0 where
   pub floors-long : n ≤ length h.floors
   pub ceilings-long : n ≤ length h.ceilings
   pub rises-long : n - 1 ≤ length h.rises
-  pub floors-stored : floors ≡ written (floorAt h.bytes) n h.floors
-  pub ceilings-stored : ceilings ≡ written (ceilingAt h.bytes) n h.ceilings
-  pub rises-stored : rises ≡ written (riseAt h.bytes) (n - 1) h.rises
+  pub floors_stored : floors ≡ written (floor_at h.bytes) n h.floors
+  pub ceilings_stored : ceilings ≡ written (ceiling_at h.bytes) n h.ceilings
+  pub rises_stored : rises ≡ written (rise_at h.bytes) (n - 1) h.rises
 
 -- the refusal's number, which reading has to give
 abbrev number : ReadCall → ℕ
-number h = readingRefusal h.bytes (length h.floors) (length h.ceilings) (length h.rises)
+number h = reading_refusal h.bytes (length h.floors) (length h.ceilings) (length h.rises)
 
 module _ (h : ReadCall) where
-  pub file-refused : {e : ℕ} → e ≡ earlyReading h.bytes → (e ≡ 0 → ⊥) → number h ≡ e
-  unfolding readingRefusal
+  pub file-refused : {e : ℕ} → e ≡ early_reading h.bytes → (e ≡ 0 → ⊥) → number h ≡ e
+  unfolding reading_refusal
   file-refused {e} ee some = rw (← ee, ne_eqb e 0 some)
 
   module _ {n : ℕ} (k : Counted h.bytes n) where
-    pub no-floors : length h.floors < n → number h ≡ 2
-    unfolding readingRefusal
-    no-floors short = rw (k.passed, ← k.days, lt-ltb (length h.floors) n short)
+    pub no_floors : length h.floors < n → number h ≡ 2
+    unfolding reading_refusal
+    no_floors short = rw (k.passed, ← k.days, lt-ltb (length h.floors) n short)
 
-    pub no-ceilings : length h.ceilings < n → number h ≡ 2
-    unfolding readingRefusal
-    no-ceilings short = rw (k.passed, ← k.days, lt-ltb (length h.ceilings) n short, or-true)
+    pub no_ceilings : length h.ceilings < n → number h ≡ 2
+    unfolding reading_refusal
+    no_ceilings short = rw (k.passed, ← k.days, lt-ltb (length h.ceilings) n short, or-true)
 
-    pub no-rises : length h.rises < n - 1 → number h ≡ 2
-    unfolding readingRefusal
-    no-rises short = rw (k.passed, ← k.days, lt-ltb (length h.rises) (n - 1) short, or-true)
+    pub no_rises : length h.rises < n - 1 → number h ≡ 2
+    unfolding reading_refusal
+    no_rises short = rw (k.passed, ← k.days, lt-ltb (length h.rises) (n - 1) short, or-true)
 
   -- what `read` ensures of its answer and of the lists that it leaves
   abbrev Answers : ReadAnswer → List ℤ → List ℤ → List ℤ → Type 0
   Answers a floors ceilings rises =
-      (a ≡ readFrom h.bytes (length h.floors) (length h.ceilings) (length h.rises))
-      × ((floors ≡ lentList a.refusal (floorAt h.bytes) (dayCount h.bytes) h.floors)
-      × ((ceilings ≡ lentList a.refusal (ceilingAt h.bytes) (dayCount h.bytes) h.ceilings)
-      × (rises ≡ lentList a.refusal (riseAt h.bytes) (dayCount h.bytes - 1) h.rises)))
+      (a ≡ read_from h.bytes (length h.floors) (length h.ceilings) (length h.rises))
+      × ((floors ≡ lent_list a.refusal (floor_at h.bytes) (day_count h.bytes) h.floors)
+      × ((ceilings ≡ lent_list a.refusal (ceiling_at h.bytes) (day_count h.bytes) h.ceilings)
+      × (rises ≡ lent_list a.refusal (rise_at h.bytes) (day_count h.bytes - 1) h.rises)))
 
   module _ {a : ReadAnswer} where
-    pub refused-by : {by : ℕ} → a ≡ refusedRead by → number h ≡ by → (by ≡ 0 → ⊥) → Answers a h.floors h.ceilings h.rises
-    unfolding readFrom
-    refused-by {by} ea er some =
+    pub refused_by : {by : ℕ} → a ≡ refused_read by → number h ≡ by → (by ≡ 0 → ⊥) → Answers a h.floors h.ceilings h.rises
+    unfolding read_from
+    refused_by {by} ea er some =
         let b = h.bytes in
         let apart : (a.refusal ≡ 0 → ⊥) = λ z. some (sym (ap (λ (x : ReadAnswer). x.refusal) ea) ∙ z) in (
           ea ∙ rw (er, ne_eqb by 0 some),
           (
-            sym (list_left a.refusal (floorAt b) (dayCount b) h.floors apart),
+            sym (list_left a.refusal (floor_at b) (day_count b) h.floors apart),
             (
-              sym (list_left a.refusal (ceilingAt b) (dayCount b) h.ceilings apart),
-              sym (list_left a.refusal (riseAt b) (dayCount b - 1) h.rises apart),
+              sym (list_left a.refusal (ceiling_at b) (day_count b) h.ceilings apart),
+              sym (list_left a.refusal (rise_at b) (day_count b - 1) h.rises apart),
             ),
           ),
         )
@@ -107,10 +107,10 @@ module _ (h : ReadCall) where
         record { floors-long = rw (← k.days) s.floors-long; ceilings-long = rw (← k.days) s.ceilings-long; rises-long = rw (← k.days) s.rises-long } in (
           ea ∙ sym (read_all b (length h.floors) (length h.ceilings) (length h.rises) k.passed room),
           (
-            rw (list-filled a.refusal (floorAt b) (dayCount b) h.floors z, ← k.days) s.floors-stored,
+            rw (list-filled a.refusal (floor_at b) (day_count b) h.floors z, ← k.days) s.floors_stored,
             (
-              rw (list-filled a.refusal (ceilingAt b) (dayCount b) h.ceilings z, ← k.days) s.ceilings-stored,
-              rw (list-filled a.refusal (riseAt b) (dayCount b - 1) h.rises z, ← k.days) s.rises-stored,
+              rw (list-filled a.refusal (ceiling_at b) (day_count b) h.ceilings z, ← k.days) s.ceilings_stored,
+              rw (list-filled a.refusal (rise_at b) (day_count b - 1) h.rises z, ← k.days) s.rises_stored,
             ),
           ),
         )

@@ -1,26 +1,26 @@
 -- Document 01: what the file's reader gives.
 use Rattle.std.specs.Prelude.{cond, List, ℕ, ◌+◌, ◌*◌, eqb, replicate}
-use Rattle.limits.specs.Limits.{mostCuts}
+use Rattle.limits.specs.Limits.{most_cuts}
 use Rattle.theory_lists.specs.Written.{written}
-use Rattle.session.specs.Opening.{noNumbers}
+use Rattle.session.specs.Opening.{no_numbers}
 use Rattle.session_cuts.specs.declared.Sheet.{Sheet}
 use Rattle.session_cuts.specs.Sheet.{blank}
-use Rattle.file_format.specs.Format.{cutLength, dayOffset, dayCount, cutCount, numberedAt, known, numbersIn}
-use Rattle.file_format.specs.Reading.{readingRefusal}
+use Rattle.file_format.specs.Format.{cut_length, day_offset, day_count, cut_count, numbered_at, known, numbers_in}
+use Rattle.file_format.specs.Reading.{reading_refusal}
 use Rattle.file_reading.specs.declared.ReadAnswer.{ReadAnswer}
 
 -- m cuts, the first of which begins at a place
-unfoldable pub sheetFrom : List ℕ → ℕ → ℕ → Sheet
-sheetFrom b from m = record { count = m; entries = written (λ j. record { cut = known (numberedAt b (from + j * cutLength)) }) m (replicate mostCuts blank) }
+unfoldable pub sheet_from : List ℕ → ℕ → ℕ → Sheet
+sheet_from b from m = record { count = m; entries = written (λ j. record { cut = known (numbered_at b (from + j * cut_length)) }) m (replicate most_cuts blank) }
 
 -- beside a refusal's number: no day, no cut, and 0 for the first counted day and both of the total's bounds
-abbrev pub refusedRead : ℕ → ReadAnswer
-refusedRead number = record { refusal = number; numbers = noNumbers; sheet = record { count = 0; entries = replicate mostCuts blank } }
+abbrev pub refused_read : ℕ → ReadAnswer
+refused_read number = record { refusal = number; numbers = no_numbers; sheet = record { count = 0; entries = replicate most_cuts blank } }
 
 -- the numbers of a file's profile, and its cuts
 unfoldable pub contents : List ℕ → ReadAnswer
-contents b = record { refusal = 0; numbers = numbersIn b; sheet = sheetFrom b (dayOffset (dayCount b)) (cutCount b) }
+contents b = record { refusal = 0; numbers = numbers_in b; sheet = sheet_from b (day_offset (day_count b)) (cut_count b) }
 
 -- what reading gives beside the lists, with lists of these lengths lent for floors, ceilings and rises
-unfoldable pub readFrom : List ℕ → ℕ → ℕ → ℕ → ReadAnswer
-readFrom b floors ceilings rises = cond (eqb (readingRefusal b floors ceilings rises) 0) (contents b) (refusedRead (readingRefusal b floors ceilings rises))
+unfoldable pub read_from : List ℕ → ℕ → ℕ → ℕ → ReadAnswer
+read_from b floors ceilings rises = cond (eqb (reading_refusal b floors ceilings rises) 0) (contents b) (refused_read (reading_refusal b floors ceilings rises))

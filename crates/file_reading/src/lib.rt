@@ -1,9 +1,9 @@
 // The profile file's reader.
 ghost use Rattle.std.specs.Prelude.{◌≡◌, ◌+◌, ◌-◌, ◌*◌, ◌≤◌, length};
-ghost use Rattle.limits.specs.Limits.{mostDays, mostCuts};
-ghost use Rattle.theory_lists.specs.Lent.{lentList};
-ghost use Rattle.file_format.specs.Format.{cutLength, fileLength, dayCount, cutCount, floorAt, ceilingAt, riseAt, numberedAt, known};
-ghost use Rattle.file_reading.specs.Reading.{sheetFrom, refusedRead, contents, readFrom};
+ghost use Rattle.limits.specs.Limits.{most_days, most_cuts};
+ghost use Rattle.theory_lists.specs.Lent.{lent_list};
+ghost use Rattle.file_format.specs.Format.{cut_length, file_length, day_count, cut_count, floor_at, ceiling_at, rise_at, numbered_at, known};
+ghost use Rattle.file_reading.specs.Reading.{sheet_from, refused_read, contents, read_from};
 
 use base_little_endian::{i32_at, u16_at};
 use base_numbers::wide;
@@ -23,8 +23,8 @@ pub struct ReadAnswer {
 }
 
 fn entry_at(bytes: &[u8], at: usize) -> Entry
-    requires { at + cutLength ≤ length bytes.now }
-    ensures { result ≡ record { cut = known (numberedAt bytes.now at) } }
+    requires { at + cut_length ≤ length bytes.now }
+    ensures { result ≡ record { cut = known (numbered_at bytes.now at) } }
 {
     let Numbered::Known(cut) = numbered_at(bytes, at) else {
         return Entry {
@@ -35,8 +35,8 @@ fn entry_at(bytes: &[u8], at: usize) -> Entry
 }
 
 fn read_sheet(bytes: &[u8], from: usize, count: usize) -> Sheet
-    requires { (from + count * cutLength ≤ length bytes.now) × (count ≤ mostCuts) }
-    ensures { result ≡ sheetFrom bytes.now from count }
+    requires { (from + count * cut_length ≤ length bytes.now) × (count ≤ most_cuts) }
+    ensures { result ≡ sheet_from bytes.now from count }
 {
     let blank = Entry {
         cut: Cut::DayFloor(0, 0),
@@ -51,7 +51,7 @@ fn read_sheet(bytes: &[u8], from: usize, count: usize) -> Sheet
 }
 
 fn refused(number: u8) -> ReadAnswer
-    ensures { result ≡ refusedRead number }
+    ensures { result ≡ refused_read number }
 {
     let blank = Entry {
         cut: Cut::DayFloor(0, 0),
@@ -67,7 +67,7 @@ fn refused(number: u8) -> ReadAnswer
 
 // What is read of a file beside its days.
 fn read_contents(bytes: &[u8], days: usize) -> ReadAnswer
-    requires { (days ≡ dayCount bytes.now) × (fileLength days (cutCount bytes.now) ≡ length bytes.now) × (days ≤ mostDays) × (cutCount bytes.now ≤ mostCuts) }
+    requires { (days ≡ day_count bytes.now) × (file_length days (cut_count bytes.now) ≡ length bytes.now) × (days ≤ most_days) × (cut_count bytes.now ≤ most_cuts) }
     ensures { result ≡ contents bytes.now }
 {
     let first = wide(u16_at(bytes, FIRST_DAY_AT));
@@ -90,10 +90,10 @@ fn read_contents(bytes: &[u8], days: usize) -> ReadAnswer
 
 // Reads a file: document 01's checks 11, 1, 11, 12, then 2. Values are left to opening and cutting.
 pub fn read(bytes: &[u8], floors: &mut [i16], ceilings: &mut [i16], rises: &mut [i16]) -> ReadAnswer
-    ensures value { result ≡ readFrom bytes.now (length floors.old) (length ceilings.old) (length rises.old) }
-    ensures floors_after { floors.new ≡ lentList result.refusal (floorAt bytes.now) (dayCount bytes.now) floors.old }
-    ensures ceilings_after { ceilings.new ≡ lentList result.refusal (ceilingAt bytes.now) (dayCount bytes.now) ceilings.old }
-    ensures rises_after { rises.new ≡ lentList result.refusal (riseAt bytes.now) (dayCount bytes.now - 1) rises.old }
+    ensures value { result ≡ read_from bytes.now (length floors.old) (length ceilings.old) (length rises.old) }
+    ensures floors_after { floors.new ≡ lent_list result.refusal (floor_at bytes.now) (day_count bytes.now) floors.old }
+    ensures ceilings_after { ceilings.new ≡ lent_list result.refusal (ceiling_at bytes.now) (day_count bytes.now) ceilings.old }
+    ensures rises_after { rises.new ≡ lent_list result.refusal (rise_at bytes.now) (day_count bytes.now - 1) rises.old }
 {
     let refusal = file_refusal(bytes);
     if refusal != 0 {

@@ -1,17 +1,17 @@
 -- Document 01: what the file's writer gives, and its output.
 use Rattle.std.specs.Prelude.{cond, List, ℕ, eqb, length}
-use Rattle.theory_lists.specs.Front.{inFront}
+use Rattle.theory_lists.specs.Front.{in_front}
 use Rattle.session.specs.Profile.{Profile}
 use Rattle.session_cuts.specs.declared.Cut.{Cut}
-use Rattle.file_format.specs.Format.{fileLength, file}
-use Rattle.file_format.specs.Writing.{writingRefusal}
+use Rattle.file_format.specs.Format.{file_length, file}
+use Rattle.file_format.specs.Writing.{writing_refusal}
 use Rattle.file_writing.specs.declared.WriteAnswer.{WriteAnswer}
 
 -- the file's length, or 0 beside a refusal's number, with an output of that length
-unfoldable pub writeAnswer : Profile → List Cut → ℕ → WriteAnswer
-writeAnswer p cs room =
-    cond (eqb (writingRefusal p cs room) 0) (record { refusal = 0; length = fileLength p.days (length cs) }) (record { refusal = writingRefusal p cs room; length = 0 })
+unfoldable pub write_answer : Profile → List Cut → ℕ → WriteAnswer
+write_answer p cs room =
+    cond (eqb (writing_refusal p cs room) 0) (record { refusal = 0; length = file_length p.days (length cs) }) (record { refusal = writing_refusal p cs room; length = 0 })
 
 -- the output afterwards: the file at its front, or as it was beside a refusal
 unfoldable pub output : Profile → List Cut → List ℕ → List ℕ
-output p cs l = cond (eqb (writingRefusal p cs (length l)) 0) (inFront (file p cs) l) l
+output p cs l = cond (eqb (writing_refusal p cs (length l)) 0) (in_front (file p cs) l) l

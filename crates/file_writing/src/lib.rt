@@ -1,11 +1,11 @@
 // The profile file's writer.
 ghost use Rattle.std.specs.Prelude.{◌≡◌, ◌≤◌, length, get_or};
-ghost use Rattle.limits.specs.Limits.{mostCuts};
-ghost use Rattle.theory_lists.specs.First.{firstNonzero};
+ghost use Rattle.limits.specs.Limits.{most_cuts};
+ghost use Rattle.theory_lists.specs.First.{first_nonzero};
 ghost use Rattle.session.specs.Opening.{profile};
 ghost use Rattle.session_cuts.specs.Sheet.{blank, cuts_of};
 ghost use Rattle.session_cutting.specs.Cutting.{malformed};
-ghost use Rattle.file_writing.specs.Writing.{writeAnswer, output};
+ghost use Rattle.file_writing.specs.Writing.{write_answer, output};
 
 use file_format::{CUT_BYTES, day_offset};
 use file_parts::{put_days, put_entries, put_header};
@@ -29,8 +29,8 @@ fn entry_refusal(entry: Entry, days: usize) -> u8
 
 // The first refusal of the entries in their order, or 0.
 fn entries_refusal(entries: [Entry; MOST_CUTS], count: usize, days: usize) -> u8
-    requires { count ≤ mostCuts }
-    ensures { result ≡ firstNonzero (λ j. malformed days (get_or entries j blank).cut) count }
+    requires { count ≤ most_cuts }
+    ensures { result ≡ first_nonzero (λ j. malformed days (get_or entries j blank).cut) count }
 {
     let mut j = 0;
     while j < count {
@@ -61,7 +61,7 @@ pub fn write(
     sheet: Sheet,
     out: &mut [u8],
 ) -> WriteAnswer
-    ensures value { result ≡ writeAnswer (profile numbers floors.now ceilings.now rises.now) (cuts_of sheet) (length out.old) }
+    ensures value { result ≡ write_answer (profile numbers floors.now ceilings.now rises.now) (cuts_of sheet) (length out.old) }
     ensures out_after { out.new ≡ output (profile numbers floors.now ceilings.now rises.now) (cuts_of sheet) out.old }
 {
     let days = numbers.days;

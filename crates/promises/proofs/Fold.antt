@@ -10,9 +10,9 @@ use lib.Dec.{eqb}
 use borrow.Author.Tests.{le-ltb, ltb-false}
 use Rattle.theory_lists.specs.Sum.{at}
 use Rattle.theory_method.specs.Filter.{Tight}
-use Rattle.theory_method.proofs.Exact.{none, exact, tighter, looser, exact-in-bounds}
-use Rattle.theory_chains.specs.Spans.{spans-same}
-use Rattle.session.specs.Opening.{rangesOf}
+use Rattle.theory_method.proofs.Exact.{none, exact, tighter, looser, exact_in_bounds}
+use Rattle.theory_chains.specs.Spans.{spans_same}
+use Rattle.session.specs.Opening.{ranges_of}
 use Rattle.session.specs.Showing.{Fits}
 use Rattle.session.proofs.Within.{Within}
 use Rattle.session.specs.Profile.{Profile}
@@ -21,27 +21,27 @@ use Rattle.session.specs.declared.Session.{Session}
 use Rattle.session_cuts.specs.declared.Cut.{Cut}
 use Rattle.session_cuts.specs.declared.Numbered.{Numbered}
 use Rattle.session_cuts.specs.declared.Numbered.TheVariants.{Known, Unknown}
-use Rattle.session_cutting.specs.Cutting.{malformed, earlyCutting, clipped, retightened, tightenedTo, afterCut, afterNumbered}
-use Rattle.session_cutting.proofs.Laws.{clipped-in-bounds, earlier-none, passed, refused-same, accepted}
+use Rattle.session_cutting.specs.Cutting.{malformed, early_cutting, clipped, retightened, tightened_to, after_cut, after_numbered}
+use Rattle.session_cutting.proofs.Laws.{clipped_in_bounds, earlier_none, passed, refused-same, accepted}
 use Rattle.promises.specs.Cuts.{WellFormed, CutCall, Valid, ValidIn, after}
-use Rattle.promises.proofs.Clip.{KeepsLevels, InArrays, well-formed, to-clipped, of-clipped, clipped-past}
-use Rattle.promises.proofs.Right.{Narrowed, unspent, spent, Right, narrowed, exhausted, right-same}
+use Rattle.promises.proofs.Clip.{KeepsLevels, InArrays, well_formed, to_clipped, of_clipped, clipped-past}
+use Rattle.promises.proofs.Right.{Narrowed, unspent, spent, Right, narrowed, exhausted, right_same}
 
 pub known_same : (c d : Cut) → Known c ≡ Known d → c ≡ d
 known_same c d e = cc
 
-unknown-known : (c : Cut) → Unknown ≡ Known c → ⊥
-unknown-known c e = let z : ◌≡◌ {A = ℕ} 0 1 = cc in absurd (omega arith)
+unknown_known : (c : Cut) → Unknown ≡ Known c → ⊥
+unknown_known c e = let z : ◌≡◌ {A = ℕ} 0 1 = cc in absurd (omega arith)
 
 module _ (p : Profile) (rs : List ℕ) (o : Ranges) where
   abbrev RightFor : ((ℕ → ℕ) → Type 0) → Session → Type 0
   RightFor = Right p.days p.first rs o
 
-  abbrev unspentWith : Ranges → Session
-  unspentWith = unspent p.days p.first rs o
+  abbrev unspent_with : Ranges → Session
+  unspent_with = unspent p.days p.first rs o
 
-  abbrev spentSession : Session
-  spentSession = spent p.days p.first rs o
+  abbrev spent_session : Session
+  spent_session = spent p.days p.first rs o
 
   -- a well-formed cut, clipped and tightened
   module _ (S : (ℕ → ℕ) → Type 0) (r : Ranges) (w : Narrowed p.days p.first rs o S r) (c : Cut) (formed : malformed p.days c ≡ 0) where
@@ -49,35 +49,35 @@ module _ (p : Profile) (rs : List ℕ) (o : Ranges) where
     T x = S x × KeepsLevels p.days p.first c x
 
     abbrev t : Tight
-    t = retightened (unspentWith r) (clipped r c)
+    t = retightened (unspent_with r) (clipped r c)
 
     well : WellFormed p c
-    well = (well-formed p c).0 formed
+    well = (well_formed p c).0 formed
 
     fits : Fits rs p.days p.first (clipped r c)
-    fits = clipped-in-bounds rs p.days p.first r c w.bounds formed
+    fits = clipped_in_bounds rs p.days p.first r c w.bounds formed
 
     arrays : InArrays p r
     arrays = record { few = w.bounds.most; floors = w.bounds.floors; ceilings = w.bounds.ceilings }
 
     to : (x : ℕ → ℕ) → T x → Within rs p.days p.first (clipped r c) x
-    to x k = to-clipped p rs r arrays c well x (w.within x k.0) k.1
+    to x k = to_clipped p rs r arrays c well x (w.within x k.0) k.1
 
     of : (x : ℕ → ℕ) → Within rs p.days p.first (clipped r c) x → T x
-    of x l = let z = of-clipped p rs r arrays c well x l in (w.only x z.0, z.1)
+    of x l = let z = of_clipped p rs r arrays c well x l in (w.only x z.0, z.1)
 
-    cut_right : RightFor T (tightenedTo (unspentWith r) t).session
+    cut_right : RightFor T (tightened_to (unspent_with r) t).session
     cut_right = go t.found refl
       where
-        go : (b : Bool) → t.found ≡ b → RightFor T (tightenedTo (unspentWith r) t).session
+        go : (b : Bool) → t.found ≡ b → RightFor T (tightened_to (unspent_with r) t).session
         go true e =
             let z = exact fits e in
-            rw e (narrowed (rangesOf t) refl (record {
-              bounds = exact-in-bounds z fits;
+            rw e (narrowed (ranges_of t) refl (record {
+              bounds = exact_in_bounds z fits;
               within = λ x k. tighter z x (to x k);
               only = λ x l. of x (looser z x l);
-              day = λ k h. spans-same to of (z.day k h);
-              total = spans-same to of z.total;
+              day = λ k h. spans_same to of (z.day k h);
+              total = spans_same to of z.total;
               floors-kept = λ k h. z.floors-past k h ∙ (clipped-past p r c well k h).0 ∙ w.floors-kept k h;
               ceilings-kept = λ k h. z.ceilings-past k h ∙ (clipped-past p r c well k h).1 ∙ w.ceilings-kept k h;
             }))
@@ -92,44 +92,44 @@ module _ (p : Profile) (rs : List ℕ) (o : Ranges) where
   module _ (S : (ℕ → ℕ) → Type 0) where
     -- where no cut is valid, S is kept as it is
     none-valid : (h : CutCall) {s : Session} → ((c : Cut) → Valid p h c → ⊥) → RightFor S s → RightFor (Keeping S h) s
-    none-valid h invalid = right-same (λ x k. (k, λ c v. absurd (invalid c v))) (λ x k. k.0)
+    none-valid h invalid = right_same (λ x k. (k, λ c v. absurd (invalid c v))) (λ x k. k.0)
 
     module _ (c : Cut) (room : ℕ) where
       abbrev h : CutCall
       h = record { cut = Known c; room = room }
 
       -- a valid cut of an unspent session is not refused before 8
-      unrefused : (r : Ranges) (d : Cut) → Valid p h d → eqb (earlyCutting (unspentWith r) c room) 0 ≡ true
+      unrefused : (r : Ranges) (d : Cut) → Valid p h d → eqb (early_cutting (unspent_with r) c room) 0 ≡ true
       unrefused r d v =
           let same : c ≡ d = known_same c d v.known in
-          earlier-none (unspentWith r) c room ((well-formed p c).1 (rw same v.formed)) (le-ltb room p.days v.roomy) refl
+          earlier_none (unspent_with r) c room ((well_formed p c).1 (rw same v.formed)) (le-ltb room p.days v.roomy) refl
 
-      unspent-step : (r : Ranges) → Narrowed p.days p.first rs o S r → RightFor (Keeping S h) (afterCut (unspentWith r) c room).session
-      unspent-step r w = go (eqb (earlyCutting (unspentWith r) c room) 0) refl
+      unspent-step : (r : Ranges) → Narrowed p.days p.first rs o S r → RightFor (Keeping S h) (after_cut (unspent_with r) c room).session
+      unspent-step r w = go (eqb (early_cutting (unspent_with r) c room) 0) refl
         where
-          go : (b : Bool) → eqb (earlyCutting (unspentWith r) c room) 0 ≡ b → RightFor (Keeping S h) (afterCut (unspentWith r) c room).session
+          go : (b : Bool) → eqb (early_cutting (unspent_with r) c room) 0 ≡ b → RightFor (Keeping S h) (after_cut (unspent_with r) c room).session
           go true e =
-              let q = passed (unspentWith r) c room e in
-              let v : Valid p h c = record { known = refl; formed = (well-formed p c).0 q.formed; roomy = ltb-false room p.days q.roomy } in
-              rw (accepted (unspentWith r) c room e)
-              (right-same
+              let q = passed (unspent_with r) c room e in
+              let v : Valid p h c = record { known = refl; formed = (well_formed p c).0 q.formed; roomy = ltb-false room p.days q.roomy } in
+              rw (accepted (unspent_with r) c room e)
+              (right_same
               (λ x k. (k.0, λ d u. let same : d ≡ c = sym (known_same c d u.known) in rw same k.1))
               (λ x k. (k.0, k.1 c v))
               (cut_right S r w c q.formed))
-          go false e = rw (refused-same (unspentWith r) c room e) (none-valid h (λ d u. true≢false (sym (unrefused r d u) ∙ e)) (narrowed r refl w))
+          go false e = rw (refused-same (unspent_with r) c room e) (none-valid h (λ d u. true≢false (sym (unrefused r d u) ∙ e)) (narrowed r refl w))
 
-      spent-step : ((x : ℕ → ℕ) → S x → ⊥) → RightFor (Keeping S h) (afterCut spentSession c room).session
-      spent-step empty = go (eqb (earlyCutting spentSession c room) 0) refl
+      spent-step : ((x : ℕ → ℕ) → S x → ⊥) → RightFor (Keeping S h) (after_cut spent_session c room).session
+      spent-step empty = go (eqb (early_cutting spent_session c room) 0) refl
         where
-          go : (b : Bool) → eqb (earlyCutting spentSession c room) 0 ≡ b → RightFor (Keeping S h) (afterCut spentSession c room).session
-          go true e = absurd (true≢false (passed spentSession c room e).unspent)
-          go false e = rw (refused-same spentSession c room e) (exhausted refl (λ x k. empty x k.0))
+          go : (b : Bool) → eqb (early_cutting spent_session c room) 0 ≡ b → RightFor (Keeping S h) (after_cut spent_session c room).session
+          go true e = absurd (true≢false (passed spent_session c room e).unspent)
+          go false e = rw (refused-same spent_session c room e) (exhausted refl (λ x k. empty x k.0))
 
-    step : {s : Session} (t : Numbered) (room : ℕ) → RightFor S s → RightFor (Keeping S (record { cut = t; room = room })) (afterNumbered s t room).session
-    unfolding afterNumbered
+    step : {s : Session} (t : Numbered) (room : ℕ) → RightFor S s → RightFor (Keeping S (record { cut = t; room = room })) (after_numbered s t room).session
+    unfolding after_numbered
     step (Known c) room (narrowed r e w) = rw e (unspent-step c room r w)
     step (Known c) room (exhausted e empty) = rw e (spent-step c room empty)
-    step Unknown room z = none-valid (record { cut = Unknown; room = room }) (λ c v. unknown-known c v.known) z
+    step Unknown room z = none-valid (record { cut = Unknown; room = room }) (λ c v. unknown_known c v.known) z
 
   -- ---- whole lists
 
@@ -137,18 +137,18 @@ module _ (p : Profile) (rs : List ℕ) (o : Ranges) where
   abbrev pub KeepingAll : ((ℕ → ℕ) → Type 0) → List CutCall → (ℕ → ℕ) → Type 0
   KeepingAll S hs x = S x × ((c : Cut) → ValidIn p hs c → KeepsLevels p.days p.first c x)
 
-  first-or-later : (h : CutCall) (hs : List CutCall) (x : ℕ → ℕ) → ((c : Cut) → Valid p h c → KeepsLevels p.days p.first c x) → ((c : Cut) → ValidIn p hs c → KeepsLevels p.days p.first c x)
+  first_or_later : (h : CutCall) (hs : List CutCall) (x : ℕ → ℕ) → ((c : Cut) → Valid p h c → KeepsLevels p.days p.first c x) → ((c : Cut) → ValidIn p hs c → KeepsLevels p.days p.first c x)
       → (c : Cut) → ValidIn p (h ∷ hs) c → KeepsLevels p.days p.first c x
-  first-or-later h hs x first later c v = go (Memᴰ.cases_cons v.member)
+  first_or_later h hs x first later c v = go (Memᴰ.cases_cons v.member)
     where
       go : (v.handed ≡ h) ⊎ Memᴰ v.handed hs → KeepsLevels p.days p.first c x
       go (inl e) = first c (rw e at v.valid)
       go (inr m) = later c (record { handed = v.handed; member = m; valid = v.valid })
 
   pub fold : (S : (ℕ → ℕ) → Type 0) (s : Session) (hs : List CutCall) → RightFor S s → RightFor (KeepingAll S hs) (after s hs)
-  fold S s [] z = right-same (λ x k. (k, λ c v. absurd (Memᴰ.not-nil v.member))) (λ x k. k.0) z
+  fold S s [] z = right_same (λ x k. (k, λ c v. absurd (Memᴰ.not-nil v.member))) (λ x k. k.0) z
   fold S s (h ∷ hs) z =
-      right-same
-      (λ x k. (k.0.0, first-or-later h hs x k.0.1 k.1))
+      right_same
+      (λ x k. (k.0.0, first_or_later h hs x k.0.1 k.1))
       (λ x k. ((k.0, λ c v. k.1 c (record { handed = h; member = Memᴰ.head refl; valid = v })), λ c v. k.1 c (record { handed = v.handed; member = Memᴰ.tail v.member; valid = v.valid })))
-      (fold (Keeping S h) (afterNumbered s h.cut h.room).session hs (step S h.cut h.room z))
+      (fold (Keeping S h) (after_numbered s h.cut h.room).session hs (step S h.cut h.room z))

@@ -11,39 +11,39 @@ use lib.Dec.{eqb}
 use lib.ListN.{length}
 use borrow.Author.Tests.{eqb-true, eqb-false}
 use Rattle.session.specs.Profile.{Profile, Spans}
-use Rattle.session.specs.Opening.{earlyOpening, opened, refusedWith}
+use Rattle.session.specs.Opening.{early_opening, opened, refused_with}
 use Rattle.session.proofs.Entered.{entered}
 use Rattle.session.proofs.SessionBounds.{opened-refusal}
 use Rattle.session.specs.declared.Opened.{Opened}
 use Rattle.session_cuts.specs.declared.Cut.{Cut}
-use Rattle.session_cuts.specs.Sheet.{cutOn}
+use Rattle.session_cuts.specs.Sheet.{cut_on}
 use Rattle.session_cutting.specs.Cutting.{malformed}
-use Rattle.file_format.specs.Format.{known, profileIn, cutsIn}
+use Rattle.file_format.specs.Format.{known, profile_in, cuts_in}
 use Rattle.file_format.specs.Reading as Reading
-use Rattle.file_format.specs.Reading.{no_header, badCounts, badLayout, badFields}
+use Rattle.file_format.specs.Reading.{no_header, bad_counts, bad_layout, bad_fields}
 use Rattle.file_format.proofs.ReadAgain.{passed}
 use Rattle.file_printing.proofs.Lines.{all-refused}
-use Rattle.file_printing.specs.Printing.{cutAll, fileOpened}
+use Rattle.file_printing.specs.Printing.{cut_all, file_opened}
 use Rattle.promises.specs.Cuts.{Keeps, CutCall, ValidIn, Kept}
-use Rattle.promises.proofs.Clip.{well-formed}
+use Rattle.promises.proofs.Clip.{well_formed}
 use Rattle.promises.specs.Demands.{Exact}
-use Rattle.promises.proofs.Demand2.{unrefused, demand-2}
-use Rattle.promises.proofs.Demand3.{demand-3}
+use Rattle.promises.proofs.Demand2.{unrefused, demand_2}
+use Rattle.promises.proofs.Demand3.{demand_3}
 use Rattle.promises.specs.Printing.{FileSchedule, RangesPrinted}
-use Rattle.promises.proofs.CutAll.{hand, handed, mem-handed, handed-mem, reached, eight-at, else-eight}
+use Rattle.promises.proofs.CutAll.{hand, handed, mem-handed, handed-mem, reached, eight_at, else_eight}
 
-spans-same : {S T : List ℤ → Type 0} {f : List ℤ → ℤ} {lo hi : ℤ} → ((x : List ℤ) → T x → S x) → ((x : List ℤ) → S x → T x) → Spans S f lo hi → Spans T f lo hi
-spans-same of to s = record { some = s.some; inside = λ x t. s.inside x (of x t); taken = λ v l u. let w = s.taken v l u in (w.0, to w.0 w.1, w.2) }
+spans_same : {S T : List ℤ → Type 0} {f : List ℤ → ℤ} {lo hi : ℤ} → ((x : List ℤ) → T x → S x) → ((x : List ℤ) → S x → T x) → Spans S f lo hi → Spans T f lo hi
+spans_same of to s = record { some = s.some; inside = λ x t. s.inside x (of x t); taken = λ v l u. let w = s.taken v l u in (w.0, to w.0 w.1, w.2) }
 
 module _ (b : List ℕ) where
   abbrev p : Profile
-  p = profileIn b
+  p = profile_in b
 
   abbrev f : ℕ → Cut
-  f = cutOn (cutsIn b)
+  f = cut_on (cuts_in b)
 
   abbrev m : ℕ
-  m = length (cutsIn b)
+  m = length (cuts_in b)
 
   -- a schedule that keeps the file's cuts keeps those that were handed over
   kept : (k : ℕ) → k ≤ m → (x : List ℤ) → FileSchedule b x → Kept p (handed f k) x
@@ -64,7 +64,7 @@ module _ (b : List ℕ) where
             k.keeps (f j) (record {
               handed = hand (f j);
               member = mem-handed f m j h;
-              valid = record { known = refl; formed = (well-formed p (f j)).0 (formed j h); roomy = few };
+              valid = record { known = refl; formed = (well_formed p (f j)).0 (formed j h); roomy = few };
             });
       }
 
@@ -72,35 +72,35 @@ module _ (b : List ℕ) where
     few : p.days ≤ 512
     few = (entered p (unrefused p z).early).sized.few
 
-    exact : (cutAll (opened p) f m).refusal ≡ 0 → Exact p (FileSchedule b) (cutAll (opened p) f m).session
+    exact : (cut_all (opened p) f m).refusal ≡ 0 → Exact p (FileSchedule b) (cut_all (opened p) f m).session
     exact e =
         let w = reached f p z m e in
-        let all = demand-3 p z (handed f m) in
-        let right : Exact p (Kept p (handed f m)) (cutAll (opened p) f m).session = rw w.session (all.exact (rw (sym w.session) w.unspent)) in
+        let all = demand_3 p z (handed f m) in
+        let right : Exact p (Kept p (handed f m)) (cut_all (opened p) f m).session = rw w.session (all.exact (rw (sym w.session) w.unspent)) in
         record {
-          each = λ i h. spans-same (kept m (le_refl m)) (keeps-all few w.formed) (right.each i h);
-          sum = spans-same (kept m (le_refl m)) (keeps-all few w.formed) right.sum;
+          each = λ i h. spans_same (kept m (le_refl m)) (keeps-all few w.formed) (right.each i h);
+          sum = spans_same (kept m (le_refl m)) (keeps-all few w.formed) right.sum;
         }
 
-    eight : (cutAll (opened p) f m).refusal ≡ 8 → (x : List ℤ) → FileSchedule b x → ⊥
+    eight : (cut_all (opened p) f m).refusal ≡ 8 → (x : List ℤ) → FileSchedule b x → ⊥
     eight e x s =
-        let w = eight-at f p z m e in
-        (demand-3 p z (handed f w.0)).spent.0 w.2 x (kept w.0 w.1 x s)
+        let w = eight_at f p z m e in
+        (demand_3 p z (handed f w.0)).spent.0 w.2 x (kept w.0 w.1 x s)
 
-    none : ((j : ℕ) → j < m → malformed p.days (f j) ≡ 0) → ((x : List ℤ) → FileSchedule b x → ⊥) → (cutAll (opened p) f m).refusal ≡ 8
-    none formed n = else-eight f p z few m formed (λ e. spent e)
+    none : ((j : ℕ) → j < m → malformed p.days (f j) ≡ 0) → ((x : List ℤ) → FileSchedule b x → ⊥) → (cut_all (opened p) f m).refusal ≡ 8
+    none formed n = else_eight f p z few m formed (λ e. spent e)
       where
-        spent : (cutAll (opened p) f m).refusal ≡ 0 → ⊥
+        spent : (cut_all (opened p) f m).refusal ≡ 0 → ⊥
         spent e =
             let w = reached f p z m e in
-            let over = (demand-3 p z (handed f m)).spent.1 (λ x k. n x (keeps-all few formed x k)) in
+            let over = (demand_3 p z (handed f m)).spent.1 (λ x k. n x (keeps-all few formed x k)) in
             true≢false (sym over ∙ rw w.session at w.unspent)
 
 -- ---- the stages before the cuts
 
-reading-apart : (b : List ℕ) → Reading.earlyReading b ≡ 8 → ⊥
-unfolding Reading.earlyReading
-reading-apart b = go (no_header b) (badCounts b) (badLayout b) (badFields b)
+reading_apart : (b : List ℕ) → Reading.early_reading b ≡ 8 → ⊥
+unfolding Reading.early_reading
+reading_apart b = go (no_header b) (bad_counts b) (bad_layout b) (bad_fields b)
   where
     go : (a c d e : Bool) → ◌≡◌ {A = ℕ} (cond a 11 (cond c 1 (cond d 11 (cond e 12 0)))) 8 → ⊥
     go true c d e h = omega arith
@@ -110,32 +110,32 @@ reading-apart b = go (no_header b) (badCounts b) (badLayout b) (badFields b)
     go false false false false h = omega arith
 
 -- what is refused at opening and passes every check before 8 is refused with 8
-shut-eight : (p : Profile) → earlyOpening p ≡ 0 → ((opened p).refusal ≡ 0 → ⊥) → (opened p).refusal ≡ 8
-shut-eight p e n = go (ℕ_discrete (opened p).refusal 8)
+shut_eight : (p : Profile) → early_opening p ≡ 0 → ((opened p).refusal ≡ 0 → ⊥) → (opened p).refusal ≡ 8
+shut_eight p e n = go (ℕ_discrete (opened p).refusal 8)
   where
     go : Dec ((opened p).refusal ≡ 8) → (opened p).refusal ≡ 8
     go (yes h) = h
     go (no h) = absurd (n (opened-refusal p h ∙ e))
 
 -- by the reader's answer: refused, or opened and cut
-by-reading : (b : List ℕ) (P : Opened → Type 0) → ((Reading.earlyReading b ≡ 0 → ⊥) → P (refusedWith (Reading.earlyReading b)))
-    → (Reading.earlyReading b ≡ 0 → ((opened (profileIn b)).refusal ≡ 0 → ⊥) → P (opened (profileIn b)))
-    → (Reading.earlyReading b ≡ 0 → (opened (profileIn b)).refusal ≡ 0 → P (cutAll (opened (profileIn b)) (cutOn (cutsIn b)) (length (cutsIn b)))) → P (fileOpened b)
-unfolding fileOpened
-by-reading b P refused shut cut = go (eqb (Reading.earlyReading b) 0) (eqb (opened (profileIn b)).refusal 0) refl refl
+by_reading : (b : List ℕ) (P : Opened → Type 0) → ((Reading.early_reading b ≡ 0 → ⊥) → P (refused_with (Reading.early_reading b)))
+    → (Reading.early_reading b ≡ 0 → ((opened (profile_in b)).refusal ≡ 0 → ⊥) → P (opened (profile_in b)))
+    → (Reading.early_reading b ≡ 0 → (opened (profile_in b)).refusal ≡ 0 → P (cut_all (opened (profile_in b)) (cut_on (cuts_in b)) (length (cuts_in b)))) → P (file_opened b)
+unfolding file_opened
+by_reading b P refused shut cut = go (eqb (Reading.early_reading b) 0) (eqb (opened (profile_in b)).refusal 0) refl refl
   where
-    go : (r o : Bool) → eqb (Reading.earlyReading b) 0 ≡ r → eqb (opened (profileIn b)).refusal 0 ≡ o → P (fileOpened b)
+    go : (r o : Bool) → eqb (Reading.early_reading b) 0 ≡ r → eqb (opened (profile_in b)).refusal 0 ≡ o → P (file_opened b)
     go true true e h = rw e (cut (eqb-true _ _ e) (eqb-true _ _ h))
     go true false e h =
-        let n = eqb-false (opened (profileIn b)).refusal 0 h in
-        rw (e, all-refused (opened (profileIn b)) (cutOn (cutsIn b)) n (length (cutsIn b))) (shut (eqb-true _ _ e) n)
+        let n = eqb-false (opened (profile_in b)).refusal 0 h in
+        rw (e, all-refused (opened (profile_in b)) (cut_on (cuts_in b)) n (length (cuts_in b))) (shut (eqb-true _ _ e) n)
     go false o e h = rw e (refused (eqb-false _ _ e))
 
 pub ranges-printed : (b : List ℕ) → RangesPrinted b
 ranges-printed b =
     record {
-      exact = by-reading b (λ o. o.refusal ≡ 0 → Exact (profileIn b) (FileSchedule b) o.session) (λ n z. absurd (n z)) (λ e n z. absurd (n z)) (λ e z. exact b z);
-      eight = by-reading b (λ o. o.refusal ≡ 8 → (x : List ℤ) → FileSchedule b x → ⊥) (λ n z. absurd (reading-apart b z))
-          (λ e n z x s. ((demand-2.none (profileIn b)).0 z).1 x s.schedule) (λ e z. eight b z);
-      none = λ e w n. by-reading b (λ o. o.refusal ≡ 8) (λ h. absurd (h e)) (λ _ h. shut-eight (profileIn b) (passed (profileIn b) (cutsIn b) w).early h) (λ _ z. none b z (passed (profileIn b) (cutsIn b) w).formed n);
+      exact = by_reading b (λ o. o.refusal ≡ 0 → Exact (profile_in b) (FileSchedule b) o.session) (λ n z. absurd (n z)) (λ e n z. absurd (n z)) (λ e z. exact b z);
+      eight = by_reading b (λ o. o.refusal ≡ 8 → (x : List ℤ) → FileSchedule b x → ⊥) (λ n z. absurd (reading_apart b z))
+          (λ e n z x s. ((demand_2.none (profile_in b)).0 z).1 x s.schedule) (λ e z. eight b z);
+      none = λ e w n. by_reading b (λ o. o.refusal ≡ 8) (λ h. absurd (h e)) (λ _ h. shut_eight (profile_in b) (passed (profile_in b) (cuts_in b) w).early h) (λ _ z. none b z (passed (profile_in b) (cuts_in b) w).formed n);
     }

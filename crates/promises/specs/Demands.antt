@@ -3,12 +3,12 @@ use Rattle.std.specs.Prelude.{◌≡◌, true, false, ◌↔◌, ◌⊎◌, List
 use Rattle.theory_lists.specs.Sum.{at}
 use Rattle.base_codes.specs.Code.{on}
 use Rattle.session.specs.Profile.{Profile, Schedule, Spans, sum_of, total}
-use Rattle.session.specs.Showing.{SessionInBounds, floorOn, ceilingOn, totalFloor, totalCeiling}
-use Rattle.session.specs.Opening.{earlyOpening, opened}
+use Rattle.session.specs.Showing.{SessionInBounds, floor_on, ceiling_on, total_floor, total_ceiling}
+use Rattle.session.specs.Opening.{early_opening, opened}
 use Rattle.session.specs.declared.Session.{Session}
 use Rattle.session_cuts.specs.declared.Cut.{Cut}
 use Rattle.session_cuts.specs.declared.Numbered.{Numbered}
-use Rattle.session_cutting.specs.Cutting.{spend, earlyNumbered, afterCut, afterNumbered, listAfter}
+use Rattle.session_cutting.specs.Cutting.{spend, early_numbered, after_cut, after_numbered, list_after}
 use Rattle.session_cutting.specs.declared.AfterCut.{AfterCut}
 use Rattle.promises.specs.Cuts.{WellFormed, Looser, CutCall, ValidIn, Kept, after}
 
@@ -17,25 +17,25 @@ use Rattle.promises.specs.Cuts.{WellFormed, Looser, CutCall, ValidIn, Kept, afte
 -- what a cut with answer r leaves: a refusal leaves the lent list l, and the session s too; but 8, which is said exactly where an unspent
 -- session becomes spent
 pub record Leaves (s : Session) (l : List ℕ) (r : AfterCut) : Type 0 where
-  pub list : (r.answer.refusal ≡ 0 → ⊥) → listAfter s r l ≡ l
+  pub list : (r.answer.refusal ≡ 0 → ⊥) → list_after s r l ≡ l
   pub session : (r.answer.refusal ≡ 0 → ⊥) → (r.answer.refusal ≡ 8 → ⊥) → r.session ≡ s
   pub eight : (r.answer.refusal ≡ 8) ↔ (s.spent ≡ false) × (r.session.spent ≡ true)
 
 -- the points between the floor and the ceiling that a session shows for day k, and those that its range lost from session s to session u (request Two)
-abbrev pub widthOn : Session → ℕ → ℤ
-widthOn s k = ceilingOn s k -ℤ floorOn s k
+abbrev pub width_on : Session → ℕ → ℤ
+width_on s k = ceiling_on s k -ℤ floor_on s k
 
-abbrev pub lostOn : Session → Session → ℕ → ℤ
-lostOn s u k = widthOn s k -ℤ widthOn u k
+abbrev pub lost_on : Session → Session → ℕ → ℤ
+lost_on s u k = width_on s k -ℤ width_on u k
 
 -- day j comes before day k: it lost more, or the same and is the lower
 abbrev pub Before : Session → Session → ℕ → ℕ → Type 0
-Before s u j k = (lostOn s u k <ℤ lostOn s u j) ⊎ ((lostOn s u j ≡ lostOn s u k) × (j < k))
+Before s u j k = (lost_on s u k <ℤ lost_on s u j) ⊎ ((lost_on s u j ≡ lost_on s u k) × (j < k))
 
 -- the first places of a list, `count` of them, hold exactly the days whose shown range in session u is another than in session s, each one time; `day i` is what
 -- place i holds
 pub record DaysListed (s u : Session) (count : ℕ) (day : ℕ → ℕ) : Type 0 where
-  pub listed : (k : ℕ) → ((i : ℕ) × (i < count) × (day i ≡ k)) ↔ (k < s.days) × ((floorOn s k ≡ floorOn u k) × (ceilingOn s k ≡ ceilingOn u k) → ⊥)
+  pub listed : (k : ℕ) → ((i : ℕ) × (i < count) × (day i ≡ k)) ↔ (k < s.days) × ((floor_on s k ≡ floor_on u k) × (ceiling_on s k ≡ ceiling_on u k) → ⊥)
   pub once : (i j : ℕ) → i < j → j < count → day i ≡ day j → ⊥
 
 -- and they stand the largest loss first, equal losses by day
@@ -56,9 +56,9 @@ pub record Changes (s u : Session) (count : ℕ) (l out : List ℕ) : Type 0 whe
 
 -- for whatever session, cut and lent list
 pub record Demand1 : Type 0 where
-  pub refused : (s : Session) (t : Numbered) (l : List ℕ) → Leaves s l (afterNumbered s t (length l))
-  pub accepted : (s : Session) (t : Numbered) (l : List ℕ) → let r : AfterCut = afterNumbered s t (length l) in
-      r.answer.refusal ≡ 0 → Changes s r.session r.answer.changed l (listAfter s r l)
+  pub refused : (s : Session) (t : Numbered) (l : List ℕ) → Leaves s l (after_numbered s t (length l))
+  pub accepted : (s : Session) (t : Numbered) (l : List ℕ) → let r : AfterCut = after_numbered s t (length l) in
+      r.answer.refusal ≡ 0 → Changes s r.session r.answer.changed l (list_after s r l)
 
 -- ---- document 01's cases
 
@@ -70,14 +70,14 @@ EveryDayCounts = (p : Profile) → p.first ≡ 0 → (x : List ℤ) → total p.
 
 -- the ranges that a session shows are exact for the schedules of S: each day's and the total's
 pub record Exact (p : Profile) (S : List ℤ → Type 0) (s : Session) : Type 0 where
-  pub each : (i : ℕ) → i < p.days → Spans S (λ x. on x i) (floorOn s i) (ceilingOn s i)
-  pub sum : Spans S (total p.first) (totalFloor s) (totalCeiling s)
+  pub each : (i : ℕ) → i < p.days → Spans S (λ x. on x i) (floor_on s i) (ceiling_on s i)
+  pub sum : Spans S (total p.first) (total_floor s) (total_ceiling s)
 
 -- where opening does not refuse, every range is exact; and 8 is said exactly where no check before it refuses and there is
 -- no schedule
 pub record Demand2 : Type 0 where
   pub opening : (p : Profile) → (opened p).refusal ≡ 0 → Exact p (Schedule p) (opened p).session
-  pub none : (p : Profile) → ((opened p).refusal ≡ 8) ↔ (earlyOpening p ≡ 0) × ((x : List ℤ) → Schedule p x → ⊥)
+  pub none : (p : Profile) → ((opened p).refusal ≡ 8) ↔ (early_opening p ≡ 0) × ((x : List ℤ) → Schedule p x → ⊥)
 
 -- ---- demand 3
 
@@ -86,7 +86,7 @@ pub record Demand2 : Type 0 where
 -- them all; and another list with the same valid cuts ends in an equal session
 pub record AfterList (p : Profile) (hs : List CutCall) : Type 0 where
   pub spent : ((after (opened p).session hs).spent ≡ true) ↔ ((x : List ℤ) → Kept p hs x → ⊥)
-  pub as-opened : (after (opened p).session hs).spent ≡ true → after (opened p).session hs ≡ spend (opened p).session
+  pub as_opened : (after (opened p).session hs).spent ≡ true → after (opened p).session hs ≡ spend (opened p).session
   pub exact : (after (opened p).session hs).spent ≡ false → Exact p (Kept p hs) (after (opened p).session hs)
   pub order-free : (gs : List CutCall) → ((c : Cut) → ValidIn p hs c ↔ ValidIn p gs c) → after (opened p).session hs ≡ after (opened p).session gs
 
@@ -101,7 +101,7 @@ abbrev pub LooserCuts : Type 0
 LooserCuts =
     (p : Profile) → (opened p).refusal ≡ 0 → (hs : List CutCall) (s : Session) → s ≡ after (opened p).session hs → s.spent ≡ false
     → (c : Cut) → WellFormed p c → Looser s c → (room : ℕ) → p.days ≤ room
-    → afterCut s c room ≡ record { answer = record { refusal = 0; changed = 0 }; session = s }
+    → after_cut s c room ≡ record { answer = record { refusal = 0; changed = 0 }; session = s }
 
 -- ---- demand 2 at a cut
 
@@ -109,7 +109,7 @@ LooserCuts =
 abbrev pub NoneAtCut : Type 0
 NoneAtCut =
     (p : Profile) → (opened p).refusal ≡ 0 → (hs : List CutCall) (s : Session) → s ≡ after (opened p).session hs → (h : CutCall)
-    → ((afterNumbered s h.cut h.room).answer.refusal ≡ 8) ↔ (earlyNumbered s h.cut h.room ≡ 0) × ((x : List ℤ) → Kept p (hs ++ h ∷ []) x → ⊥)
+    → ((after_numbered s h.cut h.room).answer.refusal ≡ 8) ↔ (early_numbered s h.cut h.room ≡ 0) × ((x : List ℤ) → Kept p (hs ++ h ∷ []) x → ⊥)
 
 -- ---- numbers in bounds
 

@@ -26,9 +26,9 @@ pub record Promises : Type 0 where
   -- demand 2: ranges are exact, 8 is said exactly where there is no schedule, each value of a range has a schedule that is written, files are read again as
   -- they were written, and what is printed for a file is exact; document 01's cases are those with first counted day 0, and its profiles worked by hand
   pub opening : Demand2
-  pub none-at-cut : NoneAtCut
+  pub none_at_cut : NoneAtCut
   pub writing : Writing
-  pub present-schedules : PresentSchedules
+  pub present_schedules : PresentSchedules
   pub files : RoundTrips
   pub printed : (b : List ℕ) → RangesPrinted b
   pub printed-long : PrintedLong
@@ -40,12 +40,12 @@ pub record Promises : Type 0 where
   pub sheets : Sheets
   pub starred-sheets : StarredSheets
   -- over C: the bytes that opening and cuts leave are those of the sessions by value, and the demands as a caller in C sees them
-  pub sessions-in-bytes : SessionsInBytes
-  pub demands-in-bytes : DemandsInBytes
-  pub sheets-in-bytes : SheetsInBytes
-  pub writing-in-bytes : WritingInBytes
-  pub inspection-in-bytes : InspectionInBytes
-  pub files-in-bytes : FilesInBytes
+  pub sessions_in_bytes : SessionsInBytes
+  pub demands_in_bytes : DemandsInBytes
+  pub sheets_in_bytes : SheetsInBytes
+  pub writing_in_bytes : WritingInBytes
+  pub inspection_in_bytes : InspectionInBytes
+  pub files_in_bytes : FilesInBytes
   -- over C: whatever the bytes, they hold a session that can be called on; what was encoded is decoded; and the patch that a cut makes of bytes, on the encoding of a
   -- session, is the encoding of the session with those ranges
   pub decoding : DecodingInBounds

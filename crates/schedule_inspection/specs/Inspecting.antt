@@ -1,10 +1,10 @@
 -- Document 01: inspecting a schedule that somebody wrote.
 use Rattle.std.specs.Prelude.{◌≡◌, Bool, cond, not, List, ℕ, ◌+◌, ◌-◌, ℤ, ◌+ℤ◌, eqb, ltb, length}
 use Rattle.std.specs.Int.Signed.{lt_z}
-use Rattle.theory_lists.specs.First.{firstWhere}
+use Rattle.theory_lists.specs.First.{first_where}
 use Rattle.base_codes.specs.Code.{within, on}
 use Rattle.session.specs.Profile.{total}
-use Rattle.session.specs.Showing.{floorOn, ceilingOn, riseOn, totalFloor, totalCeiling}
+use Rattle.session.specs.Showing.{floor_on, ceiling_on, rise_on, total_floor, total_ceiling}
 use Rattle.session.specs.declared.Session.{Session}
 use Rattle.schedule_inspection.specs.declared.Inspection.{Inspection}
 use Rattle.schedule_inspection.specs.declared.Inspection.TheVariants.{WrongLength, Spent, Kept, BrokenDay, BrokenRise, BrokenTotal}
@@ -12,16 +12,16 @@ use Rattle.schedule_inspection.specs.declared.Inspection.TheVariants.{WrongLengt
 -- ---- the rules, by the session's present ranges, for a list x of setpoints
 
 -- the setpoint of day i is outside the day's range
-abbrev pub brokenDay : Session → List ℤ → ℕ → Bool
-brokenDay s x i = not (within (floorOn s i) (ceilingOn s i) (on x i))
+abbrev pub broken_day : Session → List ℤ → ℕ → Bool
+broken_day s x i = not (within (floor_on s i) (ceiling_on s i) (on x i))
 
 -- the setpoint of day i + 1 is below that of day i plus the rise between them
-abbrev pub brokenRise : Session → List ℤ → ℕ → Bool
-brokenRise s x i = lt_z (on x (i + 1)) (on x i +ℤ riseOn s i)
+abbrev pub broken_rise : Session → List ℤ → ℕ → Bool
+broken_rise s x i = lt_z (on x (i + 1)) (on x i +ℤ rise_on s i)
 
 -- the total is outside its range
-abbrev pub brokenTotal : Session → List ℤ → Bool
-brokenTotal s x = not (within (totalFloor s) (totalCeiling s) (total s.first x))
+abbrev pub broken_total : Session → List ℤ → Bool
+broken_total s x = not (within (total_floor s) (total_ceiling s) (total s.first x))
 
 -- ---- the answer by numbers
 
@@ -59,11 +59,11 @@ FindingOne = (a b : Inspection) → finding a ≡ finding b → a ≡ b
 -- the first broken rule: days in order, then rises in order, then the total
 unfoldable pub judged : Session → List ℤ → Finding
 judged s x =
-    let day : ℕ = firstWhere (brokenDay s x) s.days in
-    let rise : ℕ = firstWhere (brokenRise s x) (s.days - 1) in
+    let day : ℕ = first_where (broken_day s x) s.days in
+    let rise : ℕ = first_where (broken_rise s x) (s.days - 1) in
     cond (ltb day s.days) (broken 1 day)
     (cond (ltb rise (s.days - 1)) (broken 2 rise)
-    (cond (brokenTotal s x) (broken 3 0) kept))
+    (cond (broken_total s x) (broken 3 0) kept))
 
 -- 2: the list is not n long; 9: the session is spent
 unfoldable pub inspected : Session → List ℤ → Finding

@@ -1,10 +1,10 @@
 // Inspecting a schedule that somebody wrote, by a session's present ranges.
 ghost use Rattle.std.specs.Prelude.{◌≡◌, ◌+◌, ◌-◌, ◌≤◌, ◌<◌, ltb, length};
-ghost use Rattle.limits.specs.Limits.{mostDays, riseOffset, highestTotalCode, levelToSetpoint};
-ghost use Rattle.theory_lists.specs.First.{firstWhere};
+ghost use Rattle.limits.specs.Limits.{most_days, rise_offset, highest_total_code, level_to_setpoint};
+ghost use Rattle.theory_lists.specs.First.{first_where};
 ghost use Rattle.session.specs.Showing.{SessionInBounds};
 ghost use Rattle.schedule_inspection.specs.Inspecting.{finding, judged, inspected};
-ghost use Rattle.schedule_inspection.specs.Stages.{outside, dayOutside, fallen, totalOutside, judgedCodes};
+ghost use Rattle.schedule_inspection.specs.Stages.{outside, day_outside, fallen, total_outside, judged_codes};
 
 use base_numbers::wide;
 use limits::{
@@ -36,7 +36,7 @@ fn is_outside(x: usize, low: usize, high: usize) -> bool
 
 // Whether a setpoint, held plus 32,768, is outside a day's range.
 fn is_day_outside(setpoint: u16, floor: u16, ceiling: u16) -> bool
-    ensures { result ≡ outside (floor + levelToSetpoint) (ceiling + levelToSetpoint) setpoint }
+    ensures { result ≡ outside (floor + level_to_setpoint) (ceiling + level_to_setpoint) setpoint }
 {
     is_outside(
         wide(setpoint),
@@ -47,7 +47,7 @@ fn is_day_outside(setpoint: u16, floor: u16, ceiling: u16) -> bool
 
 // Whether a setpoint and the next one break the rise between them.
 fn is_fallen(setpoint: u16, next: u16, rise: u16) -> bool
-    ensures { result ≡ ltb (next + riseOffset) (setpoint + rise) }
+    ensures { result ≡ ltb (next + rise_offset) (setpoint + rise) }
 {
     wide(next) + RISE_OFFSET < wide(setpoint) + wide(rise)
 }
@@ -60,8 +60,8 @@ fn is_total_outside(
     least: usize,
     most: usize,
 ) -> bool
-    requires { (first ≤ n) × (n ≤ mostDays) × (least ≤ highestTotalCode) × (most ≤ highestTotalCode) }
-    ensures { result ≡ totalOutside setpoints.now n first least most }
+    requires { (first ≤ n) × (n ≤ most_days) × (least ≤ highest_total_code) × (most ≤ highest_total_code) }
+    ensures { result ≡ total_outside setpoints.now n first least most }
 {
     let sum = base_arrays::counted_sum(setpoints, n, first) + TOTAL_OFFSET;
     let offset = SETPOINT_OFFSET * (n - first);
@@ -75,8 +75,8 @@ fn first_outside(
     ceilings: &[u16; MOST_DAYS],
     n: usize,
 ) -> usize
-    requires { n ≤ mostDays }
-    ensures { result ≡ firstWhere (dayOutside setpoints.now floors.now ceilings.now) n }
+    requires { n ≤ most_days }
+    ensures { result ≡ first_where (day_outside setpoints.now floors.now ceilings.now) n }
 {
     let mut day = 0;
     while day < n {
@@ -90,8 +90,8 @@ fn first_outside(
 
 // The first of the n - 1 rises that is broken, or n - 1.
 fn first_fallen(setpoints: &[u16; MOST_DAYS], rises: &[u16; MOST_DAYS], n: usize) -> usize
-    requires { (0 < n) × (n ≤ mostDays) }
-    ensures { result ≡ firstWhere (fallen setpoints.now rises.now) (n - 1) }
+    requires { (0 < n) × (n ≤ most_days) }
+    ensures { result ≡ first_where (fallen setpoints.now rises.now) (n - 1) }
 {
     let last = n - 1;
     let mut k = 0;
@@ -116,8 +116,8 @@ pub fn judge_codes(
     least: usize,
     most: usize,
 ) -> Inspection
-    requires { (first < n) × (n ≤ mostDays) × (least ≤ highestTotalCode) × (most ≤ highestTotalCode) }
-    ensures { finding result ≡ judgedCodes setpoints.now floors.now ceilings.now rises.now n first least most }
+    requires { (first < n) × (n ≤ most_days) × (least ≤ highest_total_code) × (most ≤ highest_total_code) }
+    ensures { finding result ≡ judged_codes setpoints.now floors.now ceilings.now rises.now n first least most }
 {
     let day = first_outside(setpoints, floors, ceilings, n);
     if day < n {

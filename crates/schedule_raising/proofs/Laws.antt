@@ -7,37 +7,37 @@ use mathlib.Core.Bool.{cond}
 use lib.Dec.{ltb}
 use lib.ListN.{set}
 use Rattle.theory_lists.specs.Sum.{at}
-use Rattle.theory_lists.specs.Written.{written, written_below, written_same, written-own, lastWritten, last_none, last_more, last-before, last-front}
+use Rattle.theory_lists.specs.Written.{written, written_below, written_same, written_own, last_written, last_none, last_more, last-before, last-front}
 use Rattle.theory_method.specs.Filter.{box, InBounds, held}
 use Rattle.theory_method.specs.Stages.{by_order}
-use Rattle.schedule_raising.specs.Raising.{raisedDay, raisedFrom, raisedTo}
+use Rattle.schedule_raising.specs.Raising.{raised_day, raised_from, raised_to}
 use Rattle.schedule_raising.specs.declared.Raised.{Raised}
 
 -- ---- raise_day
 
 module _ (floor ceiling rise : ℕ) (next : Raised) where
-  pub day-is : {bound limit low level : ℕ} → bound ≡ next.level + 2000 - rise → limit ≡ min ceiling bound → low ≡ min (floor + next.rest) limit → level ≡ max floor low
-      → record { level = level; rest = floor + next.rest - level } ≡ raisedDay floor ceiling rise next
-  unfolding raisedDay
-  day-is b l m e = rw (e, m, l, b) refl
+  pub day_is : {bound limit low level : ℕ} → bound ≡ next.level + 2000 - rise → limit ≡ min ceiling bound → low ≡ min (floor + next.rest) limit → level ≡ max floor low
+      → record { level = level; rest = floor + next.rest - level } ≡ raised_day floor ceiling rise next
+  unfolding raised_day
+  day_is b l m e = rw (e, m, l, b) refl
 
-  day-level : (raisedDay floor ceiling rise next).level ≤ max floor ceiling
-  unfolding raisedDay
+  day-level : (raised_day floor ceiling rise next).level ≤ max floor ceiling
+  unfolding raised_day
   day-level = omega arith
 
-  day-rest : (raisedDay floor ceiling rise next).rest ≤ next.rest
-  unfolding raisedDay
+  day-rest : (raised_day floor ceiling rise next).rest ≤ next.rest
+  unfolding raised_day
   day-rest = omega arith
 
 -- ---- raise_to
 
-raised-start : (fs cs rs : List ℕ) (n rest : ℕ) → raisedFrom fs cs rs n rest 0 ≡ record { level = 7000; rest = rest }
-unfolding raisedFrom
-raised-start fs cs rs n rest = refl
+raised_start : (fs cs rs : List ℕ) (n rest : ℕ) → raised_from fs cs rs n rest 0 ≡ record { level = 7000; rest = rest }
+unfolding raised_from
+raised_start fs cs rs n rest = refl
 
 raised_at : (fs cs rs : List ℕ) (n rest k : ℕ) → k < n
-    → raisedFrom fs cs rs n rest (n - k) ≡ raisedDay (at fs k) (at cs k) (at rs k) (raisedFrom fs cs rs n rest (n - (k + 1)))
-unfolding raisedFrom
+    → raised_from fs cs rs n rest (n - k) ≡ raised_day (at fs k) (at cs k) (at rs k) (raised_from fs cs rs n rest (n - (k + 1)))
+unfolding raised_from
 raised_at fs cs rs n rest k h =
     let q : n - k ≡ suc (n - (k + 1)) = omega arith in
     let r : n - suc (n - (k + 1)) ≡ k = omega arith in
@@ -46,37 +46,37 @@ raised_at fs cs rs n rest k h =
 -- at the loop's head, with the days from k on raised
 pub record Raising (fs cs rs : List ℕ) (n rest : ℕ) (out : List ℕ) (day : Raised) (k : ℕ) : Type 0 where
   pub most : k ≤ n
-  pub made : out ≡ lastWritten (λ m. (raisedFrom fs cs rs n rest m).level) n (n - k) fs
-  pub same : day ≡ raisedFrom fs cs rs n rest (n - k)
+  pub made : out ≡ last_written (λ m. (raised_from fs cs rs n rest m).level) n (n - k) fs
+  pub same : day ≡ raised_from fs cs rs n rest (n - k)
   pub level : day.level ≤ 7000
   pub left : day.rest ≤ 2560000
 
 module _ {fs cs rs : List ℕ} {n rest : ℕ} where
-  pub raising-start : {r : ℕ} → r ≡ rest → r ≤ 2560000 → Raising fs cs rs n rest fs (record { level = 7000; rest = r }) n
-  raising-start e h =
+  pub raising_start : {r : ℕ} → r ≡ rest → r ≤ 2560000 → Raising fs cs rs n rest fs (record { level = 7000; rest = r }) n
+  raising_start e h =
       let z : n - n ≡ 0 = omega arith in
       record {
         most = omega arith;
         made = rw z (sym (last_none _ n fs));
-        same = rw (z, e) (sym (raised-start fs cs rs n rest));
+        same = rw (z, e) (sym (raised_start fs cs rs n rest));
         level = omega arith;
         left = h;
       }
 
   -- the days before the first counted one are as they were
-  pub raising-end : (first : ℕ) {out : List ℕ} {day : Raised} {k : ℕ} → Raising fs cs rs n rest out day k → first ≤ k → k ≤ first
-      → out ≡ written (λ j. cond (ltb j first) (at fs j) (raisedFrom fs cs rs n rest (n - j)).level) n fs
-  raising-end first {out} {k = k} p l h =
+  pub raising_end : (first : ℕ) {out : List ℕ} {day : Raised} {k : ℕ} → Raising fs cs rs n rest out day k → first ≤ k → k ≤ first
+      → out ≡ written (λ j. cond (ltb j first) (at fs j) (raised_from fs cs rs n rest (n - j)).level) n fs
+  raising_end first {out} {k = k} p l h =
       let e : k ≡ first = omega arith in
-      let done : out ≡ lastWritten level n (n - first) fs = rw e at p.made in
-      sym (written_same here (at out) first out kept ∙ written-own 0 first out) ∙ ap (written here first) done
+      let done : out ≡ last_written level n (n - first) fs = rw e at p.made in
+      sym (written_same here (at out) first out kept ∙ written_own 0 first out) ∙ ap (written here first) done
       ∙ last-front level here n first fs (omega (arith, p.most)) (λ j a b. by_order (λ x. level (n - j) ≡ x) j first (λ u. absurd (omega arith)) (λ _. refl))
     where
       level : ℕ → ℕ
-      level m = (raisedFrom fs cs rs n rest m).level
+      level m = (raised_from fs cs rs n rest m).level
 
       here : ℕ → ℕ
-      here j = cond (ltb j first) (at fs j) (raisedFrom fs cs rs n rest (n - j)).level
+      here j = cond (ltb j first) (at fs j) (raised_from fs cs rs n rest (n - j)).level
 
       kept : (j : ℕ) → j < first → here j ≡ at out j
       kept j u =
@@ -101,8 +101,8 @@ module _ {fs cs rs : List ℕ} {n first rest L U : ℕ} {out : List ℕ} {day : 
   floor : x ≡ at fs (k - 1)
   floor = d.floor ∙ ap (λ l. at l (k - 1)) d.head.made ∙ last-before _ 0 n (n - k) fs (k - 1) (omega (arith, d.more, d.head.most))
 
-  pub raising-asks : (x ≤ 5000) × (y ≤ 5000) × (z ≤ 4000) × (day.level ≤ 7000) × (day.rest ≤ 2560000)
-  raising-asks = (
+  pub raising_asks : (x ≤ 5000) × (y ≤ 5000) × (z ≤ 4000) × (day.level ≤ 7000) × (day.rest ≤ 2560000)
+  raising_asks = (
     omega (arith, floor, d.bounds.floor (k - 1) before_last),
     omega (arith, d.ceiling, d.bounds.ceiling (k - 1) before_last),
     omega (arith, d.rise, d.bounds.rise (k - 1) before_last),
@@ -110,41 +110,41 @@ module _ {fs cs rs : List ℕ} {n first rest L U : ℕ} {out : List ℕ} {day : 
     d.head.left,
   )
 
-  module _ {day' : Raised} (e : day' ≡ raisedDay x y z day) where
-    pub raising-level : day'.level ≤ 5000
-    raising-level = rw e (omega (arith, day-level x y z day, raising-asks.0, raising-asks.1))
+  module _ {day' : Raised} (e : day' ≡ raised_day x y z day) where
+    pub raising_level : day'.level ≤ 5000
+    raising_level = rw e (omega (arith, day-level x y z day, raising_asks.0, raising_asks.1))
 
-    pub raising-turn : {w : ℕ} → w ≡ day'.level → Raising fs cs rs n rest (set out (k - 1) w) day' (k - 1)
-    raising-turn {w} ew =
+    pub raising_turn : {w : ℕ} → w ≡ day'.level → Raising fs cs rs n rest (set out (k - 1) w) day' (k - 1)
+    raising_turn {w} ew =
         let p = d.head in
         let h = d.more in
         let q : n - k + 1 ≡ n - (k - 1) = omega (arith, p.most) in
         let r : n - (n - (k - 1)) ≡ k - 1 = omega (arith, p.most) in
         let t : k - 1 + 1 ≡ k = omega arith in
-        let more : raisedFrom fs cs rs n rest (n - (k - 1)) ≡ raisedDay (at fs (k - 1)) (at cs (k - 1)) (at rs (k - 1)) (raisedFrom fs cs rs n rest (n - k)) =
+        let more : raised_from fs cs rs n rest (n - (k - 1)) ≡ raised_day (at fs (k - 1)) (at cs (k - 1)) (at rs (k - 1)) (raised_from fs cs rs n rest (n - k)) =
         rw t at (raised_at fs cs rs n rest (k - 1) (omega (arith, p.most))) in
-        let here : day' ≡ raisedFrom fs cs rs n rest (n - (k - 1)) = e ∙ rw (floor, d.ceiling, d.rise, p.same) (sym more) in
-        let stored : w ≡ (raisedFrom fs cs rs n rest (n - k + 1)).level = rw q (ew ∙ ap (λ d. d.level) here) in
+        let here : day' ≡ raised_from fs cs rs n rest (n - (k - 1)) = e ∙ rw (floor, d.ceiling, d.rise, p.same) (sym more) in
+        let stored : w ≡ (raised_from fs cs rs n rest (n - k + 1)).level = rw q (ew ∙ ap (λ d. d.level) here) in
         record {
           most = omega (arith, p.most);
-          made = ap (λ l. set l (k - 1) w) p.made ∙ (rw (q, r) at (last_more (λ m. (raisedFrom fs cs rs n rest m).level) n (n - k) fs w stored));
+          made = ap (λ l. set l (k - 1) w) p.made ∙ (rw (q, r) at (last_more (λ m. (raised_from fs cs rs n rest m).level) n (n - k) fs w stored));
           same = here;
-          level = omega (arith, raising-level);
+          level = omega (arith, raising_level);
           left = rw e (omega (arith, day-rest x y z day, p.left));
         }
 
 -- ---- the raised levels, as they stand in an array
 
 module _ {fs cs rs : List ℕ} {n first L U : ℕ} (b : InBounds (box fs cs rs n first L U)) where
-  level-small : (rest k : ℕ) → k < n → (raisedFrom fs cs rs n rest (n - k)).level ≤ 5000
+  level-small : (rest k : ℕ) → k < n → (raised_from fs cs rs n rest (n - k)).level ≤ 5000
   level-small rest k h =
       rw (raised_at fs cs rs n rest k h)
-      (omega (arith, day-level (at fs k) (at cs k) (at rs k) (raisedFrom fs cs rs n rest (n - (k + 1))), b.floor k h, b.ceiling k h))
+      (omega (arith, day-level (at fs k) (at cs k) (at rs k) (raised_from fs cs rs n rest (n - (k + 1))), b.floor k h, b.ceiling k h))
 
-  module _ (t : ℕ) {out : List ℕ} (e : out ≡ written (raisedTo fs cs rs n first t) n fs) where
-    pub raised-stands : (k : ℕ) → k < n → at out k ≡ raisedTo fs cs rs n first t k
-    raised-stands k h = rw e (written_below (raisedTo fs cs rs n first t) 0 n fs k h (omega (arith, b.floors, b.most)))
+  module _ (t : ℕ) {out : List ℕ} (e : out ≡ written (raised_to fs cs rs n first t) n fs) where
+    pub raised_stands : (k : ℕ) → k < n → at out k ≡ raised_to fs cs rs n first t k
+    raised_stands k h = rw e (written_below (raised_to fs cs rs n first t) 0 n fs k h (omega (arith, b.floors, b.most)))
 
     pub raised-small : (k : ℕ) → k < n → at out k ≤ 5000
     raised-small k h =
-        omega (arith, raised-stands k h, by_order (λ x. x ≤ 5000) k first (λ _. b.floor k h) (λ _. level-small (t - held n first (at fs)) k h))
+        omega (arith, raised_stands k h, by_order (λ x. x ≤ 5000) k first (λ _. b.floor k h) (λ _. level-small (t - held n first (at fs)) k h))

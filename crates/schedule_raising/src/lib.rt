@@ -1,10 +1,10 @@
 // Floors raised to a total: the levels of a schedule, in a closed form.
 ghost use Rattle.std.specs.Prelude.{◌≡◌, ◌+◌, ◌-◌, ◌≤◌};
-ghost use Rattle.limits.specs.Limits.{mostDays, highestLevel, riseOffset, highestRiseCode, highestTotalCode, freeLevel};
+ghost use Rattle.limits.specs.Limits.{most_days, highest_level, rise_offset, highest_rise_code, highest_total_code, free_level};
 ghost use Rattle.theory_lists.specs.Sum.{at};
 ghost use Rattle.theory_lists.specs.Written.{written};
 ghost use Rattle.theory_method.specs.Filter.{box, InBounds, held};
-ghost use Rattle.schedule_raising.specs.Raising.{raisedDay, raisedTo};
+ghost use Rattle.schedule_raising.specs.Raising.{raised_day, raised_to};
 
 use base_numbers::{max, min, narrow, wide};
 use limits::{FREE_LEVEL, MOST_DAYS, RISE_OFFSET};
@@ -18,8 +18,8 @@ struct Raised {
 
 // The greatest level that the rise to the next day's level allows, or 0 where that is below the scale. A rise code is the rise plus 2,000.
 fn most_before(next: usize, rise: usize) -> usize
-    requires { (next ≤ freeLevel) × (rise ≤ highestRiseCode) }
-    ensures { result ≡ next + riseOffset - rise }
+    requires { (next ≤ free_level) × (rise ≤ highest_rise_code) }
+    ensures { result ≡ next + rise_offset - rise }
 {
     let up = next + RISE_OFFSET;
     if up < rise { 0 } else { up - rise }
@@ -27,8 +27,8 @@ fn most_before(next: usize, rise: usize) -> usize
 
 // The level of the day before `next`, raised as far as the sum, the ceiling and the rise allow.
 fn raise_day(floor: usize, ceiling: usize, rise: usize, next: Raised) -> Raised
-    requires { (floor ≤ highestLevel) × (ceiling ≤ highestLevel) × (rise ≤ highestRiseCode) × (next.level ≤ freeLevel) × (next.rest ≤ highestTotalCode) }
-    ensures { result ≡ raisedDay floor ceiling rise next }
+    requires { (floor ≤ highest_level) × (ceiling ≤ highest_level) × (rise ≤ highest_rise_code) × (next.level ≤ free_level) × (next.rest ≤ highest_total_code) }
+    ensures { result ≡ raised_day floor ceiling rise next }
 {
     let most = floor + next.rest;
     let limit = min(ceiling, most_before(next.level, rise));
@@ -40,7 +40,7 @@ fn raise_day(floor: usize, ceiling: usize, rise: usize, next: Raised) -> Raised
 }
 
 fn level_of(day: Raised) -> u16
-    requires { day.level ≤ highestLevel }
+    requires { day.level ≤ highest_level }
     ensures { result ≡ day.level }
 {
     narrow(day.level)
@@ -48,7 +48,7 @@ fn level_of(day: Raised) -> u16
 
 // What the floors' sum lacks of the total, or 0.
 fn lack(floors: &[u16; MOST_DAYS], n: usize, first: usize, total: usize) -> usize
-    requires { (first ≤ n) × (n ≤ mostDays) }
+    requires { (first ≤ n) × (n ≤ most_days) }
     ensures { (result ≡ total - held n first (at floors.now)) × (result ≤ total) }
 {
     let sum = base_arrays::held_total(floors, n, first);
@@ -65,7 +65,7 @@ pub fn raise_to(
     total: usize,
 )
     requires { InBounds (box floors.old ceilings.now rises.now n first 0 total) }
-    ensures { floors.new ≡ written (raisedTo floors.old ceilings.now rises.now n first total) n floors.old }
+    ensures { floors.new ≡ written (raised_to floors.old ceilings.now rises.now n first total) n floors.old }
 {
     let mut day = Raised {
         level: FREE_LEVEL,

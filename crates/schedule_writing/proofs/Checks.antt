@@ -11,32 +11,32 @@ use borrow.Author.Tests.{lt-ltb, le-ltb, le-leb, lt-leb}
 use Rattle.base_codes.specs.Code.{within, code, decoded, coded}
 use Rattle.base_codes.specs.declared.Coded.{Coded}
 use Rattle.base_codes.specs.declared.Coded.TheVariants.{Code, Outside}
-use Rattle.base_codes.proofs.Offset.{Less, less-le}
-use Rattle.base_codes.proofs.Laws.{code-decoded, decoded-less, code-most, within-yes, within-no, within-less}
-use Rattle.base_codes.proofs.Order.{≤ℤ-trans, within-test}
-use Rattle.schedule_writing.specs.Stages.{refusedAs, taken, checked, checkedCode}
+use Rattle.base_codes.proofs.Offset.{Less, less_le}
+use Rattle.base_codes.proofs.Laws.{code-decoded, decoded_less, code-most, within-yes, within_no, within_less}
+use Rattle.base_codes.proofs.Order.{≤ℤ_trans, within_test}
+use Rattle.schedule_writing.specs.Stages.{refused_as, taken, checked, checked_code}
 use Rattle.schedule_writing.specs.declared.Checked.{Checked}
 
 -- ---- by the value's code: the checks in their order
 
 module _ (value : Coded) (floor ceiling : ℕ) {spent : Bool} where
-  pub check-spent : spent ≡ true → refusedAs 9 ≡ checkedCode value floor ceiling spent
+  pub check-spent : spent ≡ true → refused_as 9 ≡ checked_code value floor ceiling spent
   check-spent h = rw h
 
   module _ (fresh : spent ≡ false) where
-    pub check-outside : value ≡ Outside → refusedAs 10 ≡ checkedCode value floor ceiling spent
+    pub check-outside : value ≡ Outside → refused_as 10 ≡ checked_code value floor ceiling spent
     check-outside e = rw (fresh, e)
 
-    pub check-refused : {c : ℕ} → value ≡ Code c → (leb floor c && leb c ceiling) ≡ false → refusedAs 10 ≡ checkedCode value floor ceiling spent
+    pub check-refused : {c : ℕ} → value ≡ Code c → (leb floor c && leb c ceiling) ≡ false → refused_as 10 ≡ checked_code value floor ceiling spent
     check-refused e h = rw (fresh, e, h)
 
-    pub check-taken : {c : ℕ} → value ≡ Code c → (leb floor c && leb c ceiling) ≡ true → taken c ≡ checkedCode value floor ceiling spent
+    pub check-taken : {c : ℕ} → value ≡ Code c → (leb floor c && leb c ceiling) ≡ true → taken c ≡ checked_code value floor ceiling spent
     check-taken e h = rw (fresh, e, h)
 
 -- ---- a value and its code
 
-not-less : (a b : ℕ) → not (ltb b a) ≡ leb a b
-not-less a b = go (dec_lt b a)
+not_less : (a b : ℕ) → not (ltb b a) ≡ leb a b
+not_less a b = go (dec_lt b a)
   where
     go : Dec (b < a) → not (ltb b a) ≡ leb a b
     go (yes h) = rw (lt-ltb b a h, lt-leb a b h)
@@ -45,31 +45,31 @@ not-less a b = go (dec_lt b a)
 -- a number k below 0 is the lowest of bounds that end at top
 module _ (low z : ℤ) (k top floor ceiling : ℕ) (p : Less low 0 k) where
   floor-above : low ≤ℤ decoded low floor
-  floor-above = less-le low (decoded low floor) 0 floor k p (decoded-less low floor k p) (omega arith)
+  floor-above = less_le low (decoded low floor) 0 floor k p (decoded_less low floor k p) (omega arith)
 
   -- a value outside its bounds is outside each range in them
   within_none : ceiling ≤ top → within low (decoded low top) z ≡ false → within (decoded low floor) (decoded low ceiling) z ≡ false
   within_none most e =
-      let u = less-le (decoded low ceiling) (decoded low top) ceiling top k (decoded-less low ceiling k p) (decoded-less low top k p) most in
-      (within-no (decoded low floor) (decoded low ceiling) z).1
-      (λ w. (within-no low (decoded low top) z).0 e (≤ℤ-trans low (decoded low floor) z floor-above w.0, ≤ℤ-trans z (decoded low ceiling) (decoded low top) w.1 u))
+      let u = less_le (decoded low ceiling) (decoded low top) ceiling top k (decoded_less low ceiling k p) (decoded_less low top k p) most in
+      (within_no (decoded low floor) (decoded low ceiling) z).1
+      (λ w. (within_no low (decoded low top) z).0 e (≤ℤ_trans low (decoded low floor) z floor-above w.0, ≤ℤ_trans z (decoded low ceiling) (decoded low top) w.1 u))
 
   -- a value in bounds is within a range where its code is
   within-some : within low (decoded low top) z ≡ true → within (decoded low floor) (decoded low ceiling) z ≡ (leb floor (code low z) && leb (code low z) ceiling)
   within-some e =
       cc (
-        within-test (decoded low floor) (decoded low ceiling) z floor ceiling (code low z) k (decoded-less low floor k p) (decoded-less low ceiling k p)
-            (within-less low (decoded low top) z k p e),
-        not-less floor (code low z),
-        not-less (code low z) ceiling,
+        within_test (decoded low floor) (decoded low ceiling) z floor ceiling (code low z) k (decoded_less low floor k p) (decoded_less low ceiling k p)
+            (within_less low (decoded low top) z k p e),
+        not_less floor (code low z),
+        not_less (code low z) ceiling,
       )
 
   -- so its code tells what it does itself
-  pub check-coded : (spent : Bool) → ceiling ≤ top → {v : Coded} → v ≡ coded low (decoded low top) z → checkedCode v floor ceiling spent ≡ checked low floor ceiling spent z
+  pub check-coded : (spent : Bool) → ceiling ≤ top → {v : Coded} → v ≡ coded low (decoded low top) z → checked_code v floor ceiling spent ≡ checked low floor ceiling spent z
   unfolding checked
   check-coded spent most e = rw e (go (within low (decoded low top) z) refl)
     where
-      go : (b : Bool) → within low (decoded low top) z ≡ b → checkedCode (coded low (decoded low top) z) floor ceiling spent ≡ checked low floor ceiling spent z
+      go : (b : Bool) → within low (decoded low top) z ≡ b → checked_code (coded low (decoded low top) z) floor ceiling spent ≡ checked low floor ceiling spent z
       go true h = rw (h, within-some h)
       go false h = rw (h, within_none most h)
 
@@ -79,7 +79,7 @@ module _ (low z : ℤ) (floor ceiling : ℕ) (spent : Bool) where
   unfolding checked
   checked-refusal = go spent (within (decoded low floor) (decoded low ceiling) z)
     where
-      go : (a b : Bool) → (cond a (refusedAs 9) (cond b (taken (code low z)) (refusedAs 10))).refusal ≡ cond a 9 (cond (not b) 10 0)
+      go : (a b : Bool) → (cond a (refused_as 9) (cond b (taken (code low z)) (refused_as 10))).refusal ≡ cond a 9 (cond (not b) 10 0)
       go true b = refl
       go false true = refl
       go false false = refl
@@ -89,8 +89,8 @@ module _ (low z : ℤ) (floor ceiling : ℕ) (spent : Bool) where
     unfolding checked
     taken-within = rw e (go spent (within (decoded low floor) (decoded low ceiling) z) (rw e at none))
       where
-        go : (a b : Bool) → (cond a (refusedAs 9) (cond b (taken (code low z)) (refusedAs 10))).refusal ≡ 0
-            → (b ≡ true) × ((cond a (refusedAs 9) (cond b (taken (code low z)) (refusedAs 10))).code ≡ code low z)
+        go : (a b : Bool) → (cond a (refused_as 9) (cond b (taken (code low z)) (refused_as 10))).refusal ≡ 0
+            → (b ≡ true) × ((cond a (refused_as 9) (cond b (taken (code low z)) (refused_as 10))).code ≡ code low z)
         go true b h = absurd (omega arith)
         go false true h = (refl, refl)
         go false false h = absurd (omega arith)
@@ -102,5 +102,5 @@ module _ (low z : ℤ) (floor ceiling : ℕ) (spent : Bool) where
     pub taken-most : (k : ℕ) → Less low 0 k → q.code ≤ ceiling
     taken-most k p =
         let w = (within-yes (decoded low floor) (decoded low ceiling) z).0 taken-within.0 in
-        let l = ≤ℤ-trans low (decoded low floor) z (floor-above low z k ceiling floor ceiling p) w.0 in
+        let l = ≤ℤ_trans low (decoded low floor) z (floor-above low z k ceiling floor ceiling p) w.0 in
         omega (arith, taken-code, code-most low (decoded low ceiling) z ((within-yes low (decoded low ceiling) z).1 (l, w.1)), code-decoded low ceiling)

@@ -8,12 +8,12 @@ use lib.ListN.{length, set}
 use lib.Seq.{get_or-set_other}
 use Rattle.theory_lists.specs.Sum.{at}
 use Rattle.theory_lists.specs.Written.{written, length-written, written_below, written-past, written_over}
-use Rattle.theory_method.specs.Filter.{box, InBounds, carried, firstCrossed, forwarded}
+use Rattle.theory_method.specs.Filter.{box, InBounds, carried, first_crossed, forwarded}
 use Rattle.theory_method.specs.Levels.{refit, refit-day}
 use Rattle.theory_method.specs.Stages.{crossing}
-use Rattle.schedule_raising.specs.Raising.{raisedTo}
-use Rattle.schedule_raising.proofs.Laws.{raised-stands, raised-small}
-use Rattle.schedule_writing.specs.Writing.{levelsThrough}
+use Rattle.schedule_raising.specs.Raising.{raised_to}
+use Rattle.schedule_raising.proofs.Laws.{raised_stands, raised-small}
+use Rattle.schedule_writing.specs.Writing.{levels_through}
 
 -- a schedule's levels x stand on the first n places of an array
 pub record Standing (x : ℕ → ℕ) (n : ℕ) (out : List ℕ) : Type 0 where
@@ -31,7 +31,7 @@ pub record LevelSet (fs cs rs : List ℕ) (n first lowest day level : ℕ) (gs d
 -- and the floors are carried, up to day r
 pub record LevelCarried (fs cs rs : List ℕ) (n first lowest day level : ℕ) (gs ds : List ℕ) (r : ℕ) (hs : List ℕ) : Type 0 where
   pub before : LevelSet fs cs rs n first lowest day level gs ds
-  pub stop : r ≡ firstCrossed (carried gs rs) (at ds) n
+  pub stop : r ≡ first_crossed (carried gs rs) (at ds) n
   pub forward : hs ≡ written (carried gs rs) r gs
 
 module _ {fs cs rs : List ℕ} {n first lowest day level : ℕ} {gs ds : List ℕ} where
@@ -73,26 +73,26 @@ module _ {fs cs rs : List ℕ} {n first lowest day level : ℕ} {gs ds : List �
         ∙ ap (λ l. at l k) d.before.floors ∙ get_or-set_other fs day k level 0 (omega (arith, d.before.known))
 
     -- so what is raised is the schedule
-    pub through-raised : {out : List ℕ} → out ≡ written (raisedTo hs ds rs n first lowest) n hs → out ≡ written (levelsThrough fs cs rs n first lowest day level) n fs
+    pub through-raised : {out : List ℕ} → out ≡ written (raised_to hs ds rs n first lowest) n hs → out ≡ written (levels_through fs cs rs n first lowest day level) n fs
     through-raised e =
-        let same : raisedTo hs ds rs n first lowest ≡ levelsThrough fs cs rs n first lowest day level = rw (d.forward, d.stop, d.before.floors, d.before.ceilings) in
+        let same : raised_to hs ds rs n first lowest ≡ levels_through fs cs rs n first lowest day level = rw (d.forward, d.stop, d.before.floors, d.before.ceilings) in
         let u = d.before.bounds in
-        e ∙ ap (λ f. written f n hs) same ∙ written_over (levelsThrough fs cs rs n first lowest day level) 0 n fs hs (omega (arith, u.floors, u.most)) (whole ∙ sym u.floors) carried-past
+        e ∙ ap (λ f. written f n hs) same ∙ written_over (levels_through fs cs rs n first lowest day level) 0 n fs hs (omega (arith, u.floors, u.most)) (whole ∙ sym u.floors) carried-past
 
 -- ---- the levels in an array
 
 module _ {fs cs rs : List ℕ} {n first t : ℕ} (b : InBounds (box fs cs rs n first 0 t)) {out : List ℕ} where
-  pub raised-standing : out ≡ written (raisedTo fs cs rs n first t) n fs → Standing (raisedTo fs cs rs n first t) n out
-  raised-standing e = record { here = raised-stands b t e; small = raised-small b t e }
+  pub raised_standing : out ≡ written (raised_to fs cs rs n first t) n fs → Standing (raised_to fs cs rs n first t) n out
+  raised_standing e = record { here = raised_stands b t e; small = raised-small b t e }
 
-  pub through-standing : {day level : ℕ} → day < n → level ≤ 5000 → out ≡ written (levelsThrough fs cs rs n first t day level) n fs → Standing (levelsThrough fs cs rs n first t day level) n out
-  through-standing {day} {level} known small e =
+  pub through_standing : {day level : ℕ} → day < n → level ≤ 5000 → out ≡ written (levels_through fs cs rs n first t day level) n fs → Standing (levels_through fs cs rs n first t day level) n out
+  through_standing {day} {level} known small e =
       let gs : List ℕ = set fs day level in
       let ds : List ℕ = set cs day level in
-      let r : ℕ = firstCrossed (carried gs rs) (at ds) n in
+      let r : ℕ = first_crossed (carried gs rs) (at ds) n in
       let d : LevelCarried fs cs rs n first t day level gs ds r (forwarded gs rs r) =
       record { before = record { bounds = b; known = known; small = small; floors = refl; ceilings = refl }; stop = refl; forward = refl } in
-      record { here = here; small = λ k h. omega (arith, here k h, raised-small (through-bounds d) t refl k h, raised-stands (through-bounds d) t refl k h) }
+      record { here = here; small = λ k h. omega (arith, here k h, raised-small (through-bounds d) t refl k h, raised_stands (through-bounds d) t refl k h) }
     where
-      here : (k : ℕ) → k < n → at out k ≡ levelsThrough fs cs rs n first t day level k
-      here k h = ap (λ l. at l k) e ∙ written_below (levelsThrough fs cs rs n first t day level) 0 n fs k h (omega (arith, b.floors, b.most))
+      here : (k : ℕ) → k < n → at out k ≡ levels_through fs cs rs n first t day level k
+      here k h = ap (λ l. at l k) e ∙ written_below (levels_through fs cs rs n first t day level) 0 n fs k h (omega (arith, b.floors, b.most))

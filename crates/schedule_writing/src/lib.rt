@@ -1,11 +1,11 @@
 // Writing a schedule of a session's present ranges, through a day's value or with a total.
 ghost use Rattle.std.specs.Prelude.{◌≡◌, ◌≤◌, ◌<◌, length, set};
-ghost use Rattle.limits.specs.Limits.{mostDays, lowestPoint, lowestTotal, highestLevel, highestTotalCode};
+ghost use Rattle.limits.specs.Limits.{most_days, lowest_point, lowest_total, highest_level, highest_total_code};
 ghost use Rattle.theory_lists.specs.Written.{written};
 ghost use Rattle.theory_method.specs.Filter.{box, InBounds};
 ghost use Rattle.session.specs.Showing.{SessionInBounds};
-ghost use Rattle.schedule_writing.specs.Writing.{dayWriteRefusal, totalWriteRefusal, levelsThrough, dayWritten, totalWritten};
-ghost use Rattle.schedule_writing.specs.Stages.{checkedCode, checked};
+ghost use Rattle.schedule_writing.specs.Writing.{day_write_refusal, total_write_refusal, levels_through, day_written, total_written};
+ghost use Rattle.schedule_writing.specs.Stages.{checked_code, checked};
 
 use base_codes::Coded;
 use base_numbers::{narrow, wide};
@@ -21,7 +21,7 @@ pub struct Checked {
 
 // A value outside its bounds is within no range.
 fn check(value: Coded, floor: usize, ceiling: usize, spent: bool) -> Checked
-    ensures { result ≡ checkedCode value floor ceiling spent }
+    ensures { result ≡ checked_code value floor ceiling spent }
 {
     if spent {
         return Checked {
@@ -46,8 +46,8 @@ fn check(value: Coded, floor: usize, ceiling: usize, spent: bool) -> Checked
 
 // Checks a day's value against its range.
 pub fn check_day(value: i32, floor: u16, ceiling: u16, spent: bool) -> Checked
-    requires { ceiling ≤ highestLevel }
-    ensures { result ≡ checked lowestPoint floor ceiling spent value }
+    requires { ceiling ≤ highest_level }
+    ensures { result ≡ checked lowest_point floor ceiling spent value }
 {
     check(
         base_codes::code(value, Session::LOWEST_POINT, Session::HIGHEST_POINT),
@@ -59,8 +59,8 @@ pub fn check_day(value: i32, floor: u16, ceiling: u16, spent: bool) -> Checked
 
 // Checks the total's value against its range, as it is held.
 pub fn check_total(value: i32, lowest: usize, highest: usize, spent: bool) -> Checked
-    requires { highest ≤ highestTotalCode }
-    ensures { result ≡ checked lowestTotal lowest highest spent value }
+    requires { highest ≤ highest_total_code }
+    ensures { result ≡ checked lowest_total lowest highest spent value }
 {
     check(
         base_codes::code(value, Session::LOWEST_TOTAL, Session::HIGHEST_TOTAL),
@@ -71,7 +71,7 @@ pub fn check_total(value: i32, lowest: usize, highest: usize, spent: bool) -> Ch
 }
 
 fn set_level(levels: &mut [u16; MOST_DAYS], day: usize, level: usize)
-    requires { (day < mostDays) × (level ≤ highestLevel) }
+    requires { (day < most_days) × (level ≤ highest_level) }
     ensures { levels.new ≡ set levels.old day level }
 {
     levels[day] = narrow(level);
@@ -88,8 +88,8 @@ pub fn write_through(
     day: usize,
     level: usize,
 )
-    requires { InBounds (box floors.old ceilings.old rises.now n first 0 lowest) × (day < n) × (level ≤ highestLevel) }
-    ensures floors_after { floors.new ≡ written (levelsThrough floors.old ceilings.old rises.now n first lowest day level) n floors.old }
+    requires { InBounds (box floors.old ceilings.old rises.now n first 0 lowest) × (day < n) × (level ≤ highest_level) }
+    ensures floors_after { floors.new ≡ written (levels_through floors.old ceilings.old rises.now n first lowest day level) n floors.old }
     ensures ceilings_after { ceilings.new ≡ set ceilings.old day level }
 {
     set_level(floors, day, level);
@@ -101,8 +101,8 @@ pub fn write_through(
 // Writes a schedule with this value on this day. Document 01's checks 2, 7, 9, 10.
 pub fn write_day(session: Session, day: usize, value: i32, list: &mut [i16]) -> u8
     requires { SessionInBounds session }
-    ensures value { result ≡ dayWriteRefusal session day value (length list.old) }
-    ensures list_after { list.new ≡ dayWritten session day value list.old }
+    ensures value { result ≡ day_write_refusal session day value (length list.old) }
+    ensures list_after { list.new ≡ day_written session day value list.old }
 {
     let n = session.days;
     if list.len() != n {
@@ -136,8 +136,8 @@ pub fn write_day(session: Session, day: usize, value: i32, list: &mut [i16]) -> 
 // Writes a schedule with this sum. Document 01's checks 2, 9, 10.
 pub fn write_total(session: Session, value: i32, list: &mut [i16]) -> u8
     requires { SessionInBounds session }
-    ensures value { result ≡ totalWriteRefusal session value (length list.old) }
-    ensures list_after { list.new ≡ totalWritten session value list.old }
+    ensures value { result ≡ total_write_refusal session value (length list.old) }
+    ensures list_after { list.new ≡ total_written session value list.old }
 {
     let n = session.days;
     if list.len() != n {

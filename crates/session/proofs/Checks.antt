@@ -10,23 +10,23 @@ use lib.Dec.{eqb, ltb}
 use lib.ListN.{length}
 use lib.Signed.{lt_z}
 use borrow.Author.Tests.{lt-ltb, le-ltb, eq-eqb, ne_eqb, not-false}
-use Rattle.limits.specs.Limits.{lowestPoint, highestPoint, lowestRise, highestRise, lowestTotal}
+use Rattle.limits.specs.Limits.{lowest_point, highest_point, lowest_rise, highest_rise, lowest_total}
 use Rattle.theory_lists.specs.Sum.{at}
 use Rattle.theory_lists.specs.Lent.{list_left, list-filled}
 use Rattle.theory_lists.specs.Written.{written}
-use Rattle.base_codes.specs.Code.{within, code, on, every, codeOrZero}
-use Rattle.base_codes.proofs.Every.{not-both, codes-inside}
-use Rattle.base_codes.proofs.Order.{less-test}
+use Rattle.base_codes.specs.Code.{within, code, on, every, code_or_zero}
+use Rattle.base_codes.proofs.Every.{not_both, codes-inside}
+use Rattle.base_codes.proofs.Order.{less_test}
 use Rattle.base_codes.specs.declared.CodedNumbers.{CodedNumbers}
-use Rattle.theory_method.specs.Filter.{Box, Tight, InBounds, allCounted, firstCrossed, zeros}
+use Rattle.theory_method.specs.Filter.{Box, Tight, InBounds, all_counted, first_crossed, zeros}
 use Rattle.theory_method.specs.Stages.{Crossing, crossing}
 use Rattle.tighten_filtering.specs.Boxed.{boxed}
 use Rattle.session.specs.Profile.{Profile}
-use Rattle.session.specs.Opening.{boxIn, narrowed, numbersOf, openedWith, crossed, earlyOpening, opened, refusedWith, codes, badCount, badLength, badPoint, badRise, badTotal, badRange, badFirst}
-use Rattle.session.specs.Stages.{lengthsOf, codedNumbers, notCoded, codedWith, codedProfile, coded_list, codesCrossed, rangeRefusal, noRanges, rangesWith, rangesOpened, sessionWith, openedCodes}
+use Rattle.session.specs.Opening.{box_in, narrowed, numbers_of, opened_with, crossed, early_opening, opened, refused_with, codes, bad_count, bad_length, bad_point, bad_rise, bad_total, bad_range, bad_first}
+use Rattle.session.specs.Stages.{lengths_of, coded_numbers, not_coded, coded_with, coded_profile, coded_list, codes_crossed, range_refusal, no_ranges, ranges_with, ranges_opened, session_with, opened_codes}
 use Rattle.session.specs.declared.CodedProfile.{CodedProfile}
 use Rattle.session.proofs.Stages.{judged}
-use Rattle.session.proofs.Entered.{Entered, Sized, sized, Unrefused, countingAll, passed-all, codes-bounds, or-true, floor-less, ceiling-less, lowest-less, highest-less}
+use Rattle.session.proofs.Entered.{Entered, Sized, sized, Unrefused, counting_all, passed_all, codes-bounds, or-true, floor_less, ceiling_less, lowest_less, highest_less}
 
 -- ---- a floor above its ceiling
 
@@ -36,41 +36,41 @@ crossed-yes (f ∷ fs) [] k h l e = absurd (omega arith)
 crossed-yes (f ∷ fs) (c ∷ cs) zero h l e = ap (λ b. b || crossed fs cs) e
 crossed-yes (f ∷ fs) (c ∷ cs) (suc k) h l e = or-true (lt_z c f) (crossed fs cs) (crossed-yes fs cs k (omega arith) (omega arith) e)
 
-crossed-no : (fs cs : List ℤ) → ((k : ℕ) → k < length fs → lt_z (on cs k) (on fs k) ≡ false) → crossed fs cs ≡ false
-crossed-no [] cs h = refl
-crossed-no (f ∷ fs) [] h = refl
-crossed-no (f ∷ fs) (c ∷ cs) h = ap (λ b. b || crossed fs cs) (h 0 (omega arith)) ∙ crossed-no fs cs (λ k l. h (suc k) (omega arith))
+crossed_no : (fs cs : List ℤ) → ((k : ℕ) → k < length fs → lt_z (on cs k) (on fs k) ≡ false) → crossed fs cs ≡ false
+crossed_no [] cs h = refl
+crossed_no (f ∷ fs) [] h = refl
+crossed_no (f ∷ fs) (c ∷ cs) h = ap (λ b. b || crossed fs cs) (h 0 (omega arith)) ∙ crossed_no fs cs (λ k l. h (suc k) (omega arith))
 
 module _ (p : Profile) (d : Entered p) where
   abbrev fs : List ℕ
-  fs = codes lowestPoint p.floors p.days
+  fs = codes lowest_point p.floors p.days
 
   abbrev cs : List ℕ
-  cs = codes lowestPoint p.ceilings p.days
+  cs = codes lowest_point p.ceilings p.days
 
-  day-test : (k : ℕ) → k < p.days → lt_z (on p.ceilings k) (on p.floors k) ≡ ltb (at cs k) (at fs k)
-  day-test k h = less-test (on p.ceilings k) (on p.floors k) (at cs k) (at fs k) 1000 (ceiling-less p d k h) (floor-less p d k h)
+  day_test : (k : ℕ) → k < p.days → lt_z (on p.ceilings k) (on p.floors k) ≡ ltb (at cs k) (at fs k)
+  day_test k h = less_test (on p.ceilings k) (on p.floors k) (at cs k) (at fs k) 1000 (ceiling_less p d k h) (floor_less p d k h)
 
-  crossed-test : crossed p.floors p.ceilings ≡ ltb (firstCrossed (at fs) (at cs) p.days) p.days
-  crossed-test = go (dec_lt (firstCrossed (at fs) (at cs) p.days) p.days) (crossing (at fs) (at cs) p.days)
+  crossed_test : crossed p.floors p.ceilings ≡ ltb (first_crossed (at fs) (at cs) p.days) p.days
+  crossed_test = go (dec_lt (first_crossed (at fs) (at cs) p.days) p.days) (crossing (at fs) (at cs) p.days)
     where
       go : {r : ℕ} → Dec (r < p.days) → Crossing (at fs) (at cs) p.days r → crossed p.floors p.ceilings ≡ ltb r p.days
       go {r} (yes h) x =
-          crossed-yes p.floors p.ceilings r (omega (arith, d.sized.floors)) (omega (arith, d.sized.ceilings)) (day-test r h ∙ lt-ltb (at cs r) (at fs r) (x.here h))
+          crossed-yes p.floors p.ceilings r (omega (arith, d.sized.floors)) (omega (arith, d.sized.ceilings)) (day_test r h ∙ lt-ltb (at cs r) (at fs r) (x.here h))
           ∙ sym (lt-ltb r p.days h)
       go {r} (no h) x =
-          crossed-no p.floors p.ceilings (λ k l. day-test k (omega (arith, d.sized.floors)) ∙ le-ltb (at cs k) (at fs k) (x.before k (omega (arith, d.sized.floors))))
+          crossed_no p.floors p.ceilings (λ k l. day_test k (omega (arith, d.sized.floors)) ∙ le-ltb (at cs k) (at fs k) (x.before k (omega (arith, d.sized.floors))))
           ∙ sym (le-ltb r p.days (omega arith))
 
-  range-test : badRange p ≡ codesCrossed fs cs p.days (code lowestTotal p.lowest) (code lowestTotal p.highest)
-  range-test = cc (crossed-test, less-test p.highest p.lowest (code lowestTotal p.highest) (code lowestTotal p.lowest) 512000 (highest-less p d) (lowest-less p d))
+  range_test : bad_range p ≡ codes_crossed fs cs p.days (code lowest_total p.lowest) (code lowest_total p.highest)
+  range_test = cc (crossed_test, less_test p.highest p.lowest (code lowest_total p.highest) (code lowest_total p.lowest) 512000 (highest_less p d) (lowest_less p d))
 
 -- ---- 8, or a session
 
-tight-session : (b : Box) (t : Tight) → sessionWith b (rangesWith t) ≡ openedWith b t
-tight-session b t = go t.found refl
+tight_session : (b : Box) (t : Tight) → session_with b (ranges_with t) ≡ opened_with b t
+tight_session b t = go t.found refl
   where
-    go : (found : Bool) → t.found ≡ found → sessionWith b (rangesWith t) ≡ openedWith b t
+    go : (found : Bool) → t.found ≡ found → session_with b (ranges_with t) ≡ opened_with b t
     go true e = rw e refl
     go false e = rw e refl
 
@@ -78,7 +78,7 @@ tight-session b t = go t.found refl
 
 -- each by what its test found
 abbrev ladder : CodedNumbers → Bool → Bool → Bool → Bool → Bool → CodedProfile
-ladder m a b c d t = cond a (notCoded 1) (cond b (notCoded 2) (cond c (notCoded 3) (cond d (notCoded 4) (cond t (notCoded 5) (record { refusal = 0; numbers = m })))))
+ladder m a b c d t = cond a (not_coded 1) (cond b (not_coded 2) (cond c (not_coded 3) (cond d (not_coded 4) (cond t (not_coded 5) (record { refusal = 0; numbers = m })))))
 
 all-false : (m : CodedNumbers) (a b c d t : Bool) → (ladder m a b c d t).refusal ≡ 0
     → (a ≡ false) × (b ≡ false) × (c ≡ false) × (d ≡ false) × (t ≡ false) × ((ladder m a b c d t).numbers ≡ m)
@@ -89,141 +89,141 @@ all-false m false false false true t e = absurd (omega arith)
 all-false m false false false false true e = absurd (omega arith)
 all-false m false false false false false e = (refl, refl, refl, refl, refl, refl)
 
-same-ladder : (m : CodedNumbers) (a b c d t : Bool) (x : ℕ)
+same_ladder : (m : CodedNumbers) (a b c d t : Bool) (x : ℕ)
     → cond a 1 (cond b 2 (cond c 3 (cond d 4 (cond t 5 x)))) ≡ cond (eqb (ladder m a b c d t).refusal 0) x (ladder m a b c d t).refusal
-same-ladder m true b c d t x = refl
-same-ladder m false true c d t x = refl
-same-ladder m false false true d t x = refl
-same-ladder m false false false true t x = refl
-same-ladder m false false false false true x = refl
-same-ladder m false false false false false x = refl
+same_ladder m true b c d t x = refl
+same_ladder m false true c d t x = refl
+same_ladder m false false true d t x = refl
+same_ladder m false false false true t x = refl
+same_ladder m false false false false true x = refl
+same_ladder m false false false false false x = refl
 
 module _ (p : Profile) where
   -- 1 and 2 refuse, and leave the arrays
-  pub list-kept : (low high : ℤ) (zs : List ℤ) (l : List ℕ) {r : ℕ} → r ≡ lengthsOf p → (r ≡ 0 → ⊥) → l ≡ coded_list (lengthsOf p) low high zs l
-  list-kept low high zs l e apart = rw (← e) (sym (list_left _ (λ k. codeOrZero low high (on zs k)) (length zs) l apart))
+  pub list-kept : (low high : ℤ) (zs : List ℤ) (l : List ℕ) {r : ℕ} → r ≡ lengths_of p → (r ≡ 0 → ⊥) → l ≡ coded_list (lengths_of p) low high zs l
+  list-kept low high zs l e apart = rw (← e) (sym (list_left _ (λ k. code_or_zero low high (on zs k)) (length zs) l apart))
 
-  pub lengths-refused : (r : ℕ) → r ≡ lengthsOf p → (r ≡ 0 → ⊥) → notCoded r ≡ codedProfile p
-  unfolding codedProfile
-  lengths-refused r e apart = go (badCount p) (badLength p) e
+  pub lengths_refused : (r : ℕ) → r ≡ lengths_of p → (r ≡ 0 → ⊥) → not_coded r ≡ coded_profile p
+  unfolding coded_profile
+  lengths_refused r e apart = go (bad_count p) (bad_length p) e
     where
-      go : (a b : Bool) → r ≡ cond a 1 (cond b 2 0) → notCoded r ≡ cond a (notCoded 1) (cond b (notCoded 2) (codedWith (numbersOf p) (badPoint p) (badRise p)))
+      go : (a b : Bool) → r ≡ cond a 1 (cond b 2 0) → not_coded r ≡ cond a (not_coded 1) (cond b (not_coded 2) (coded_with (numbers_of p) (bad_point p) (bad_rise p)))
       go true b h = rw h refl
       go false true h = rw h refl
       go false false h = absurd (apart h)
 
   -- 1 and 2 are passed
-  whole : lengthsOf p ≡ 0 → (badCount p ≡ false) × (badLength p ≡ false)
-  whole e = go (badCount p) (badLength p) e
+  whole : lengths_of p ≡ 0 → (bad_count p ≡ false) × (bad_length p ≡ false)
+  whole e = go (bad_count p) (bad_length p) e
     where
       go : (a b : Bool) → cond {A = ℕ} a 1 (cond b 2 0) ≡ 0 → (a ≡ false) × (b ≡ false)
       go true b h = absurd (omega arith)
       go false true h = absurd (omega arith)
       go false false h = (refl, refl)
 
-  pub sizes : lengthsOf p ≡ 0 → Sized p
+  pub sizes : lengths_of p ≡ 0 → Sized p
   sizes e = sized p (whole e).0 (whole e).1
 
-  module _ (e : lengthsOf p ≡ 0) where
-    pub list-coded : (low high : ℤ) (zs : List ℤ) (l : List ℕ) {out : List ℕ} → out ≡ written (λ k. codeOrZero low high (on zs k)) (length zs) l
-        → out ≡ coded_list (lengthsOf p) low high zs l
-    list-coded low high zs l h = h ∙ sym (list-filled (lengthsOf p) (λ k. codeOrZero low high (on zs k)) (length zs) l e)
+  module _ (e : lengths_of p ≡ 0) where
+    pub list-coded : (low high : ℤ) (zs : List ℤ) (l : List ℕ) {out : List ℕ} → out ≡ written (λ k. code_or_zero low high (on zs k)) (length zs) l
+        → out ≡ coded_list (lengths_of p) low high zs l
+    list-coded low high zs l h = h ∙ sym (list-filled (lengths_of p) (λ k. code_or_zero low high (on zs k)) (length zs) l e)
 
-    numbers-coded : codedWith (numbersOf p) (badPoint p) (badRise p) ≡ codedProfile p
-    unfolding codedProfile
+    numbers-coded : coded_with (numbers_of p) (bad_point p) (bad_rise p) ≡ coded_profile p
+    unfolding coded_profile
     numbers-coded = rw ((whole e).0, (whole e).1)
 
     -- whether a floor or a ceiling is outside its bounds is known, and whether a rise is
-    pub lists-told : {point rise : Bool} {r : CodedProfile} → r ≡ codedWith (numbersOf p) point rise
-        → point ≡ (not (every (within lowestPoint highestPoint) p.floors) || not (every (within lowestPoint highestPoint) p.ceilings)) → rise ≡ badRise p → r ≡ codedProfile p
-    lists-told {point} h e t =
-        let told : point ≡ badPoint p = e ∙ sym (not-both (every (within lowestPoint highestPoint) p.floors) (every (within lowestPoint highestPoint) p.ceilings)) in
+    pub lists_told : {point rise : Bool} {r : CodedProfile} → r ≡ coded_with (numbers_of p) point rise
+        → point ≡ (not (every (within lowest_point highest_point) p.floors) || not (every (within lowest_point highest_point) p.ceilings)) → rise ≡ bad_rise p → r ≡ coded_profile p
+    lists_told {point} h e t =
+        let told : point ≡ bad_point p = e ∙ sym (not_both (every (within lowest_point highest_point) p.floors) (every (within lowest_point highest_point) p.ceilings)) in
         h ∙ (rw (told, t) numbers-coded)
 
   -- the checks before 8, by what 1 to 5 say
-  pub early : earlyOpening p ≡ cond (eqb (codedProfile p).refusal 0) (cond (badRange p) 6 (cond (badFirst p) 13 0)) (codedProfile p).refusal
-  unfolding earlyOpening codedProfile codedWith
-  early = same-ladder (codedNumbers (numbersOf p)) (badCount p) (badLength p) (badPoint p) (badRise p) (badTotal p) (cond (badRange p) 6 (cond (badFirst p) 13 0))
+  pub early : early_opening p ≡ cond (eqb (coded_profile p).refusal 0) (cond (bad_range p) 6 (cond (bad_first p) 13 0)) (coded_profile p).refusal
+  unfolding early_opening coded_profile coded_with
+  early = same_ladder (coded_numbers (numbers_of p)) (bad_count p) (bad_length p) (bad_point p) (bad_rise p) (bad_total p) (cond (bad_range p) 6 (cond (bad_first p) 13 0))
 
   -- 1 to 5 are passed, and the numbers are coded
-  pub all-passed : (codedProfile p).refusal ≡ 0 → Unrefused p × ((codedProfile p).numbers ≡ codedNumbers (numbersOf p))
-  unfolding codedProfile codedWith
-  all-passed e =
-      let f = all-false (codedNumbers (numbersOf p)) (badCount p) (badLength p) (badPoint p) (badRise p) (badTotal p) e in
+  pub all_passed : (coded_profile p).refusal ≡ 0 → Unrefused p × ((coded_profile p).numbers ≡ coded_numbers (numbers_of p))
+  unfolding coded_profile coded_with
+  all_passed e =
+      let f = all-false (coded_numbers (numbers_of p)) (bad_count p) (bad_length p) (bad_point p) (bad_rise p) (bad_total p) e in
       (record { count = f.0; lengths = f.1; points = f.2; rises = f.3; totals = f.4 }, f.5)
 
   module _ (u : Unrefused p) where
-    codes-test : badRange p ≡ codesCrossed (codes lowestPoint p.floors p.days) (codes lowestPoint p.ceilings p.days) p.days (code lowestTotal p.lowest) (code lowestTotal p.highest)
-    codes-test = range-test (countingAll p) (passed-all p u)
+    codes_test : bad_range p ≡ codes_crossed (codes lowest_point p.floors p.days) (codes lowest_point p.ceilings p.days) p.days (code lowest_total p.lowest) (code lowest_total p.highest)
+    codes_test = range_test (counting_all p) (passed_all p u)
 
-    lengths-right : lengthsOf p ≡ 0
-    lengths-right = rw (u.count, u.lengths)
+    lengths_right : lengths_of p ≡ 0
+    lengths_right = rw (u.count, u.lengths)
 
     -- the codes of a list are stored
-    list-stored : (low high : ℤ) (zs : List ℤ) (n : ℕ) → length zs ≡ n → every (within low high) zs ≡ true → coded_list (lengthsOf p) low high zs zeros ≡ codes low zs n
-    list-stored low high zs n e h =
-        list-filled (lengthsOf p) (λ k. codeOrZero low high (on zs k)) (length zs) zeros lengths-right ∙ codes-inside low high zs zeros h ∙ ap (codes low zs) e
+    list_stored : (low high : ℤ) (zs : List ℤ) (n : ℕ) → length zs ≡ n → every (within low high) zs ≡ true → coded_list (lengths_of p) low high zs zeros ≡ codes low zs n
+    list_stored low high zs n e h =
+        list-filled (lengths_of p) (λ k. code_or_zero low high (on zs k)) (length zs) zeros lengths_right ∙ codes-inside low high zs zeros h ∙ ap (codes low zs) e
 
-    codes-opened : openedCodes (boxIn p) ≡ opened p
-    unfolding openedCodes rangesOpened opened earlyOpening
+    codes-opened : opened_codes (box_in p) ≡ opened p
+    unfolding opened_codes ranges_opened opened early_opening
     codes-opened =
-        rw (u.count, u.lengths, u.points, u.rises, u.totals, sym codes-test)
-        (go (badRange p) (badFirst p))
+        rw (u.count, u.lengths, u.points, u.rises, u.totals, sym codes_test)
+        (go (bad_range p) (bad_first p))
       where
         go : (x y : Bool)
-            → sessionWith (boxIn p) (cond x (noRanges 6 (boxIn p).floors (boxIn p).ceilings) (cond y (noRanges 13 (boxIn p).floors (boxIn p).ceilings) (rangesWith (narrowed p))))
-            ≡ cond (eqb (cond x 6 (cond y 13 0)) 0) (openedWith (boxIn p) (narrowed p)) (refusedWith (cond x 6 (cond y 13 0)))
+            → session_with (box_in p) (cond x (no_ranges 6 (box_in p).floors (box_in p).ceilings) (cond y (no_ranges 13 (box_in p).floors (box_in p).ceilings) (ranges_with (narrowed p))))
+            ≡ cond (eqb (cond x 6 (cond y 13 0)) 0) (opened_with (box_in p) (narrowed p)) (refused_with (cond x 6 (cond y 13 0)))
         go true y = refl
         go false true = refl
-        go false false = tight-session (boxIn p) (narrowed p)
+        go false false = tight_session (box_in p) (narrowed p)
 
 -- ---- a profile by what coding gave, and what its arrays hold
 
 pub record CodedArrays (p : Profile) (fs cs rs : List ℕ) (r : CodedProfile) : Type 0 where
-  pub answer : r ≡ codedProfile p
-  pub floors : fs ≡ coded_list (lengthsOf p) lowestPoint highestPoint p.floors zeros
-  pub ceilings : cs ≡ coded_list (lengthsOf p) lowestPoint highestPoint p.ceilings zeros
-  pub rises : rs ≡ coded_list (lengthsOf p) lowestRise highestRise p.rises zeros
+  pub answer : r ≡ coded_profile p
+  pub floors : fs ≡ coded_list (lengths_of p) lowest_point highest_point p.floors zeros
+  pub ceilings : cs ≡ coded_list (lengths_of p) lowest_point highest_point p.ceilings zeros
+  pub rises : rs ≡ coded_list (lengths_of p) lowest_rise highest_rise p.rises zeros
 
 module _ {p : Profile} {fs cs rs : List ℕ} {r : CodedProfile} (d : CodedArrays p fs cs rs r) where
   module _ (h : (r.refusal ≡ 0 → ⊥)) where
-    pub early-refused : r.refusal ≡ earlyOpening p
-    early-refused = rw (early p, ← d.answer, ne_eqb r.refusal 0 h)
+    pub early_refused : r.refusal ≡ early_opening p
+    early_refused = rw (early p, ← d.answer, ne_eqb r.refusal 0 h)
 
-    pub all-refused : refusedWith r.refusal ≡ opened p
+    pub all-refused : refused_with r.refusal ≡ opened p
     unfolding opened
-    all-refused = rw (← early-refused, ne_eqb r.refusal 0 h)
+    all-refused = rw (← early_refused, ne_eqb r.refusal 0 h)
 
   module _ (h : r.refusal ≡ 0) where
-    passes : Unrefused p × ((codedProfile p).numbers ≡ codedNumbers (numbersOf p))
-    passes = all-passed p (rw d.answer at h)
+    passes : Unrefused p × ((coded_profile p).numbers ≡ coded_numbers (numbers_of p))
+    passes = all_passed p (rw d.answer at h)
 
-    same : boxed fs cs rs r.numbers ≡ boxIn p
+    same : boxed fs cs rs r.numbers ≡ box_in p
     same =
         let u = passes.0 in
-        let w = sizes p (lengths-right p u) in
-        let points = (and-eq-true_iff (every (within lowestPoint highestPoint) p.floors) (every (within lowestPoint highestPoint) p.ceilings)).0 (not-false _ u.points) in
-        let f = d.floors ∙ list-stored p u lowestPoint highestPoint p.floors p.days w.floors points.0 in
-        let c = d.ceilings ∙ list-stored p u lowestPoint highestPoint p.ceilings p.days w.ceilings points.1 in
-        let s = d.rises ∙ list-stored p u lowestRise highestRise p.rises (p.days - 1) w.rises (not-false _ u.rises) in
+        let w = sizes p (lengths_right p u) in
+        let points = (and-eq-true_iff (every (within lowest_point highest_point) p.floors) (every (within lowest_point highest_point) p.ceilings)).0 (not-false _ u.points) in
+        let f = d.floors ∙ list_stored p u lowest_point highest_point p.floors p.days w.floors points.0 in
+        let c = d.ceilings ∙ list_stored p u lowest_point highest_point p.ceilings p.days w.ceilings points.1 in
+        let s = d.rises ∙ list_stored p u lowest_rise highest_rise p.rises (p.days - 1) w.rises (not-false _ u.rises) in
         let n = ap (λ x. x.numbers) d.answer ∙ passes.1 in
         rw (f, c, s, n)
 
     pub days-kept : r.numbers.days ≡ p.days
     days-kept = ap (λ b. b.days) same
 
-    pub in_bounds : InBounds (allCounted (boxed fs cs rs r.numbers))
+    pub in_bounds : InBounds (all_counted (boxed fs cs rs r.numbers))
     in_bounds =
-        let e : allCounted (boxed fs cs rs r.numbers) ≡ boxIn (countingAll p) = ap (λ b. allCounted b) same in
-        rw e (codes-bounds (countingAll p) (passed-all p passes.0))
+        let e : all_counted (boxed fs cs rs r.numbers) ≡ box_in (counting_all p) = ap (λ b. all_counted b) same in
+        rw e (codes-bounds (counting_all p) (passed_all p passes.0))
 
-    pub all-opened : openedCodes (boxed fs cs rs r.numbers) ≡ opened p
+    pub all-opened : opened_codes (boxed fs cs rs r.numbers) ≡ opened p
     all-opened = rw same (codes-opened p passes.0)
 
-    pub early-range : {days : Bool} {x : ℕ} → days ≡ ltb (firstCrossed (at fs) (at cs) r.numbers.days) r.numbers.days → x ≡ rangeRefusal days r.numbers → x ≡ earlyOpening p
-    early-range told asked =
+    pub early_range : {days : Bool} {x : ℕ} → days ≡ ltb (first_crossed (at fs) (at cs) r.numbers.days) r.numbers.days → x ≡ range_refusal days r.numbers → x ≡ early_opening p
+    early_range told asked =
         let e = judged fs cs rs r.numbers told asked ∙ ap judge same in
-        rw (early p, ← d.answer, eq-eqb r.refusal 0 h, codes-test p passes.0) e
+        rw (early p, ← d.answer, eq-eqb r.refusal 0 h, codes_test p passes.0) e
       where
         judge : Box → ℕ
-        judge b = cond (codesCrossed b.floors b.ceilings b.days b.lowest b.highest) 6 (cond (not (ltb b.first b.days)) 13 0)
+        judge b = cond (codes_crossed b.floors b.ceilings b.days b.lowest b.highest) 6 (cond (not (ltb b.first b.days)) 13 0)

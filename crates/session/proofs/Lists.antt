@@ -6,12 +6,12 @@ use native.Mathlib.Omega.{arith}
 use lib.IntN.{ℤ, ◌+ℤ◌}
 use lib.ListN.{length, drop, length-drop}
 use lib.Seq.{get_or-drop}
-use Rattle.theory_lists.specs.Sum.{sumFor}
+use Rattle.theory_lists.specs.Sum.{sum_for}
 use Rattle.theory_chains.specs.Sum.{sum, all}
 use Rattle.theory_chains.specs.Mirror.{sum_first}
 use Rattle.theory_method.specs.Counted.{counted, counted-sum}
 use Rattle.base_codes.specs.Code.{on}
-use Rattle.base_codes.proofs.Offset.{Less, less-add}
+use Rattle.base_codes.proofs.Offset.{Less, less_add}
 use Rattle.session.specs.Profile.{sum_of, total}
 
 -- a sum is that of the numbers over the offset, over the sum of the offsets
@@ -20,21 +20,21 @@ sum_less [] c k h = omega arith
 sum_less (z ∷ zs) c k h =
     let rest : Less (sum_of zs) (sum all (length zs) (λ i. c (suc i))) (length zs * k) = sum_less zs (λ i. c (suc i)) k (λ i l. h (suc i) (omega arith)) in
     let both : Less (z +ℤ sum_of zs) (c 0 + sum all (length zs) (λ i. c (suc i))) (k + length zs * k) =
-    less-add z (sum_of zs) (c 0) (sum all (length zs) (λ i. c (suc i))) k (length zs * k) (h 0 (omega arith)) rest in
+    less_add z (sum_of zs) (c 0) (sum all (length zs) (λ i. c (suc i))) k (length zs * k) (h 0 (omega arith)) rest in
     let e : c 0 + sum all (length zs) (λ i. c (suc i)) ≡ sum all (suc (length zs)) c = sym (sum_first all (length zs) c) in
     let f : k + length zs * k ≡ suc (length zs) * k = omega arith in
     rw (e, f) at both
 
 -- the days from day i on, as a run and by themselves
-run-sum : (c : ℕ → ℕ) (i m : ℕ) → sum all m (λ k. c (i + k)) ≡ sumFor c i m
-unfolding sumFor
-run-sum c i zero = refl
-run-sum c i (suc m) = omega (arith, run-sum c i m)
+run_sum_lem : (c : ℕ → ℕ) (i m : ℕ) → sum all m (λ k. c (i + k)) ≡ sum_for c i m
+unfolding sum_for
+run_sum_lem c i zero = refl
+run_sum_lem c i (suc m) = omega (arith, run_sum_lem c i m)
 
 -- the total of n numbers is the sum of the counted ones over the offset, over the sum of their offsets
-pub total-less : (first n : ℕ) (x : List ℤ) (c : ℕ → ℕ) (k : ℕ) → length x ≡ n → ((i : ℕ) → i < n → Less (on x i) (c i) k)
+pub total_less : (first n : ℕ) (x : List ℤ) (c : ℕ → ℕ) (k : ℕ) → length x ≡ n → ((i : ℕ) → i < n → Less (on x i) (c i) k)
     → Less (total first x) (sum (counted first n) n c) ((n - first) * k)
-total-less first n x c k whole h =
+total_less first n x c k whole h =
     let count : length (drop first x) ≡ n - first = rw (length-drop, whole) in
-    let same : sum all (n - first) (λ i. c (first + i)) ≡ sum (counted first n) n c = run-sum c first (n - first) ∙ sym (counted-sum first n c) in
+    let same : sum all (n - first) (λ i. c (first + i)) ≡ sum (counted first n) n c = run_sum_lem c first (n - first) ∙ sym (counted-sum first n c) in
     rw (count, same) at (sum_less (drop first x) (λ i. c (first + i)) k (λ i l. rw (get_or-drop) (h (first + i) (omega (arith, count)))))

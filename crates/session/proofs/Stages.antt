@@ -8,7 +8,7 @@ use lib.Dec.{ltb}
 use borrow.Author.Tests.{eq-eqb, ne_eqb, lt-ltb, le-ltb, ltb-true, not-false}
 use mir.Syntax.{w32}
 use mir.Val.{SFits}
-use Rattle.limits.specs.Limits.{lowestTotal, highestTotal}
+use Rattle.limits.specs.Limits.{lowest_total, highest_total}
 use Rattle.theory_lists.specs.Sum.{at}
 use Rattle.theory_lists.specs.Checks.{cond-zero}
 use Rattle.base_codes.specs.Code.{within, code, coded}
@@ -16,40 +16,40 @@ use Rattle.base_codes.specs.declared.CodedNumbers.{CodedNumbers}
 use Rattle.base_codes.specs.declared.Coded.{Coded}
 use Rattle.base_codes.specs.declared.Coded.TheVariants.{Code, Outside}
 use Rattle.base_codes.proofs.Laws.{coded-code, coded-outside}
-use Rattle.base_codes.proofs.Casts.{seen, coded-seen}
-use Rattle.theory_method.specs.Filter.{Box, allCounted, InBounds, Tight, tightened, firstCrossed}
+use Rattle.base_codes.proofs.Casts.{seen, coded_seen}
+use Rattle.theory_method.specs.Filter.{Box, all_counted, InBounds, Tight, tightened, first_crossed}
 use Rattle.theory_method.specs.Levels.{recount}
 use Rattle.tighten_filtering.specs.Boxed.{boxed}
-use Rattle.session.specs.Stages.{notCoded, codedWith, codesCrossed, rangeRefusal, RangesOpened, noRanges, rangesWith, rangesOpened, openedCodes}
-use Rattle.session.specs.Opening.{fresh, refusedWith}
+use Rattle.session.specs.Stages.{not_coded, coded_with, codes_crossed, range_refusal, RangesOpened, no_ranges, ranges_with, ranges_opened, opened_codes}
+use Rattle.session.specs.Opening.{fresh, refused_with}
 use Rattle.session.specs.declared.Numbers.{Numbers}
 use Rattle.session.specs.declared.OpenedRanges.{OpenedRanges}
 
 -- ---- 3 to 5
 
 module _ (m : Numbers) {point : Bool} (rise : Bool) where
-  pub point-refused : point ≡ true → notCoded 3 ≡ codedWith m point rise
-  unfolding codedWith
-  point-refused h = rw h
+  pub point_refused : point ≡ true → not_coded 3 ≡ coded_with m point rise
+  unfolding coded_with
+  point_refused h = rw h
 
-  pub rise-refused : point ≡ false → rise ≡ true → notCoded 4 ≡ codedWith m point rise
-  unfolding codedWith
+  pub rise-refused : point ≡ false → rise ≡ true → not_coded 4 ≡ coded_with m point rise
+  unfolding coded_with
   rise-refused p h = rw (p, h)
 
 -- a bound of the total, by its call
 pub record Called (z : ℤ) (r : Coded) : Type 0 where
   pub fits : SFits w32 z
-  pub gave : r ≡ coded lowestTotal highestTotal (seen z)
+  pub gave : r ≡ coded lowest_total highest_total (seen z)
 
 module _ {z : ℤ} {r : Coded} (c : Called z r) where
-  answer : r ≡ coded lowestTotal highestTotal z
-  answer = coded-seen lowestTotal highestTotal c.fits c.gave
+  answer : r ≡ coded lowest_total highest_total z
+  answer = coded_seen lowest_total highest_total c.fits c.gave
 
-  total-outside : r ≡ Outside → within lowestTotal highestTotal z ≡ false
-  total-outside o = coded-outside lowestTotal highestTotal z answer o
+  total-outside : r ≡ Outside → within lowest_total highest_total z ≡ false
+  total-outside o = coded-outside lowest_total highest_total z answer o
 
-  total-coded : {t : ℕ} → r ≡ Code t → (within lowestTotal highestTotal z ≡ true) × (t ≡ code lowestTotal z)
-  total-coded {t} o = coded-code lowestTotal highestTotal z t answer o
+  total-coded : {t : ℕ} → r ≡ Code t → (within lowest_total highest_total z ≡ true) × (t ≡ code lowest_total z)
+  total-coded {t} o = coded-code lowest_total highest_total z t answer o
 
 -- a point and a rise are within their bounds
 pub record Inside (point rise : Bool) : Type 0 where
@@ -57,17 +57,17 @@ pub record Inside (point rise : Bool) : Type 0 where
   pub rises : rise ≡ false
 
 module _ (m : Numbers) {point rise : Bool} (d : Inside point rise) {low : Coded} (l : Called m.lowest low) where
-  pub lowest-refused : low ≡ Outside → notCoded 5 ≡ codedWith m point rise
-  unfolding codedWith
+  pub lowest-refused : low ≡ Outside → not_coded 5 ≡ coded_with m point rise
+  unfolding coded_with
   lowest-refused o = rw (d.points, d.rises, total-outside l o)
 
   module _ {t : ℕ} (o : low ≡ Code t) {high : Coded} (h : Called m.highest high) where
-    pub highest-refused : high ≡ Outside → notCoded 5 ≡ codedWith m point rise
-    unfolding codedWith
+    pub highest-refused : high ≡ Outside → not_coded 5 ≡ coded_with m point rise
+    unfolding coded_with
     highest-refused u = rw (d.points, d.rises, (total-coded l o).0, total-outside h u)
 
-    pub numbers-coded : {v : ℕ} → high ≡ Code v → record { refusal = 0; numbers = record { days = m.days; first = m.first; lowest = t; highest = v } } ≡ codedWith m point rise
-    unfolding codedWith
+    pub numbers-coded : {v : ℕ} → high ≡ Code v → record { refusal = 0; numbers = record { days = m.days; first = m.first; lowest = t; highest = v } } ≡ coded_with m point rise
+    unfolding coded_with
     numbers-coded u =
         let a = total-coded l o in
         let b = total-coded h u in
@@ -76,67 +76,67 @@ module _ (m : Numbers) {point rise : Bool} (d : Inside point rise) {low : Coded}
 -- ---- 6, 13 and 8
 
 -- what `open_ranges` gives, with its arrays
-abbrev pub withArrays : OpenedRanges → List ℕ → List ℕ → RangesOpened
-withArrays r fs cs = record { refusal = r.refusal; floors = fs; ceilings = cs; lowest = r.lowest; highest = r.highest }
+abbrev pub with_arrays : OpenedRanges → List ℕ → List ℕ → RangesOpened
+with_arrays r fs cs = record { refusal = r.refusal; floors = fs; ceilings = cs; lowest = r.lowest; highest = r.highest }
 
-no-ranges : (number : ℕ) {r : OpenedRanges} (fs cs : List ℕ) → r ≡ record { refusal = number; lowest = 0; highest = 0 } → withArrays r fs cs ≡ noRanges number fs cs
-no-ranges number fs cs e = ap (λ x. withArrays x fs cs) e
+no_ranges_lem : (number : ℕ) {r : OpenedRanges} (fs cs : List ℕ) → r ≡ record { refusal = number; lowest = 0; highest = 0 } → with_arrays r fs cs ≡ no_ranges number fs cs
+no_ranges_lem number fs cs e = ap (λ x. with_arrays x fs cs) e
 
 module _ (crossed : Bool) (m : CodedNumbers) where
-  pub said-6 : (crossed || ltb m.highest m.lowest) ≡ true → 6 ≡ rangeRefusal crossed m
-  said-6 h = rw h
+  pub said_6 : (crossed || ltb m.highest m.lowest) ≡ true → 6 ≡ range_refusal crossed m
+  said_6 h = rw h
 
   module _ (h : (crossed || ltb m.highest m.lowest) ≡ false) where
-    pub said-none : m.first < m.days → 0 ≡ rangeRefusal crossed m
-    said-none l = rw (h, lt-ltb m.first m.days l)
+    pub said_none : m.first < m.days → 0 ≡ range_refusal crossed m
+    said_none l = rw (h, lt-ltb m.first m.days l)
 
-    pub said-13 : m.days ≤ m.first → 13 ≡ rangeRefusal crossed m
-    said-13 l = rw (h, le-ltb m.first m.days l)
+    pub said_13 : m.days ≤ m.first → 13 ≡ range_refusal crossed m
+    said_13 l = rw (h, le-ltb m.first m.days l)
 
 -- 6 or 13
-by_number : (a b : Bool) {x : ℕ} (fs cs : List ℕ) (t : RangesOpened) → x ≡ cond a 6 (cond b 13 0) → (x ≡ 0 → ⊥) → noRanges x fs cs ≡ cond a (noRanges 6 fs cs) (cond b (noRanges 13 fs cs) t)
+by_number : (a b : Bool) {x : ℕ} (fs cs : List ℕ) (t : RangesOpened) → x ≡ cond a 6 (cond b 13 0) → (x ≡ 0 → ⊥) → no_ranges x fs cs ≡ cond a (no_ranges 6 fs cs) (cond b (no_ranges 13 fs cs) t)
 by_number true b fs cs t e h = rw e refl
 by_number false true fs cs t e h = rw e refl
 by_number false false fs cs t e h = absurd (h e)
 
-module _ (fs cs rs : List ℕ) (m : CodedNumbers) {days : Bool} {x : ℕ} (told : days ≡ ltb (firstCrossed (at fs) (at cs) m.days) m.days) (asked : x ≡ rangeRefusal days m) where
-  pub judged : x ≡ cond (codesCrossed fs cs m.days m.lowest m.highest) 6 (cond (not (ltb m.first m.days)) 13 0)
-  judged = asked ∙ ap (λ d. rangeRefusal d m) told
+module _ (fs cs rs : List ℕ) (m : CodedNumbers) {days : Bool} {x : ℕ} (told : days ≡ ltb (first_crossed (at fs) (at cs) m.days) m.days) (asked : x ≡ range_refusal days m) where
+  pub judged : x ≡ cond (codes_crossed fs cs m.days m.lowest m.highest) 6 (cond (not (ltb m.first m.days)) 13 0)
+  judged = asked ∙ ap (λ d. range_refusal d m) told
 
-  pub ranges-refused : {r : OpenedRanges} → (x ≡ 0 → ⊥) → r ≡ record { refusal = x; lowest = 0; highest = 0 } → withArrays r fs cs ≡ rangesOpened (boxed fs cs rs m)
-  unfolding rangesOpened
+  pub ranges-refused : {r : OpenedRanges} → (x ≡ 0 → ⊥) → r ≡ record { refusal = x; lowest = 0; highest = 0 } → with_arrays r fs cs ≡ ranges_opened (boxed fs cs rs m)
+  unfolding ranges_opened
   ranges-refused h n =
-      no-ranges x fs cs n
-      ∙ by_number (codesCrossed fs cs m.days m.lowest m.highest) (not (ltb m.first m.days)) fs cs (rangesWith (tightened (boxed fs cs rs m))) judged h
+      no_ranges_lem x fs cs n
+      ∙ by_number (codes_crossed fs cs m.days m.lowest m.highest) (not (ltb m.first m.days)) fs cs (ranges_with (tightened (boxed fs cs rs m))) judged h
 
   module _ (h : x ≡ 0) where
-    passes : (codesCrossed fs cs m.days m.lowest m.highest ≡ false) × (not (ltb m.first m.days) ≡ false)
+    passes : (codes_crossed fs cs m.days m.lowest m.highest ≡ false) × (not (ltb m.first m.days) ≡ false)
     passes =
-        let c6 = cond-zero (codesCrossed fs cs m.days m.lowest m.highest) 5 _ (sym judged ∙ h) in
+        let c6 = cond-zero (codes_crossed fs cs m.days m.lowest m.highest) 5 _ (sym judged ∙ h) in
         (c6.0, (cond-zero (not (ltb m.first m.days)) 12 _ c6.1).0)
 
-    pub first-in-bounds : InBounds (allCounted (boxed fs cs rs m)) → InBounds (boxed fs cs rs m)
-    first-in-bounds b = recount b (ltb-true _ _ (not-false _ passes.1))
+    pub first_in_bounds : InBounds (all_counted (boxed fs cs rs m)) → InBounds (boxed fs cs rs m)
+    first_in_bounds b = recount b (ltb-true _ _ (not-false _ passes.1))
 
   module _ (h : x ≡ 0) {t : Tight} (e : t ≡ tightened (boxed fs cs rs m)) where
-    tight : rangesWith t ≡ rangesOpened (boxed fs cs rs m)
-    unfolding rangesOpened
+    tight : ranges_with t ≡ ranges_opened (boxed fs cs rs m)
+    unfolding ranges_opened
     tight = rw ((passes h).0, (passes h).1, e)
 
-    pub ranges-found : t.found ≡ true → record { refusal = 0; floors = t.floors; ceilings = t.ceilings; lowest = t.lowest; highest = t.highest } ≡ rangesOpened (boxed fs cs rs m)
+    pub ranges-found : t.found ≡ true → record { refusal = 0; floors = t.floors; ceilings = t.ceilings; lowest = t.lowest; highest = t.highest } ≡ ranges_opened (boxed fs cs rs m)
     ranges-found f = (rw f at tight)
 
-    pub ranges-none : {r : OpenedRanges} → t.found ≡ false → r ≡ record { refusal = 8; lowest = 0; highest = 0 } → withArrays r t.floors t.ceilings ≡ rangesOpened (boxed fs cs rs m)
-    ranges-none f n = no-ranges 8 t.floors t.ceilings n ∙ (rw f at tight)
+    pub ranges-none : {r : OpenedRanges} → t.found ≡ false → r ≡ record { refusal = 8; lowest = 0; highest = 0 } → with_arrays r t.floors t.ceilings ≡ ranges_opened (boxed fs cs rs m)
+    ranges-none f n = no_ranges_lem 8 t.floors t.ceilings n ∙ (rw f at tight)
 
 -- ---- the session
 
-module _ (b : Box) {r : OpenedRanges} {fs cs : List ℕ} (e : withArrays r fs cs ≡ rangesOpened b) where
-  pub session-refused : (r.refusal ≡ 0 → ⊥) → refusedWith r.refusal ≡ openedCodes b
-  unfolding openedCodes
+module _ (b : Box) {r : OpenedRanges} {fs cs : List ℕ} (e : with_arrays r fs cs ≡ ranges_opened b) where
+  pub session-refused : (r.refusal ≡ 0 → ⊥) → refused_with r.refusal ≡ opened_codes b
+  unfolding opened_codes
   session-refused h = rw (← e, ne_eqb r.refusal 0 h)
 
   pub session-fresh : r.refusal ≡ 0
-      → record { refusal = 0; session = fresh b.days b.first b.rises (record { floors = fs; ceilings = cs; lowest = r.lowest; highest = r.highest }) } ≡ openedCodes b
-  unfolding openedCodes
+      → record { refusal = 0; session = fresh b.days b.first b.rises (record { floors = fs; ceilings = cs; lowest = r.lowest; highest = r.highest }) } ≡ opened_codes b
+  unfolding opened_codes
   session-fresh h = rw (← e, eq-eqb r.refusal 0 h)

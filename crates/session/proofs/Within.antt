@@ -2,9 +2,9 @@
 use mathlib.Core.List.{List}
 use Prim.Native.Nat.{ℕ}
 use Rattle.theory_method.specs.Levels.{Levels}
-use Rattle.session.specs.Showing.{boxOf}
+use Rattle.session.specs.Showing.{box_of}
 use Rattle.session.specs.declared.Ranges.{Ranges}
 
 -- n days' levels are within ranges, and keep the rises
 abbrev pub Within : List ℕ → ℕ → ℕ → Ranges → (ℕ → ℕ) → Type 0
-Within rs n first r = Levels (boxOf rs n first r)
+Within rs n first r = Levels (box_of rs n first r)

@@ -1,6 +1,6 @@
 -- Document 01: showing the ranges of a session.
 use Rattle.std.specs.Prelude.{false, cond, ◌||◌, List, ℕ, ℤ, pos, ltb}
-use Rattle.limits.specs.Limits.{lowestPoint, lowestRise, lowestTotal}
+use Rattle.limits.specs.Limits.{lowest_point, lowest_rise, lowest_total}
 use Rattle.theory_lists.specs.Sum.{at}
 use Rattle.base_codes.specs.Code.{decoded}
 use Rattle.theory_method.specs.Filter.{Box, box, InBounds}
@@ -9,39 +9,39 @@ use Rattle.session.specs.declared.Session.{Session}
 use Rattle.session.specs.declared.Shown.{Shown}
 
 -- the present range of day i, and of the total, in points
-abbrev pub floorOn : Session → ℕ → ℤ
-floorOn s i = decoded lowestPoint (at s.present.floors i)
+abbrev pub floor_on : Session → ℕ → ℤ
+floor_on s i = decoded lowest_point (at s.present.floors i)
 
-abbrev pub ceilingOn : Session → ℕ → ℤ
-ceilingOn s i = decoded lowestPoint (at s.present.ceilings i)
+abbrev pub ceiling_on : Session → ℕ → ℤ
+ceiling_on s i = decoded lowest_point (at s.present.ceilings i)
 
-abbrev pub totalFloor : Session → ℤ
-totalFloor s = decoded lowestTotal s.present.lowest
+abbrev pub total_floor : Session → ℤ
+total_floor s = decoded lowest_total s.present.lowest
 
-abbrev pub totalCeiling : Session → ℤ
-totalCeiling s = decoded lowestTotal s.present.highest
+abbrev pub total_ceiling : Session → ℤ
+total_ceiling s = decoded lowest_total s.present.highest
 
 -- the least rise from day i to the next, in points
-abbrev pub riseOn : Session → ℕ → ℤ
-riseOn s i = decoded lowestRise (at s.rises i)
+abbrev pub rise_on : Session → ℕ → ℤ
+rise_on s i = decoded lowest_rise (at s.rises i)
 
 -- 2: a list shorter than n
-abbrev pub listTooShort : Shown
-listTooShort = record { refusal = 2; lowest = pos 0; highest = pos 0; spent = false }
+abbrev pub list_too_short : Shown
+list_too_short = record { refusal = 2; lowest = pos 0; highest = pos 0; spent = false }
 
 -- what showing gives with lists of these lengths
 unfoldable pub shown : Session → ℕ → ℕ → Shown
 shown s floors ceilings =
-    cond (ltb floors s.days || ltb ceilings s.days) listTooShort
-    (record { refusal = 0; lowest = totalFloor s; highest = totalCeiling s; spent = s.spent })
+    cond (ltb floors s.days || ltb ceilings s.days) list_too_short
+    (record { refusal = 0; lowest = total_floor s; highest = total_ceiling s; spent = s.spent })
 
 -- ranges of n days, with the rises between them and the first counted day, as what tightening takes
-abbrev pub boxOf : List ℕ → ℕ → ℕ → Ranges → Box
-boxOf rs n first r = box r.floors r.ceilings rs n first r.lowest r.highest
+abbrev pub box_of : List ℕ → ℕ → ℕ → Ranges → Box
+box_of rs n first r = box r.floors r.ceilings rs n first r.lowest r.highest
 
 -- ranges of n days are in bounds, with the rises between the days and the first counted day
 abbrev pub Fits : List ℕ → ℕ → ℕ → Ranges → Type 0
-Fits rs n first r = InBounds (boxOf rs n first r)
+Fits rs n first r = InBounds (box_of rs n first r)
 
 -- the numbers of a session are in bounds
 pub record SessionInBounds (s : Session) : Type 0 where

@@ -1,13 +1,13 @@
 // A session: document 01's profile, opened, with its ranges, for one batch.
 ghost use Rattle.std.specs.Prelude.{◌≡◌, ltb, length};
-ghost use Rattle.limits.specs.Limits.{lowestPoint, highestPoint, lowestRise, highestRise};
+ghost use Rattle.limits.specs.Limits.{lowest_point, highest_point, lowest_rise, highest_rise};
 ghost use Rattle.theory_lists.specs.Sum.{at};
-ghost use Rattle.theory_lists.specs.Lent.{lentList};
-ghost use Rattle.theory_method.specs.Filter.{InBounds, allCounted, firstCrossed};
+ghost use Rattle.theory_lists.specs.Lent.{lent_list};
+ghost use Rattle.theory_method.specs.Filter.{InBounds, all_counted, first_crossed};
 ghost use Rattle.tighten_filtering.specs.Boxed.{boxed};
-ghost use Rattle.session.specs.Opening.{opened, earlyOpening, refusedWith, profile};
-ghost use Rattle.session.specs.Stages.{lengthRefusal, lengthsOf, notCoded, codedWith, coded_list, codedProfile, rangeRefusal, rangesOpened, openedCodes};
-ghost use Rattle.session.specs.Showing.{SessionInBounds, shown, listTooShort, floorOn, ceilingOn};
+ghost use Rattle.session.specs.Opening.{opened, early_opening, refused_with, profile};
+ghost use Rattle.session.specs.Stages.{length_refusal, lengths_of, not_coded, coded_with, coded_list, coded_profile, range_refusal, ranges_opened, opened_codes};
+ghost use Rattle.session.specs.Showing.{SessionInBounds, shown, list_too_short, floor_on, ceiling_on};
 
 use base_codes::{Coded, CodedNumbers, code_all};
 use limits::{MOST_DAYS, TOTAL_OFFSET};
@@ -87,7 +87,7 @@ const ZERO_LEVEL: u16 = limits::LEVEL_OFFSET as u16;
 
 // Beside a refusal stands a spent session of one day with all values 0.
 fn refused(number: u8) -> Opened
-    ensures { result ≡ refusedWith number }
+    ensures { result ≡ refused_with number }
 {
     let mut floors = [0u16; MOST_DAYS];
     floors[0] = ZERO_LEVEL;
@@ -112,7 +112,7 @@ fn refused(number: u8) -> Opened
 
 // 1 for a bad day count, 2 for a list of the wrong length, else 0.
 fn length_refusal(days: usize, floors: usize, ceilings: usize, rises: usize) -> u8
-    ensures { result ≡ lengthRefusal days floors ceilings rises }
+    ensures { result ≡ length_refusal days floors ceilings rises }
 {
     if days == 0 {
         return 1;
@@ -133,7 +133,7 @@ fn length_refusal(days: usize, floors: usize, ceilings: usize, rises: usize) -> 
 }
 
 fn not_coded(number: u8) -> CodedProfile
-    ensures { result ≡ notCoded number }
+    ensures { result ≡ not_coded number }
 {
     CodedProfile {
         refusal: number,
@@ -148,7 +148,7 @@ fn not_coded(number: u8) -> CodedProfile
 
 // 3, 4, then 5, from whether a point and a rise are outside their bounds, else a profile's numbers as codes.
 pub fn code_numbers(numbers: Numbers, bad_point: bool, bad_rise: bool) -> CodedProfile
-    ensures { result ≡ codedWith numbers bad_point bad_rise }
+    ensures { result ≡ coded_with numbers bad_point bad_rise }
 {
     if bad_point {
         return not_coded(3);
@@ -191,10 +191,10 @@ fn code_profile(
     high: &mut [u16; MOST_DAYS],
     steps: &mut [u16; MOST_DAYS],
 ) -> CodedProfile
-    ensures value { result ≡ codedProfile (profile numbers floors.now ceilings.now rises.now) }
-    ensures low_after { low.new ≡ coded_list (lengthsOf (profile numbers floors.now ceilings.now rises.now)) lowestPoint highestPoint floors.now low.old }
-    ensures high_after { high.new ≡ coded_list (lengthsOf (profile numbers floors.now ceilings.now rises.now)) lowestPoint highestPoint ceilings.now high.old }
-    ensures steps_after { steps.new ≡ coded_list (lengthsOf (profile numbers floors.now ceilings.now rises.now)) lowestRise highestRise rises.now steps.old }
+    ensures value { result ≡ coded_profile (profile numbers floors.now ceilings.now rises.now) }
+    ensures low_after { low.new ≡ coded_list (lengths_of (profile numbers floors.now ceilings.now rises.now)) lowest_point highest_point floors.now low.old }
+    ensures high_after { high.new ≡ coded_list (lengths_of (profile numbers floors.now ceilings.now rises.now)) lowest_point highest_point ceilings.now high.old }
+    ensures steps_after { steps.new ≡ coded_list (lengths_of (profile numbers floors.now ceilings.now rises.now)) lowest_rise highest_rise rises.now steps.old }
 {
     let refusal = length_refusal(numbers.days, floors.len(), ceilings.len(), rises.len());
     if refusal != 0 {
@@ -213,7 +213,7 @@ fn code_profile(
 
 // 6 for a floor above its ceiling, of a day, which the caller tells, or of the total, 13 for a first counted day not in the profile, else 0.
 fn range_refusal(crossed: bool, numbers: CodedNumbers) -> u8
-    ensures { result ≡ rangeRefusal crossed numbers }
+    ensures { result ≡ range_refusal crossed numbers }
 {
     if crossed | (numbers.highest < numbers.lowest) {
         return 6;
@@ -243,8 +243,8 @@ pub fn open_ranges(
     numbers: CodedNumbers,
     crossed: bool,
 ) -> OpenedRanges
-    requires { InBounds (allCounted (boxed floors.old ceilings.old rises.now numbers)) × (crossed ≡ ltb (firstCrossed (at floors.old) (at ceilings.old) numbers.days) numbers.days) }
-    ensures { record { refusal = result.refusal; floors = floors.new; ceilings = ceilings.new; lowest = result.lowest; highest = result.highest } ≡ rangesOpened (boxed floors.old ceilings.old rises.now numbers) }
+    requires { InBounds (all_counted (boxed floors.old ceilings.old rises.now numbers)) × (crossed ≡ ltb (first_crossed (at floors.old) (at ceilings.old) numbers.days) numbers.days) }
+    ensures { record { refusal = result.refusal; floors = floors.new; ceilings = ceilings.new; lowest = result.lowest; highest = result.highest } ≡ ranges_opened (boxed floors.old ceilings.old rises.now numbers) }
 {
     let refusal = range_refusal(crossed, numbers);
     if refusal != 0 {
@@ -268,8 +268,8 @@ fn open_codes(
     ceilings: [u16; MOST_DAYS],
     rises: [u16; MOST_DAYS],
 ) -> Opened
-    requires { InBounds (allCounted (boxed floors ceilings rises numbers)) }
-    ensures { result ≡ openedCodes (boxed floors ceilings rises numbers) }
+    requires { InBounds (all_counted (boxed floors ceilings rises numbers)) }
+    ensures { result ≡ opened_codes (boxed floors ceilings rises numbers) }
 {
     let mut low = floors;
     let mut high = ceilings;
@@ -299,7 +299,7 @@ fn open_codes(
 
 // The first of the checks 1 to 6 and 13 of opening that refuses, or 0.
 pub fn early_refusal(numbers: Numbers, floors: &[i16], ceilings: &[i16], rises: &[i16]) -> u8
-    ensures { result ≡ earlyOpening (profile numbers floors.now ceilings.now rises.now) }
+    ensures { result ≡ early_opening (profile numbers floors.now ceilings.now rises.now) }
 {
     let mut low = [0u16; MOST_DAYS];
     let mut high = [0u16; MOST_DAYS];
@@ -315,7 +315,7 @@ pub fn early_refusal(numbers: Numbers, floors: &[i16], ceilings: &[i16], rises: 
 }
 
 fn too_short() -> Shown
-    ensures { result ≡ listTooShort }
+    ensures { result ≡ list_too_short }
 {
     Shown {
         refusal: 2,
@@ -361,8 +361,8 @@ impl Session {
     pub fn show(self, floors: &mut [i16], ceilings: &mut [i16]) -> Shown
         requires { SessionInBounds self }
         ensures value { result ≡ shown self (length floors.old) (length ceilings.old) }
-        ensures floors_after { floors.new ≡ lentList result.refusal (floorOn self) self.days floors.old }
-        ensures ceilings_after { ceilings.new ≡ lentList result.refusal (ceilingOn self) self.days ceilings.old }
+        ensures floors_after { floors.new ≡ lent_list result.refusal (floor_on self) self.days floors.old }
+        ensures ceilings_after { ceilings.new ≡ lent_list result.refusal (ceiling_on self) self.days ceilings.old }
     {
         let n = self.days;
         if floors.len() < n {

@@ -1,6 +1,6 @@
 -- Document 01: the days that a cut changed; request Two: how many points the range of each lost.
 use Rattle.std.specs.Prelude.{◌≡◌, ◌⊎◌, Bool, not, ◌||◌, List, ℕ, ◌-◌, ◌≤◌, ◌<◌, eqb}
-use Rattle.limits.specs.Limits.{highestLevel}
+use Rattle.limits.specs.Limits.{highest_level}
 use Rattle.theory_lists.specs.Sum.{at}
 
 -- the floor or the ceiling of day k is another than before
@@ -16,4 +16,4 @@ pub record Narrowed (floors ceilings floors' ceilings' : List ℕ) (n : ℕ) : T
   pub floor : (k : ℕ) → k < n → at floors k ≤ at floors' k
   pub some : (k : ℕ) → k < n → (at floors' k ≤ at ceilings' k) ⊎ ((at floors k ≡ at floors' k) × (at ceilings k ≡ at ceilings' k))
   pub ceiling : (k : ℕ) → k < n → at ceilings' k ≤ at ceilings k
-  pub most : (k : ℕ) → k < n → at ceilings k ≤ highestLevel
+  pub most : (k : ℕ) → k < n → at ceilings k ≤ highest_level

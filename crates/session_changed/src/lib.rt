@@ -1,10 +1,10 @@
 // Which days a cut changed, by what their ranges lost.
 ghost use Rattle.std.specs.Prelude.{◌≡◌, ◌*◌, ◌≤◌, length};
-ghost use Rattle.limits.specs.Limits.{mostDays};
-ghost use Rattle.theory_lists.specs.Front.{inFront};
+ghost use Rattle.limits.specs.Limits.{most_days};
+ghost use Rattle.theory_lists.specs.Front.{in_front};
 ghost use Rattle.theory_lists.specs.Written.{written};
-ghost use Rattle.base_little_endian.specs.Fields.{u16At};
-ghost use Rattle.session_order.specs.Order.{daysWhere, settledOrder};
+ghost use Rattle.base_little_endian.specs.Fields.{u16_at};
+ghost use Rattle.session_order.specs.Order.{days_where, settled_order};
 ghost use Rattle.session_changed.specs.Changes.{differs, lost, Narrowed};
 
 use base_little_endian::u16_at;
@@ -25,7 +25,7 @@ fn write_losses(
     n: usize,
     losses: &mut [u16; MOST_DAYS],
 )
-    requires { n ≤ mostDays }
+    requires { n ≤ most_days }
     ensures { losses.new ≡ written (lost floors.now ceilings.now low.now high.now) n losses.old }
 {
     let mut k = 0;
@@ -37,8 +37,8 @@ fn write_losses(
 
 // Reads the first days of a list of bytes.
 fn read_days(cells: &[u8], count: usize, days: &mut [u16])
-    requires { (count ≤ mostDays) × (count * 2 ≤ length cells.now) × (count ≤ length days.old) }
-    ensures { days.new ≡ written (λ k. u16At cells.now (k * 2)) count days.old }
+    requires { (count ≤ most_days) × (count * 2 ≤ length cells.now) × (count ≤ length days.old) }
+    ensures { days.new ≡ written (λ k. u16_at cells.now (k * 2)) count days.old }
 {
     let mut k = 0;
     while k < count {
@@ -56,9 +56,9 @@ pub fn list_changes(
     n: usize,
     changed: &mut [u16],
 ) -> usize
-    requires { (n ≤ mostDays) × (n ≤ length changed.old) × Narrowed floors.now ceilings.now low.now high.now n }
-    ensures value { result ≡ length (settledOrder (lost floors.now ceilings.now low.now high.now) (daysWhere (differs floors.now ceilings.now low.now high.now) n)) }
-    ensures changed_after { changed.new ≡ inFront (settledOrder (lost floors.now ceilings.now low.now high.now) (daysWhere (differs floors.now ceilings.now low.now high.now) n)) changed.old }
+    requires { (n ≤ most_days) × (n ≤ length changed.old) × Narrowed floors.now ceilings.now low.now high.now n }
+    ensures value { result ≡ length (settled_order (lost floors.now ceilings.now low.now high.now) (days_where (differs floors.now ceilings.now low.now high.now) n)) }
+    ensures changed_after { changed.new ≡ in_front (settled_order (lost floors.now ceilings.now low.now high.now) (days_where (differs floors.now ceilings.now low.now high.now) n)) changed.old }
 {
     let mut losses = [0u16; MOST_DAYS];
     write_losses(floors, ceilings, low, high, n, &mut losses);

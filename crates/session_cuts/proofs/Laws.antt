@@ -3,16 +3,16 @@ use mathlib.Core.Path.{◌≡◌}
 use Prim.Native.Nat.{ℕ, ◌<◌}
 use lib.IntN.{pos}
 use lib.ListN.{length, get_or}
-use Rattle.theory_lists.specs.ListOf.{length-listOf, get-listOf}
+use Rattle.theory_lists.specs.ListOf.{length-list_of, get_list_of}
 use Rattle.session_cuts.specs.declared.Cut.TheVariants.{DayFloor}
 use Rattle.session_cuts.specs.declared.Sheet.{Sheet}
-use Rattle.session_cuts.specs.Sheet.{blank, cutOn, cuts_of}
+use Rattle.session_cuts.specs.Sheet.{blank, cut_on, cuts_of}
 
 module _ (s : Sheet) where
-  pub length-cutsOf : length (cuts_of s) ≡ s.count
+  pub length-cuts_of : length (cuts_of s) ≡ s.count
   unfolding cuts_of
-  length-cutsOf = length-listOf (λ j. (get_or s.entries j blank).cut) s.count
+  length-cuts_of = length-list_of (λ j. (get_or s.entries j blank).cut) s.count
 
-  pub cutOn-cutsOf : (j : ℕ) → j < s.count → cutOn (cuts_of s) j ≡ (get_or s.entries j blank).cut
+  pub cut_on-cuts_of : (j : ℕ) → j < s.count → cut_on (cuts_of s) j ≡ (get_or s.entries j blank).cut
   unfolding cuts_of
-  cutOn-cutsOf j h = get-listOf (λ i. (get_or s.entries i blank).cut) (DayFloor 0 (pos 0)) s.count j h
+  cut_on-cuts_of j h = get_list_of (λ i. (get_or s.entries i blank).cut) (DayFloor 0 (pos 0)) s.count j h

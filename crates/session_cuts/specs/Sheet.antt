@@ -10,8 +10,8 @@ use Rattle.session_cuts.specs.declared.Sheet.{Sheet}
 abbrev pub blank : Entry
 blank = record { cut = DayFloor 0 (pos 0) }
 
-abbrev pub cutOn : List Cut → ℕ → Cut
-cutOn cs j = get_or cs j (DayFloor 0 (pos 0))
+abbrev pub cut_on : List Cut → ℕ → Cut
+cut_on cs j = get_or cs j (DayFloor 0 (pos 0))
 
 unfoldable pub cuts_of : Sheet → List Cut
 cuts_of s = list_of (λ j. (get_or s.entries j blank).cut) s.count
@@ -23,11 +23,11 @@ kind_of (DayCeiling day value) = 1
 kind_of (TotalFloor day value) = 2
 kind_of (TotalCeiling day value) = 3
 
-abbrev pub dayOf : Cut → ℕ
-dayOf (DayFloor day value) = day
-dayOf (DayCeiling day value) = day
-dayOf (TotalFloor day value) = day
-dayOf (TotalCeiling day value) = day
+abbrev pub day_of : Cut → ℕ
+day_of (DayFloor day value) = day
+day_of (DayCeiling day value) = day
+day_of (TotalFloor day value) = day
+day_of (TotalCeiling day value) = day
 
 abbrev pub value_of : Cut → ℤ
 value_of (DayFloor day value) = value

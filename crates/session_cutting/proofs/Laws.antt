@@ -10,56 +10,56 @@ use lib.IntN.{ℤ}
 use lib.Dec.{eqb, ltb}
 use lib.ListN.{length, length-set}
 use borrow.Author.Tests.{eqb-true, eqb-false, eq-eqb, ne_eqb, ltb-true, ltb-false}
-use Rattle.limits.specs.Limits.{lowestPoint, highestPoint, lowestTotal, highestTotal}
+use Rattle.limits.specs.Limits.{lowest_point, highest_point, lowest_total, highest_total}
 use Rattle.theory_lists.specs.Sum.{at}
-use Rattle.theory_lists.specs.Written.{by-cell}
+use Rattle.theory_lists.specs.Written.{by_cell}
 use Rattle.base_codes.specs.Code.{within, code}
-use Rattle.base_codes.proofs.Laws.{point-most, total-most}
+use Rattle.base_codes.proofs.Laws.{point_most, total-most}
 use Rattle.theory_method.specs.Filter.{Tight}
 use Rattle.theory_method.specs.Levels.{refit}
-use Rattle.theory_method.proofs.Exact.{Exact, exact, floor-kept, ceiling-kept, exact-in-bounds}
-use Rattle.session.specs.Opening.{rangesOf}
-use Rattle.session.specs.Showing.{boxOf, Fits, SessionInBounds}
+use Rattle.theory_method.proofs.Exact.{Exact, exact, floor-kept, ceiling-kept, exact_in_bounds}
+use Rattle.session.specs.Opening.{ranges_of}
+use Rattle.session.specs.Showing.{box_of, Fits, SessionInBounds}
 use Rattle.session.specs.declared.Ranges.{Ranges}
 use Rattle.session.specs.declared.Session.{Session}
 use Rattle.session_cuts.specs.declared.Cut.{Cut}
 use Rattle.session_cuts.specs.declared.Cut.TheVariants.{DayFloor, DayCeiling, TotalFloor, TotalCeiling}
 use Rattle.session_cuts.specs.declared.Numbered.{Numbered}
 use Rattle.session_cuts.specs.declared.Numbered.TheVariants.{Known, Unknown}
-use Rattle.session_cuts.specs.Sheet.{dayOf}
-use Rattle.theory_lists.specs.Front.{inFront}
-use Rattle.session_order.specs.Order.{daysWhere}
-use Rattle.session_order.proofs.Days.{days-few}
+use Rattle.session_cuts.specs.Sheet.{day_of}
+use Rattle.theory_lists.specs.Front.{in_front}
+use Rattle.session_order.specs.Order.{days_where}
+use Rattle.session_order.proofs.Days.{days_few}
 use Rattle.session_order.proofs.Settled.{settled-length}
 use Rattle.session_changed.specs.Changes.{differs, lost, Narrowed}
 use Rattle.session_changed.proofs.Laws.{narrowed_none}
-use Rattle.session_cutting.specs.Cutting.{dayCutRefusal, totalCutRefusal, malformed, earlyCutting, clipped, retightened, tightenedTo, refusing, changedDays, afterCut, afterNumbered, listAfter}
+use Rattle.session_cutting.specs.Cutting.{day_cut_refusal, total_cut_refusal, malformed, early_cutting, clipped, retightened, tightened_to, refusing, changed_days, after_cut, after_numbered, list_after}
 use Rattle.session_cutting.specs.declared.AfterCut.{AfterCut}
 
 -- ---- what the checks let pass
 
-placed-within : (placed in_bounds : Bool) (m k : ℕ) → cond placed (cond in_bounds 0 (suc m)) (suc k) ≡ 0 → (placed ≡ true) × (in_bounds ≡ true)
-placed-within true true m k e = (refl, refl)
-placed-within true false m k e = absurd (omega arith)
-placed-within false in_bounds m k e = absurd (omega arith)
+placed_within : (placed in_bounds : Bool) (m k : ℕ) → cond placed (cond in_bounds 0 (suc m)) (suc k) ≡ 0 → (placed ≡ true) × (in_bounds ≡ true)
+placed_within true true m k e = (refl, refl)
+placed_within true false m k e = absurd (omega arith)
+placed_within false in_bounds m k e = absurd (omega arith)
 
-pub day-formed : (n day : ℕ) (value : ℤ) → dayCutRefusal n day value ≡ 0 → (day < n) × (within lowestPoint highestPoint value ≡ true)
-day-formed n day value e = let f = placed-within (ltb day n) (within lowestPoint highestPoint value) 2 6 e in (ltb-true day n f.0, f.1)
+pub day-formed : (n day : ℕ) (value : ℤ) → day_cut_refusal n day value ≡ 0 → (day < n) × (within lowest_point highest_point value ≡ true)
+day-formed n day value e = let f = placed_within (ltb day n) (within lowest_point highest_point value) 2 6 e in (ltb-true day n f.0, f.1)
 
-pub total-formed : (day : ℕ) (value : ℤ) → totalCutRefusal day value ≡ 0 → (day ≡ 0) × (within lowestTotal highestTotal value ≡ true)
-total-formed day value e = let f = placed-within (eqb day 0) (within lowestTotal highestTotal value) 4 11 e in (eqb-true day 0 f.0, f.1)
+pub total-formed : (day : ℕ) (value : ℤ) → total_cut_refusal day value ≡ 0 → (day ≡ 0) × (within lowest_total highest_total value ≡ true)
+total-formed day value e = let f = placed_within (eqb day 0) (within lowest_total highest_total value) 4 11 e in (eqb-true day 0 f.0, f.1)
 
 -- its day is one of the profile's, or 0
-pub formed-day : (n : ℕ) (c : Cut) → malformed n c ≡ 0 → 0 < n → dayOf c < n
+pub formed-day : (n : ℕ) (c : Cut) → malformed n c ≡ 0 → 0 < n → day_of c < n
 formed-day n (DayFloor day value) e some = (day-formed n day value e).0
 formed-day n (DayCeiling day value) e some = (day-formed n day value e).0
 formed-day n (TotalFloor day value) e some = omega (arith, (total-formed day value e).0)
 formed-day n (TotalCeiling day value) e some = omega (arith, (total-formed day value e).0)
 
 -- no check before 8 refuses where the cut is well-formed, the list long enough and the session not spent
-pub earlier-none : (s : Session) (c : Cut) (room : ℕ) → malformed s.days c ≡ 0 → ltb room s.days ≡ false → s.spent ≡ false → eqb (earlyCutting s c room) 0 ≡ true
-unfolding earlyCutting
-earlier-none s c room e l a = rw (e, l, a) refl
+pub earlier_none : (s : Session) (c : Cut) (room : ℕ) → malformed s.days c ≡ 0 → ltb room s.days ≡ false → s.spent ≡ false → eqb (early_cutting s c room) 0 ≡ true
+unfolding early_cutting
+earlier_none s c room e l a = rw (e, l, a) refl
 
 -- and what is known where none refuses
 pub record Passed (s : Session) (c : Cut) (room : ℕ) : Type 0 where
@@ -67,8 +67,8 @@ pub record Passed (s : Session) (c : Cut) (room : ℕ) : Type 0 where
   pub roomy : ltb room s.days ≡ false
   pub unspent : s.spent ≡ false
 
-pub passed : (s : Session) (c : Cut) (room : ℕ) → eqb (earlyCutting s c room) 0 ≡ true → Passed s c room
-unfolding earlyCutting
+pub passed : (s : Session) (c : Cut) (room : ℕ) → eqb (early_cutting s c room) 0 ≡ true → Passed s c room
+unfolding early_cutting
 passed s c room = go (eqb (malformed s.days c) 0) (ltb room s.days) s.spent refl refl refl
   where
     go : (a b d : Bool) → eqb (malformed s.days c) 0 ≡ a → ltb room s.days ≡ b → s.spent ≡ d
@@ -79,92 +79,92 @@ passed s c room = go (eqb (malformed s.days c) 0) (ltb room s.days) s.spent refl
     go false b d p q r e = absurd (eqb-false (malformed s.days c) 0 p (eqb-true (malformed s.days c) 0 e))
 
 -- a refusal before 8 leaves the session
-pub refused-same : (s : Session) (c : Cut) (room : ℕ) → eqb (earlyCutting s c room) 0 ≡ false → afterCut s c room ≡ refusing (earlyCutting s c room) s
-unfolding afterCut
+pub refused-same : (s : Session) (c : Cut) (room : ℕ) → eqb (early_cutting s c room) 0 ≡ false → after_cut s c room ≡ refusing (early_cutting s c room) s
+unfolding after_cut
 refused-same s c room e = rw e refl
 
-pub accepted : (s : Session) (c : Cut) (room : ℕ) → eqb (earlyCutting s c room) 0 ≡ true → afterCut s c room ≡ tightenedTo s (retightened s (clipped s.present c))
-unfolding afterCut
+pub accepted : (s : Session) (c : Cut) (room : ℕ) → eqb (early_cutting s c room) 0 ≡ true → after_cut s c room ≡ tightened_to s (retightened s (clipped s.present c))
+unfolding after_cut
 accepted s c room e = rw e refl
 
 -- the lent list beside a refusal, and of an accepted cut
-pub refused-list : (s : Session) (r : AfterCut) (l : List ℕ) → (r.answer.refusal ≡ 0 → ⊥) → listAfter s r l ≡ l
-unfolding listAfter
+pub refused-list : (s : Session) (r : AfterCut) (l : List ℕ) → (r.answer.refusal ≡ 0 → ⊥) → list_after s r l ≡ l
+unfolding list_after
 refused-list s r l h = rw (ne_eqb r.answer.refusal 0 h) refl
 
-pub accepted-list : (s : Session) (r : AfterCut) (l : List ℕ) → r.answer.refusal ≡ 0 → listAfter s r l ≡ inFront (changedDays s.days s.present r.session.present) l
-unfolding listAfter
+pub accepted-list : (s : Session) (r : AfterCut) (l : List ℕ) → r.answer.refusal ≡ 0 → list_after s r l ≡ in_front (changed_days s.days s.present r.session.present) l
+unfolding list_after
 accepted-list s r l z = rw (eq-eqb r.answer.refusal 0 z) refl
 
 -- no more days change than there are
-pub changed-few : (n : ℕ) (before after : Ranges) → length (changedDays n before after) ≤ n
-changed-few n before after =
+pub changed_few : (n : ℕ) (before after : Ranges) → length (changed_days n before after) ≤ n
+changed_few n before after =
     omega (
       arith,
-      settled-length (lost before.floors before.ceilings after.floors after.ceilings) (daysWhere (differs before.floors before.ceilings after.floors after.ceilings) n),
-      days-few (differs before.floors before.ceilings after.floors after.ceilings) n,
+      settled-length (lost before.floors before.ceilings after.floors after.ceilings) (days_where (differs before.floors before.ceilings after.floors after.ceilings) n),
+      days_few (differs before.floors before.ceilings after.floors after.ceilings) n,
     )
 
 -- an accepted cut had a list that is long enough, and its count is that of the changed days
 pub record Accepted (s : Session) (room : ℕ) (r : AfterCut) : Type 0 where
   pub roomy : s.days ≤ room
-  pub counted : r.answer.changed ≡ length (changedDays s.days s.present r.session.present)
+  pub counted : r.answer.changed ≡ length (changed_days s.days s.present r.session.present)
   pub few : r.answer.changed ≤ s.days
 
-cut-accepted : (s : Session) (c : Cut) (room : ℕ) → (afterCut s c room).answer.refusal ≡ 0 → Accepted s room (afterCut s c room)
-cut-accepted s c room = go (eqb (earlyCutting s c room) 0) (retightened s (clipped s.present c)).found refl refl
+cut-accepted : (s : Session) (c : Cut) (room : ℕ) → (after_cut s c room).answer.refusal ≡ 0 → Accepted s room (after_cut s c room)
+cut-accepted s c room = go (eqb (early_cutting s c room) 0) (retightened s (clipped s.present c)).found refl refl
   where
-    go : (early found : Bool) → eqb (earlyCutting s c room) 0 ≡ early → (retightened s (clipped s.present c)).found ≡ found
-        → (afterCut s c room).answer.refusal ≡ 0 → Accepted s room (afterCut s c room)
-    go true true e f z = rw (accepted s c room e, f) (record { roomy = ltb-false room s.days (passed s c room e).roomy; counted = refl; few = changed-few s.days s.present (rangesOf (retightened s (clipped s.present c))) })
+    go : (early found : Bool) → eqb (early_cutting s c room) 0 ≡ early → (retightened s (clipped s.present c)).found ≡ found
+        → (after_cut s c room).answer.refusal ≡ 0 → Accepted s room (after_cut s c room)
+    go true true e f z = rw (accepted s c room e, f) (record { roomy = ltb-false room s.days (passed s c room e).roomy; counted = refl; few = changed_few s.days s.present (ranges_of (retightened s (clipped s.present c))) })
     go true false e f z = absurd (omega (arith, rw (accepted s c room e, f) at z))
-    go false found e f z = absurd (eqb-false (earlyCutting s c room) 0 e (rw (refused-same s c room e) at z))
+    go false found e f z = absurd (eqb-false (early_cutting s c room) 0 e (rw (refused-same s c room e) at z))
 
-pub numbered-accepted : (s : Session) (t : Numbered) (room : ℕ) → (afterNumbered s t room).answer.refusal ≡ 0 → Accepted s room (afterNumbered s t room)
-unfolding afterNumbered
+pub numbered-accepted : (s : Session) (t : Numbered) (room : ℕ) → (after_numbered s t room).answer.refusal ≡ 0 → Accepted s room (after_numbered s t room)
+unfolding after_numbered
 numbered-accepted s (Known c) room = cut-accepted s c room
 numbered-accepted s Unknown room = λ z. absurd (omega arith)
 
 -- refused or not, it has no more changed days than there are
-cut-few : (s : Session) (c : Cut) (room : ℕ) → (afterCut s c room).answer.changed ≤ s.days
-cut-few s c room = go (eqb (earlyCutting s c room) 0) (retightened s (clipped s.present c)).found refl refl
+cut_few : (s : Session) (c : Cut) (room : ℕ) → (after_cut s c room).answer.changed ≤ s.days
+cut_few s c room = go (eqb (early_cutting s c room) 0) (retightened s (clipped s.present c)).found refl refl
   where
-    go : (early found : Bool) → eqb (earlyCutting s c room) 0 ≡ early → (retightened s (clipped s.present c)).found ≡ found → (afterCut s c room).answer.changed ≤ s.days
-    go true true e f = rw (accepted s c room e, f) (changed-few s.days s.present (rangesOf (retightened s (clipped s.present c))))
+    go : (early found : Bool) → eqb (early_cutting s c room) 0 ≡ early → (retightened s (clipped s.present c)).found ≡ found → (after_cut s c room).answer.changed ≤ s.days
+    go true true e f = rw (accepted s c room e, f) (changed_few s.days s.present (ranges_of (retightened s (clipped s.present c))))
     go true false e f = rw (accepted s c room e, f) (omega arith)
     go false found e f = rw (refused-same s c room e) (omega arith)
 
-pub numbered-few : (s : Session) (t : Numbered) (room : ℕ) → (afterNumbered s t room).answer.changed ≤ s.days
-unfolding afterNumbered
-numbered-few s (Known c) room = cut-few s c room
-numbered-few s Unknown room = omega arith
+pub numbered_few : (s : Session) (t : Numbered) (room : ℕ) → (after_numbered s t room).answer.changed ≤ s.days
+unfolding after_numbered
+numbered_few s (Known c) room = cut_few s c room
+numbered_few s Unknown room = omega arith
 
 -- ---- in bounds
 
-pub clipped-in-bounds : (rs : List ℕ) (n first : ℕ) (r : Ranges) (c : Cut) → Fits rs n first r → malformed n c ≡ 0 → Fits rs n first (clipped r c)
+pub clipped_in_bounds : (rs : List ℕ) (n first : ℕ) (r : Ranges) (c : Cut) → Fits rs n first r → malformed n c ≡ 0 → Fits rs n first (clipped r c)
 unfolding clipped
-clipped-in-bounds rs n first r (DayFloor day value) b e =
+clipped_in_bounds rs n first r (DayFloor day value) b e =
     let f = day-formed n day value e in
-    let w : ℕ = max (at r.floors day) (code lowestPoint value) in
+    let w : ℕ = max (at r.floors day) (code lowest_point value) in
     refit b (length-set r.floors day w ∙ b.floors) b.ceilings
-    (λ k h. by-cell (λ _ a. a ≤ 5000) 0 r.floors day w (omega (arith, b.floors, b.most)) (omega (arith, b.floor day f.0, point-most value f.1)) k (b.floor k h))
+    (λ k h. by_cell (λ _ a. a ≤ 5000) 0 r.floors day w (omega (arith, b.floors, b.most)) (omega (arith, b.floor day f.0, point_most value f.1)) k (b.floor k h))
     b.ceiling b.lowest b.highest
-clipped-in-bounds rs n first r (DayCeiling day value) b e =
+clipped_in_bounds rs n first r (DayCeiling day value) b e =
     let f = day-formed n day value e in
-    let w : ℕ = min (at r.ceilings day) (code lowestPoint value) in
+    let w : ℕ = min (at r.ceilings day) (code lowest_point value) in
     refit b b.floors (length-set r.ceilings day w ∙ b.ceilings) b.floor
-    (λ k h. by-cell (λ _ a. a ≤ 5000) 0 r.ceilings day w (omega (arith, b.ceilings, b.most)) (omega (arith, b.ceiling day f.0)) k (b.ceiling k h))
+    (λ k h. by_cell (λ _ a. a ≤ 5000) 0 r.ceilings day w (omega (arith, b.ceilings, b.most)) (omega (arith, b.ceiling day f.0)) k (b.ceiling k h))
     b.lowest b.highest
-clipped-in-bounds rs n first r (TotalFloor day value) b e =
+clipped_in_bounds rs n first r (TotalFloor day value) b e =
     refit b b.floors b.ceilings b.floor b.ceiling (omega (arith, b.lowest, total-most value (total-formed day value e).1)) b.highest
-clipped-in-bounds rs n first r (TotalCeiling day value) b e = refit b b.floors b.ceilings b.floor b.ceiling b.lowest (omega (arith, b.highest))
+clipped_in_bounds rs n first r (TotalCeiling day value) b e = refit b b.floors b.ceilings b.floor b.ceiling b.lowest (omega (arith, b.highest))
 
 -- ---- clipping and tightening leave no range that is not within the one before
 
 clipped-floor : (n : ℕ) (r : Ranges) (c : Cut) → malformed n c ≡ 0 → n ≤ length r.floors → (k : ℕ) → at r.floors k ≤ at (clipped r c).floors k
 unfolding clipped
 clipped-floor n r (DayFloor day value) e room k =
-    by-cell (λ j a. at r.floors j ≤ a) 0 r.floors day (max (at r.floors day) (code lowestPoint value)) (omega (arith, (day-formed n day value e).0)) (omega arith) k
+    by_cell (λ j a. at r.floors j ≤ a) 0 r.floors day (max (at r.floors day) (code lowest_point value)) (omega (arith, (day-formed n day value e).0)) (omega arith) k
     (omega arith)
 clipped-floor n r (DayCeiling day value) e room k = omega arith
 clipped-floor n r (TotalFloor day value) e room k = omega arith
@@ -173,18 +173,18 @@ clipped-floor n r (TotalCeiling day value) e room k = omega arith
 clipped-ceiling : (n : ℕ) (r : Ranges) (c : Cut) → malformed n c ≡ 0 → n ≤ length r.ceilings → (k : ℕ) → at (clipped r c).ceilings k ≤ at r.ceilings k
 unfolding clipped
 clipped-ceiling n r (DayCeiling day value) e room k =
-    by-cell (λ j a. a ≤ at r.ceilings j) 0 r.ceilings day (min (at r.ceilings day) (code lowestPoint value)) (omega (arith, (day-formed n day value e).0)) (omega arith) k
+    by_cell (λ j a. a ≤ at r.ceilings j) 0 r.ceilings day (min (at r.ceilings day) (code lowest_point value)) (omega (arith, (day-formed n day value e).0)) (omega arith) k
     (omega arith)
 clipped-ceiling n r (DayFloor day value) e room k = omega arith
 clipped-ceiling n r (TotalFloor day value) e room k = omega arith
 clipped-ceiling n r (TotalCeiling day value) e room k = omega arith
 
-pub tightened-narrows : (s : Session) (c : Cut) → SessionInBounds s → malformed s.days c ≡ 0 → {t : Tight} → t ≡ retightened s (clipped s.present c) → t.found ≡ true
+pub tightened_narrows : (s : Session) (c : Cut) → SessionInBounds s → malformed s.days c ≡ 0 → {t : Tight} → t ≡ retightened s (clipped s.present c) → t.found ≡ true
     → Narrowed s.present.floors s.present.ceilings t.floors t.ceilings s.days
-tightened-narrows s c b e {t} is found =
+tightened_narrows s c b e {t} is found =
     let fits = b.present in
-    let x : Exact (boxOf s.rises s.days s.first (clipped s.present c)) t =
-    rw is (exact (clipped-in-bounds s.rises s.days s.first s.present c fits e) (rw is at found)) in
+    let x : Exact (box_of s.rises s.days s.first (clipped s.present c)) t =
+    rw is (exact (clipped_in_bounds s.rises s.days s.first s.present c fits e) (rw is at found)) in
     record {
       floor = λ k h. omega (arith, clipped-floor s.days s.present c e (omega (arith, fits.floors, fits.most)) k, floor-kept x k h);
       some = λ k h. inl (x.day k h).some;
@@ -196,36 +196,36 @@ tightened-narrows s c b e {t} is found =
 abbrev pub Narrows : Session → Session → Type 0
 Narrows s u = Narrowed s.present.floors s.present.ceilings u.present.floors u.present.ceilings s.days
 
-cut-narrows : (s : Session) (c : Cut) (room : ℕ) → SessionInBounds s → (afterCut s c room).answer.refusal ≡ 0 → Narrows s (afterCut s c room).session
-cut-narrows s c room b = go (eqb (earlyCutting s c room) 0) (retightened s (clipped s.present c)).found refl refl
+cut_narrows : (s : Session) (c : Cut) (room : ℕ) → SessionInBounds s → (after_cut s c room).answer.refusal ≡ 0 → Narrows s (after_cut s c room).session
+cut_narrows s c room b = go (eqb (early_cutting s c room) 0) (retightened s (clipped s.present c)).found refl refl
   where
-    go : (early found : Bool) → eqb (earlyCutting s c room) 0 ≡ early → (retightened s (clipped s.present c)).found ≡ found
-        → (afterCut s c room).answer.refusal ≡ 0 → Narrows s (afterCut s c room).session
-    go true true e f z = rw (accepted s c room e, f) (tightened-narrows s c b (passed s c room e).formed refl f)
+    go : (early found : Bool) → eqb (early_cutting s c room) 0 ≡ early → (retightened s (clipped s.present c)).found ≡ found
+        → (after_cut s c room).answer.refusal ≡ 0 → Narrows s (after_cut s c room).session
+    go true true e f z = rw (accepted s c room e, f) (tightened_narrows s c b (passed s c room e).formed refl f)
     go true false e f z = absurd (omega (arith, rw (accepted s c room e, f) at z))
-    go false found e f z = absurd (eqb-false (earlyCutting s c room) 0 e (rw (refused-same s c room e) at z))
+    go false found e f z = absurd (eqb-false (early_cutting s c room) 0 e (rw (refused-same s c room e) at z))
 
-pub numbered-narrows : (s : Session) (t : Numbered) (room : ℕ) → SessionInBounds s → (afterNumbered s t room).answer.refusal ≡ 0 → Narrows s (afterNumbered s t room).session
-unfolding afterNumbered
-numbered-narrows s (Known c) room b = cut-narrows s c room b
-numbered-narrows s Unknown room b = λ z. absurd (omega arith)
+pub numbered_narrows : (s : Session) (t : Numbered) (room : ℕ) → SessionInBounds s → (after_numbered s t room).answer.refusal ≡ 0 → Narrows s (after_numbered s t room).session
+unfolding after_numbered
+numbered_narrows s (Known c) room b = cut_narrows s c room b
+numbered_narrows s Unknown room b = λ z. absurd (omega arith)
 
 -- ---- in bounds after a cut
 
-pub cut-in-bounds : (s : Session) (c : Cut) (room : ℕ) → SessionInBounds s → SessionInBounds (afterCut s c room).session
-cut-in-bounds s c room b = go (eqb (earlyCutting s c room) 0) (retightened s (clipped s.present c)).found refl refl
+pub cut_in_bounds : (s : Session) (c : Cut) (room : ℕ) → SessionInBounds s → SessionInBounds (after_cut s c room).session
+cut_in_bounds s c room b = go (eqb (early_cutting s c room) 0) (retightened s (clipped s.present c)).found refl refl
   where
-    go : (early found : Bool) → eqb (earlyCutting s c room) 0 ≡ early → (retightened s (clipped s.present c)).found ≡ found → SessionInBounds (afterCut s c room).session
+    go : (early found : Bool) → eqb (early_cutting s c room) 0 ≡ early → (retightened s (clipped s.present c)).found ≡ found → SessionInBounds (after_cut s c room).session
     go true true e f =
-        let fits = clipped-in-bounds s.rises s.days s.first s.present c b.present (passed s c room e).formed in
-        rw (accepted s c room e, f) (record { opened = b.opened; present = exact-in-bounds (exact fits f) fits })
+        let fits = clipped_in_bounds s.rises s.days s.first s.present c b.present (passed s c room e).formed in
+        rw (accepted s c room e, f) (record { opened = b.opened; present = exact_in_bounds (exact fits f) fits })
     go true false e f = rw (accepted s c room e, f) (record { opened = b.opened; present = b.opened })
     go false found e f = rw (refused-same s c room e) b
 
-pub numbered-in-bounds : (s : Session) (t : Numbered) (room : ℕ) → SessionInBounds s → SessionInBounds (afterNumbered s t room).session
-unfolding afterNumbered
-numbered-in-bounds s (Known c) room b = cut-in-bounds s c room b
-numbered-in-bounds s Unknown room b = b
+pub numbered_in_bounds : (s : Session) (t : Numbered) (room : ℕ) → SessionInBounds s → SessionInBounds (after_numbered s t room).session
+unfolding after_numbered
+numbered_in_bounds s (Known c) room b = cut_in_bounds s c room b
+numbered_in_bounds s Unknown room b = b
 
 -- ---- what a cut keeps of a session
 
@@ -244,10 +244,10 @@ keeps-refused : (s : Session) (number : ℕ) → Keeps s (refusing number s)
 keeps-refused s number =
     record { days = refl; first = refl; rises = refl; opened = refl; left = λ h k. refl; stays = λ h u. refl; spent = λ u. refl; spends = λ u v. absurd (true≢false (sym v ∙ u)) }
 
-cut_keeps : (s : Session) (c : Cut) (room : ℕ) → Keeps s (afterCut s c room)
-cut_keeps s c room = go (eqb (earlyCutting s c room) 0) (retightened s (clipped s.present c)).found refl refl
+cut_keeps : (s : Session) (c : Cut) (room : ℕ) → Keeps s (after_cut s c room)
+cut_keeps s c room = go (eqb (early_cutting s c room) 0) (retightened s (clipped s.present c)).found refl refl
   where
-    go : (early found : Bool) → eqb (earlyCutting s c room) 0 ≡ early → (retightened s (clipped s.present c)).found ≡ found → Keeps s (afterCut s c room)
+    go : (early found : Bool) → eqb (early_cutting s c room) 0 ≡ early → (retightened s (clipped s.present c)).found ≡ found → Keeps s (after_cut s c room)
     go true true e f =
         let unspent = (passed s c room e).unspent in
         rw (accepted s c room e, f) (record {
@@ -272,17 +272,17 @@ cut_keeps s c room = go (eqb (earlyCutting s c room) 0) (retightened s (clipped 
           spent = λ u. absurd (true≢false (sym u ∙ unspent));
           spends = λ u v. refl;
         })
-    go false found e f = rw (refused-same s c room e) (keeps-refused s (earlyCutting s c room))
+    go false found e f = rw (refused-same s c room e) (keeps-refused s (early_cutting s c room))
 
-pub keeps : (s : Session) (t : Numbered) (room : ℕ) → Keeps s (afterNumbered s t room)
-unfolding afterNumbered
+pub keeps : (s : Session) (t : Numbered) (room : ℕ) → Keeps s (after_numbered s t room)
+unfolding after_numbered
 keeps s (Known c) room = cut_keeps s c room
 keeps s Unknown room = keeps-refused s 12
 
 -- a cut that does not spend the session leaves no range that is not the one before, or within it
-pub numbered_within : (s : Session) (t : Numbered) (room : ℕ) → SessionInBounds s → (afterNumbered s t room).session.spent ≡ false → Narrows s (afterNumbered s t room).session
-numbered_within s t room b u = go (ℕ_discrete (afterNumbered s t room).answer.refusal 0)
+pub numbered_within : (s : Session) (t : Numbered) (room : ℕ) → SessionInBounds s → (after_numbered s t room).session.spent ≡ false → Narrows s (after_numbered s t room).session
+numbered_within s t room b u = go (ℕ_discrete (after_numbered s t room).answer.refusal 0)
   where
-    go : Dec ((afterNumbered s t room).answer.refusal ≡ 0) → Narrows s (afterNumbered s t room).session
-    go (yes z) = numbered-narrows s t room b z
+    go : Dec ((after_numbered s t room).answer.refusal ≡ 0) → Narrows s (after_numbered s t room).session
+    go (yes z) = numbered_narrows s t room b z
     go (no h) = rw ((keeps s t room).stays h u) (narrowed_none s.present.floors s.present.ceilings s.days b.present.ceiling)

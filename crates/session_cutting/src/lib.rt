@@ -1,13 +1,13 @@
 // Cuts on a session by value: document 01's four kinds.
 ghost use Rattle.std.specs.Prelude.{◌≡◌, ◌≤◌, ◌<◌, length};
-ghost use Rattle.limits.specs.Limits.{lowestPoint, highestPoint, lowestTotal, highestTotal};
+ghost use Rattle.limits.specs.Limits.{lowest_point, highest_point, lowest_total, highest_total};
 ghost use Rattle.session_cuts.specs.Numbered.{numbered};
 ghost use Rattle.base_codes.specs.Code.{coded};
 ghost use Rattle.theory_method.specs.Filter.{InBounds, tightened};
 ghost use Rattle.tighten_filtering.specs.Boxed.{boxed};
-ghost use Rattle.session.specs.Showing.{SessionInBounds, boxOf};
-ghost use Rattle.session_cutting.specs.Cutting.{malformed, clipped, retightened, spend, withPresent, refusing, tightenedTo, afterCut, afterNumbered, listAfter};
-ghost use Rattle.session_cutting.specs.Stages.{checkedValue, checkedCut, Clips};
+ghost use Rattle.session.specs.Showing.{SessionInBounds, box_of};
+ghost use Rattle.session_cutting.specs.Cutting.{malformed, clipped, retightened, spend, with_present, refusing, tightened_to, after_cut, after_numbered, list_after};
+ghost use Rattle.session_cutting.specs.Stages.{checked_value, checked_cut, Clips};
 
 use base_codes::{Coded, CodedNumbers};
 use base_numbers::{max, min, wide};
@@ -45,7 +45,7 @@ struct Total {
 
 // `otherwise` for a day that the cut can't have, then `outside` for a value outside its bounds.
 fn check_value(placed: bool, otherwise: u8, value: Coded, outside: u8) -> Checked
-    ensures { result ≡ checkedValue placed otherwise value outside }
+    ensures { result ≡ checked_value placed otherwise value outside }
 {
     if !placed {
         return Checked {
@@ -67,7 +67,7 @@ fn check_value(placed: bool, otherwise: u8, value: Coded, outside: u8) -> Checke
 
 // 7, then 3.
 fn check_day(placed: bool, value: i32) -> Checked
-    ensures { result ≡ checkedValue placed 7 (coded lowestPoint highestPoint value) 3 }
+    ensures { result ≡ checked_value placed 7 (coded lowest_point highest_point value) 3 }
 {
     let level = base_codes::code(value, Session::LOWEST_POINT, Session::HIGHEST_POINT);
     check_value(placed, 7, level, 3)
@@ -75,7 +75,7 @@ fn check_day(placed: bool, value: i32) -> Checked
 
 // 12, then 5.
 fn check_total(placed: bool, value: i32) -> Checked
-    ensures { result ≡ checkedValue placed 12 (coded lowestTotal highestTotal value) 5 }
+    ensures { result ≡ checked_value placed 12 (coded lowest_total highest_total value) 5 }
 {
     let total = base_codes::code(value, Session::LOWEST_TOTAL, Session::HIGHEST_TOTAL);
     check_value(placed, 12, total, 5)
@@ -83,7 +83,7 @@ fn check_total(placed: bool, value: i32) -> Checked
 
 // The refusal of a cut by itself, whatever the session: 12, 7, then 3 or 5, else 0; and its value.
 pub fn check(cut: Cut, days: usize) -> Checked
-    ensures { result ≡ checkedCut days cut }
+    ensures { result ≡ checked_cut days cut }
 {
     match cut {
         Cut::DayFloor(day, value) => check_day(day < days, value),
@@ -143,7 +143,7 @@ pub fn cut_ranges(
     value: usize,
 ) -> Totals
     requires { InBounds (boxed floors.old ceilings.old rises.now numbers) × (malformed numbers.days cut ≡ 0) × Clips cut value }
-    ensures { record { found = result.found; floors = floors.exit.now; ceilings = ceilings.new; lowest = result.lowest; highest = result.highest } ≡ tightened (boxOf rises.now numbers.days numbers.first (clipped (record { floors = floors.entry.now; ceilings = ceilings.old; lowest = numbers.lowest; highest = numbers.highest }) cut)) }
+    ensures { record { found = result.found; floors = floors.exit.now; ceilings = ceilings.new; lowest = result.lowest; highest = result.highest } ≡ tightened (box_of rises.now numbers.days numbers.first (clipped (record { floors = floors.entry.now; ceilings = ceilings.old; lowest = numbers.lowest; highest = numbers.highest }) cut)) }
 {
     let n = numbers.days;
     let total = clip(
@@ -187,7 +187,7 @@ fn spend(session: Session) -> AfterCut
 }
 
 fn accept(session: Session, ranges: Ranges, changed: usize) -> AfterCut
-    ensures { result ≡ record { answer = record { refusal = 0; changed = changed }; session = withPresent session ranges } }
+    ensures { result ≡ record { answer = record { refusal = 0; changed = changed }; session = with_present session ranges } }
 {
     let mut after = session;
     after.present = ranges;
@@ -203,8 +203,8 @@ fn accept(session: Session, ranges: Ranges, changed: usize) -> AfterCut
 // Clips by a well-formed cut and tightens everything again: 8, or the days that changed.
 fn tighten_again(session: Session, cut: Cut, value: usize, changed: &mut [u16]) -> AfterCut
     requires { SessionInBounds session × (malformed session.days cut ≡ 0) × Clips cut value × (session.days ≤ length changed.old) }
-    ensures value { result ≡ tightenedTo session (retightened session (clipped session.present cut)) }
-    ensures changed_after { changed.new ≡ listAfter session result changed.old }
+    ensures value { result ≡ tightened_to session (retightened session (clipped session.present cut)) }
+    ensures changed_after { changed.new ≡ list_after session result changed.old }
 {
     let n = session.days;
     // A copy costs less than a field that is lent, for which the compiled code copies the session.
@@ -237,8 +237,8 @@ fn tighten_again(session: Session, cut: Cut, value: usize, changed: &mut [u16]) 
 // Clips the session's ranges and tightens everything again; document 01's checks 12, 7, 3 or 5, 2, 9, then 8.
 pub fn cut(session: Session, cut: Cut, changed: &mut [u16]) -> AfterCut
     requires { SessionInBounds session }
-    ensures value { result ≡ afterCut session cut (length changed.old) }
-    ensures changed_after { changed.new ≡ listAfter session result changed.old }
+    ensures value { result ≡ after_cut session cut (length changed.old) }
+    ensures changed_after { changed.new ≡ list_after session result changed.old }
 {
     let n = session.days;
     let checked = check(cut, n);
@@ -257,8 +257,8 @@ pub fn cut(session: Session, cut: Cut, changed: &mut [u16]) -> AfterCut
 // The same for a cut whose kind may be unknown, which is 12.
 pub fn cut_asked(session: Session, asked: Numbered, changed: &mut [u16]) -> AfterCut
     requires { SessionInBounds session }
-    ensures value { result ≡ afterNumbered session asked (length changed.old) }
-    ensures changed_after { changed.new ≡ listAfter session result changed.old }
+    ensures value { result ≡ after_numbered session asked (length changed.old) }
+    ensures changed_after { changed.new ≡ list_after session result changed.old }
 {
     let Numbered::Known(known) = asked else {
         return refuse(session, 12);
@@ -275,8 +275,8 @@ pub fn cut_numbered(
     changed: &mut [u16],
 ) -> AfterCut
     requires { SessionInBounds session }
-    ensures value { result ≡ afterNumbered session (numbered kind day value) (length changed.old) }
-    ensures changed_after { changed.new ≡ listAfter session result changed.old }
+    ensures value { result ≡ after_numbered session (numbered kind day value) (length changed.old) }
+    ensures changed_after { changed.new ≡ list_after session result changed.old }
 {
     cut_asked(session, Cut::numbered(kind, day, value), changed)
 }

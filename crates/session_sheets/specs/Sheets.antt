@@ -1,12 +1,12 @@
 -- Request Three: a sheet of cuts in one press. The session and the answers are those of single calls made in that order, refused ones included.
 use Rattle.std.specs.Prelude.{cond, List, [], ℕ, zero, suc, eqb, ltb, length, get_or, replicate}
-use Rattle.limits.specs.Limits.{mostCuts}
+use Rattle.limits.specs.Limits.{most_cuts}
 use Rattle.theory_lists.specs.Written.{written}
-use Rattle.theory_lists.specs.Front.{inFront}
+use Rattle.theory_lists.specs.Front.{in_front}
 use Rattle.session.specs.declared.Session.{Session}
 use Rattle.session_cuts.specs.declared.Numbered.{Numbered}
 use Rattle.session_cuts.specs.declared.Numbered.TheVariants.{Unknown}
-use Rattle.session_cutting.specs.Cutting.{changedDays, afterNumbered}
+use Rattle.session_cutting.specs.Cutting.{changed_days, after_numbered}
 use Rattle.session_cutting.specs.declared.CutAnswer.{CutAnswer}
 use Rattle.session_sheets.specs.declared.Asked.{Asked}
 use Rattle.session_sheets.specs.declared.AskedSheet.{AskedSheet}
@@ -17,55 +17,55 @@ use Rattle.session_sheets.specs.declared.AfterSheet.{AfterSheet}
 -- ---- the cuts, each a single call with a list of n places for changed days
 
 -- the session after the first j cuts
-unfoldable pub afterCuts : Session → (ℕ → Numbered) → ℕ → Session
-afterCuts s f zero = s
-afterCuts s f (suc j) = (afterNumbered (afterCuts s f j) (f j) s.days).session
+unfoldable pub after_cuts : Session → (ℕ → Numbered) → ℕ → Session
+after_cuts s f zero = s
+after_cuts s f (suc j) = (after_numbered (after_cuts s f j) (f j) s.days).session
 
 -- what cut j is answered, from the session that the one before left
-abbrev pub answerOn : Session → (ℕ → Numbered) → ℕ → CutAnswer
-answerOn s f j = (afterNumbered (afterCuts s f j) (f j) s.days).answer
+abbrev pub answer_on : Session → (ℕ → Numbered) → ℕ → CutAnswer
+answer_on s f j = (after_numbered (after_cuts s f j) (f j) s.days).answer
 
 -- ---- the sheet
 
 -- the refusals before the first cut: 1 for more than 512 cuts, 14 for a list of answers shorter than the sheet, 2 for a list of changed days shorter than n; or 0
-unfoldable pub sheetRefusal : ℕ → ℕ → ℕ → ℕ → ℕ
-sheetRefusal n m answers changed = cond (ltb mostCuts m) 1 (cond (ltb answers m) 14 (cond (ltb changed n) 2 0))
+unfoldable pub sheet_refusal : ℕ → ℕ → ℕ → ℕ → ℕ
+sheet_refusal n m answers changed = cond (ltb most_cuts m) 1 (cond (ltb answers m) 14 (cond (ltb changed n) 2 0))
 
 -- the days that differ between the start and the end, in the order of request Two; none if the session ends spent
-abbrev pub sheetDays : Session → Session → List ℕ
-sheetDays s e = cond e.spent [] (changedDays s.days s.present e.present)
+abbrev pub sheet_days : Session → Session → List ℕ
+sheet_days s e = cond e.spent [] (changed_days s.days s.present e.present)
 
 -- ---- a sheet by value
 
 -- what stands past a sheet's cuts, and past its answers
-abbrev pub notAsked : Asked
-notAsked = record { cut = Unknown }
+abbrev pub not_asked : Asked
+not_asked = record { cut = Unknown }
 
-abbrev pub notAnswered : Answered
-notAnswered = record { cut = Unknown; answer = record { refusal = 0; changed = 0 } }
+abbrev pub not_answered : Answered
+not_answered = record { cut = Unknown; answer = record { refusal = 0; changed = 0 } }
 
-abbrev pub askedOn : AskedSheet → ℕ → Numbered
-askedOn t j = (get_or t.entries j notAsked).cut
+abbrev pub asked_on : AskedSheet → ℕ → Numbered
+asked_on t j = (get_or t.entries j not_asked).cut
 
 -- the answers of the first m cuts, each beside its cut as it was asked
-unfoldable pub answersTo : Session → (ℕ → Numbered) → ℕ → Answers
-answersTo s f m = record { count = m; entries = written (λ j. record { cut = f j; answer = answerOn s f j }) m (replicate mostCuts notAnswered) }
+unfoldable pub answers_to : Session → (ℕ → Numbered) → ℕ → Answers
+answers_to s f m = record { count = m; entries = written (λ j. record { cut = f j; answer = answer_on s f j }) m (replicate most_cuts not_answered) }
 
 -- beside a refusal's number: no answer, no changed day, and the session as it was, since a refused sheet makes no cut
-abbrev pub refusedSheet : ℕ → Session → AfterSheet
-refusedSheet number s = record { refusal = number; changed = 0; answers = record { count = 0; entries = replicate mostCuts notAnswered }; session = s }
+abbrev pub refused_sheet : ℕ → Session → AfterSheet
+refused_sheet number s = record { refusal = number; changed = 0; answers = record { count = 0; entries = replicate most_cuts not_answered }; session = s }
 
-abbrev pub takenSheet : Session → (ℕ → Numbered) → ℕ → AfterSheet
-takenSheet s f m =
-    let e : Session = afterCuts s f m in
-    record { refusal = 0; changed = length (sheetDays s e); answers = answersTo s f m; session = e }
+abbrev pub taken_sheet : Session → (ℕ → Numbered) → ℕ → AfterSheet
+taken_sheet s f m =
+    let e : Session = after_cuts s f m in
+    record { refusal = 0; changed = length (sheet_days s e); answers = answers_to s f m; session = e }
 
 -- what a sheet gives, where there is room for that many answers and changed days
-unfoldable pub afterSheet : Session → AskedSheet → ℕ → ℕ → AfterSheet
-afterSheet s t answers changed =
-    let refusal : ℕ = sheetRefusal s.days t.count answers changed in
-    cond (eqb refusal 0) (takenSheet s (askedOn t) t.count) (refusedSheet refusal s)
+unfoldable pub after_sheet : Session → AskedSheet → ℕ → ℕ → AfterSheet
+after_sheet s t answers changed =
+    let refusal : ℕ = sheet_refusal s.days t.count answers changed in
+    cond (eqb refusal 0) (taken_sheet s (asked_on t) t.count) (refused_sheet refusal s)
 
 -- the lent list afterwards: as it was beside a refusal, or if the session ends spent
-unfoldable pub listAfterSheet : Session → AfterSheet → List ℕ → List ℕ
-listAfterSheet s r l = cond (eqb r.refusal 0) (inFront (sheetDays s r.session) l) l
+unfoldable pub list_after_sheet : Session → AfterSheet → List ℕ → List ℕ
+list_after_sheet s r l = cond (eqb r.refusal 0) (in_front (sheet_days s r.session) l) l

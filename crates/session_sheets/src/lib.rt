@@ -1,11 +1,11 @@
 // A sheet of cuts on a session by value (request Three).
 ghost use Rattle.std.specs.Prelude.{◌≡◌, false, ◌≤◌, length, get_or};
-ghost use Rattle.limits.specs.Limits.{mostCuts};
+ghost use Rattle.limits.specs.Limits.{most_cuts};
 ghost use Rattle.session.specs.Showing.{SessionInBounds};
 ghost use Rattle.session_changed.specs.Changes.{Narrowed};
-ghost use Rattle.session_cutting.specs.Cutting.{afterNumbered};
-ghost use Rattle.theory_lists.specs.Front.{inFront};
-ghost use Rattle.session_sheets.specs.Sheets.{notAsked, afterCuts, answersTo, sheetRefusal, sheetDays, refusedSheet, afterSheet, listAfterSheet};
+ghost use Rattle.session_cutting.specs.Cutting.{after_numbered};
+ghost use Rattle.theory_lists.specs.Front.{in_front};
+ghost use Rattle.session_sheets.specs.Sheets.{not_asked, after_cuts, answers_to, sheet_refusal, sheet_days, refused_sheet, after_sheet, list_after_sheet};
 
 use limits::{MOST_CUTS, MOST_DAYS};
 use session::Session;
@@ -57,7 +57,7 @@ struct Made {
 
 // 1, 14, then 2, else 0: what a sheet is refused for before its first cut.
 pub fn sheet_refusal(days: usize, cuts: usize, answers: usize, changed: usize) -> u8
-    ensures { result ≡ sheetRefusal days cuts answers changed }
+    ensures { result ≡ sheet_refusal days cuts answers changed }
 {
     if MOST_CUTS < cuts {
         return 1;
@@ -76,7 +76,7 @@ pub fn sheet_refusal(days: usize, cuts: usize, answers: usize, changed: usize) -
 // One cut more on the session that the one before left.
 fn cut_once(after: AfterCut, asked: Asked) -> AfterCut
     requires { SessionInBounds after.session }
-    ensures { (result ≡ afterNumbered after.session asked.cut after.session.days) × SessionInBounds result.session }
+    ensures { (result ≡ after_numbered after.session asked.cut after.session.days) × SessionInBounds result.session }
 {
     let session = after.session;
     let n = session.days;
@@ -118,8 +118,8 @@ fn gather(count: usize, entries: [Answered; MOST_CUTS], after: AfterCut) -> Made
 
 // Makes the first `count` cuts in order.
 fn cut_all(session: Session, count: usize, asked: [Asked; MOST_CUTS]) -> Made
-    requires { SessionInBounds session × (count ≤ mostCuts) }
-    ensures { result ≡ record { answers = answersTo session (λ j. (get_or asked j notAsked).cut) count; session = afterCuts session (λ j. (get_or asked j notAsked).cut) count } }
+    requires { SessionInBounds session × (count ≤ most_cuts) }
+    ensures { result ≡ record { answers = answers_to session (λ j. (get_or asked j not_asked).cut) count; session = after_cuts session (λ j. (get_or asked j not_asked).cut) count } }
 {
     let mut after = start(session);
     let blank = Answered {
@@ -144,8 +144,8 @@ fn cut_all(session: Session, count: usize, asked: [Asked; MOST_CUTS]) -> Made
 // Lists the days that differ between the start and the end, unless the session ends spent; gives their number.
 fn list_end(start: Session, end: Session, changed: &mut [u16]) -> usize
     requires { SessionInBounds start × (end.spent ≡ false → Narrowed start.present.floors start.present.ceilings end.present.floors end.present.ceilings start.days) × (start.days ≤ length changed.old) }
-    ensures value { result ≡ length (sheetDays start end) }
-    ensures changed_after { changed.new ≡ inFront (sheetDays start end) changed.old }
+    ensures value { result ≡ length (sheet_days start end) }
+    ensures changed_after { changed.new ≡ in_front (sheet_days start end) changed.old }
 {
     if end.spent {
         return 0;
@@ -160,7 +160,7 @@ fn list_end(start: Session, end: Session, changed: &mut [u16]) -> usize
 }
 
 fn refuse(number: u8, session: Session) -> AfterSheet
-    ensures { result ≡ refusedSheet number session }
+    ensures { result ≡ refused_sheet number session }
 {
     let blank = Answered {
         cut: Numbered::Unknown,
@@ -188,8 +188,8 @@ pub fn cut_sheet(
     changed: &mut [u16],
 ) -> AfterSheet
     requires { SessionInBounds session }
-    ensures value { result ≡ afterSheet session sheet room (length changed.old) }
-    ensures changed_after { changed.new ≡ listAfterSheet session result changed.old }
+    ensures value { result ≡ after_sheet session sheet room (length changed.old) }
+    ensures changed_after { changed.new ≡ list_after_sheet session result changed.old }
 {
     let count = sheet.count;
     let refusal = sheet_refusal(session.days, count, room, changed.len());

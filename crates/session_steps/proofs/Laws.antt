@@ -10,33 +10,33 @@ use lib.ListN.{length, set, length-append}
 use Rattle.theory_lists.specs.Sum.{at}
 use Rattle.theory_lists.specs.Filled.{Filled, filled_none, filled_more, filled-all}
 use Rattle.theory_lists.specs.Written.{written, length-written, written_below, written-past}
-use Rattle.session_order.specs.Order.{daysWhere, losers}
-use Rattle.session_order.proofs.Days.{days-few, days-same}
+use Rattle.session_order.specs.Order.{days_where, losers}
+use Rattle.session_order.proofs.Days.{days_few, days-same}
 use Rattle.session_order.proofs.Settled.{settled-length}
 use Rattle.session_changed.specs.Changes.{lost}
 use Rattle.session_changed.proofs.Laws.{narrowed-losers}
 use Rattle.theory_method.specs.Filter.{InBounds, Tight, tightened}
 use Rattle.tighten_filtering.specs.Boxed.{boxed}
-use Rattle.session.specs.Opening.{rangesOf}
-use Rattle.session.specs.Showing.{boxOf, SessionInBounds}
+use Rattle.session.specs.Opening.{ranges_of}
+use Rattle.session.specs.Showing.{box_of, SessionInBounds}
 use Rattle.session.specs.declared.Session.{Session}
 use Rattle.session_cuts.specs.declared.Cut.{Cut}
 use Rattle.session_cuts.specs.declared.Numbered.{Numbered}
 use Rattle.session_cuts.specs.declared.Numbered.TheVariants.{Known}
-use Rattle.session_cutting.specs.Cutting.{malformed, clipped, retightened, changedDays, spend, refusing, tightenedTo, afterNumbered}
-use Rattle.session_cutting.proofs.Laws.{tightened-narrows}
+use Rattle.session_cutting.specs.Cutting.{malformed, clipped, retightened, changed_days, spend, refusing, tightened_to, after_numbered}
+use Rattle.session_cutting.proofs.Laws.{tightened_narrows}
 use Rattle.session_cutting.proofs.Stages.{again-found, again-none, cut-taken, numbered-known}
 use Rattle.session_steps.specs.Steps.{width, Holds, Stepped}
 use Rattle.session_steps.specs.declared.Step.{Step}
 
 -- ---- widths
 
-days-count : (test : ℕ → Bool) (n : ℕ) → length (daysWhere test (n + 1)) ≡ cond (test n) (length (daysWhere test n) + 1) (length (daysWhere test n))
-unfolding daysWhere
+days-count : (test : ℕ → Bool) (n : ℕ) → length (days_where test (n + 1)) ≡ cond (test n) (length (days_where test n) + 1) (length (days_where test n))
+unfolding days_where
 days-count test n = rw (add-one n) (go (test n))
   where
-    go : (b : Bool) → length (cond b (daysWhere test n ++ n ∷ []) (daysWhere test n)) ≡ cond b (length (daysWhere test n) + 1) (length (daysWhere test n))
-    go true = length-append (daysWhere test n) (n ∷ [])
+    go : (b : Bool) → length (cond b (days_where test n ++ n ∷ []) (days_where test n)) ≡ cond b (length (days_where test n) + 1) (length (days_where test n))
+    go true = length-append (days_where test n) (n ∷ [])
     go false = refl
 
 -- what the width of day k is less than in ws
@@ -50,11 +50,11 @@ pub record Tallied (fs cs : List ℕ) (n : ℕ) (ws : List ℕ) (k count : ℕ) 
 
 module _ {fs cs : List ℕ} {n : ℕ} {ws : List ℕ} where
   pub tallied-none : Tallied fs cs n ws 0 0 ws
-  unfolding daysWhere
+  unfolding days_where
   tallied-none = record { left = filled_none; counted = refl }
 
-  pub tallied-few : {k count : ℕ} {out : List ℕ} → Tallied fs cs n ws k count out → count ≤ n
-  tallied-few {k} h = omega (arith, h.counted, h.left.most, days-few (λ i. ltb 0 (fallen fs cs ws i)) k)
+  pub tallied_few : {k count : ℕ} {out : List ℕ} → Tallied fs cs n ws k count out → count ≤ n
+  tallied_few {k} h = omega (arith, h.counted, h.left.most, days_few (λ i. ltb 0 (fallen fs cs ws i)) k)
 
   pub tallied-more : {k count count' before after : ℕ} {out : List ℕ} → Tallied fs cs n ws k count out → k < n → before ≡ at out k → after ≡ width fs cs k
       → count' ≡ cond (ltb 0 (before - after)) (count + 1) count → Tallied fs cs n ws (k + 1) count' (set out k after)
@@ -84,14 +84,14 @@ pub record Cuts (s : Session) (t : Numbered) (k : Tight) : Type 0 where
 
 module _ {s : Session} {p : Step} {rs fs cs ws : List ℕ} (h : Holds s p rs fs cs ws) where
   -- a refusal other than 8
-  pub stays : (t : Numbered) {number : ℕ} {q : Step} → refusing number s ≡ afterNumbered s t s.days
-      → q ≡ record { numbers = p.numbers; spent = p.spent; answer = record { refusal = number; changed = 0 } } → Stepped (afterNumbered s t s.days) q rs fs cs ws
+  pub stays : (t : Numbered) {number : ℕ} {q : Step} → refusing number s ≡ after_numbered s t s.days
+      → q ≡ record { numbers = p.numbers; spent = p.spent; answer = record { refusal = number; changed = 0 } } → Stepped (after_numbered s t s.days) q rs fs cs ws
   stays t {number} {q} a e =
       subst (λ b. Stepped b q rs fs cs ws) a
       (rw e
       (record {
         answer = refl;
-        holds = record { days = h.days; first = h.first; rises-held = h.rises-held; mark = h.mark; present = h.present; wide = h.wide; widths-held = h.widths-held };
+        holds = record { days = h.days; first = h.first; rises-held = h.rises-held; mark = h.mark; present = h.present; wide = h.wide; widths_held = h.widths_held };
       }))
 
   -- the arrays hold ranges in bounds
@@ -99,24 +99,24 @@ module _ {s : Session} {p : Step} {rs fs cs ws : List ℕ} (h : Holds s p rs fs 
   held-bounds b u = let e = h.present u in rw (h.rises-held, h.days, h.first, ap (λ r. r.floors) e, ap (λ r. r.ceilings) e, ap (λ r. r.lowest) e, ap (λ r. r.highest) e) b.present
 
   -- what tightening makes of them
-  pub held-tight : (c : Cut) → s.spent ≡ false → {k : Tight}
-      → k ≡ tightened (boxOf rs p.numbers.days p.numbers.first (clipped (record { floors = fs; ceilings = cs; lowest = p.numbers.lowest; highest = p.numbers.highest }) c))
+  pub held_tight : (c : Cut) → s.spent ≡ false → {k : Tight}
+      → k ≡ tightened (box_of rs p.numbers.days p.numbers.first (clipped (record { floors = fs; ceilings = cs; lowest = p.numbers.lowest; highest = p.numbers.highest }) c))
       → k ≡ retightened s (clipped s.present c)
-  held-tight c u e = rw (h.rises-held, h.days, h.first, h.present u) at e
+  held_tight c u e = rw (h.rises-held, h.days, h.first, h.present u) at e
 
   module _ (t : Numbered) {k : Tight} (d : Cuts s t k) where
-    taken : tightenedTo s (retightened s (clipped s.present d.cut)) ≡ afterNumbered s t s.days
+    taken : tightened_to s (retightened s (clipped s.present d.cut)) ≡ after_numbered s t s.days
     taken = cut-taken s d.cut s.days d.formed (omega arith) d.unspent ∙ numbered-known s s.days refl d.known
 
     -- 8 spends
     pub ends : k.found ≡ false → {q : Step} {fs' cs' : List ℕ} → q ≡ record { numbers = p.numbers; spent = true; answer = record { refusal = 8; changed = 0 } }
-        → Stepped (afterNumbered s t s.days) q rs fs' cs' ws
+        → Stepped (after_numbered s t s.days) q rs fs' cs' ws
     ends none {q} {fs'} {cs'} e =
         subst (λ b. Stepped b q rs fs' cs' ws) (again-none s d.cut d.tight none ∙ taken)
         (rw e
         (record {
           answer = refl;
-          holds = record { days = h.days; first = h.first; rises-held = h.rises-held; mark = refl; present = λ u. absurd (true≢false u); wide = h.wide; widths-held = λ u. absurd (true≢false u) };
+          holds = record { days = h.days; first = h.first; rises-held = h.rises-held; mark = refl; present = λ u. absurd (true≢false u); wide = h.wide; widths_held = λ u. absurd (true≢false u) };
         }))
 
     -- the days whose widths fell are counted, and all widths left
@@ -125,14 +125,14 @@ module _ {s : Session} {p : Step} {rs fs cs ws : List ℕ} (h : Holds s p rs fs 
 
     -- those days are the ones that changed
     counts : k.found ≡ true → {count : ℕ} → count ≡ length (losers (fallen k.floors k.ceilings ws) p.numbers.days)
-        → count ≡ length (changedDays s.days s.present (rangesOf k))
+        → count ≡ length (changed_days s.days s.present (ranges_of k))
     counts some {count} e =
         let loss : ℕ → ℕ = lost s.present.floors s.present.ceilings k.floors k.ceilings in
         let r = h.present d.unspent in
         let same : (i : ℕ) → i < s.days → fallen k.floors k.ceilings ws i ≡ loss i =
-        λ i u. ap (λ x. x - width k.floors k.ceilings i) (h.widths-held d.unspent i u ∙ ap (λ o. width o.floors o.ceilings i) r) in
+        λ i u. ap (λ x. x - width k.floors k.ceilings i) (h.widths_held d.unspent i u ∙ ap (λ o. width o.floors o.ceilings i) r) in
         let few : count ≡ length (losers (fallen k.floors k.ceilings ws) s.days) = rw h.days at e in
-        let narrows = tightened-narrows s d.cut d.bounds d.formed d.tight some in
+        let narrows = tightened_narrows s d.cut d.bounds d.formed d.tight some in
         few
         ∙ ap length (days-same (λ i. ltb 0 (fallen k.floors k.ceilings ws i)) (λ i. ltb 0 (loss i)) s.days (λ i u. ap (ltb 0) (same i u)))
         ∙ sym (settled-length loss (losers loss s.days))
@@ -140,7 +140,7 @@ module _ {s : Session} {p : Step} {rs fs cs ws : List ℕ} (h : Holds s p rs fs 
 
     -- otherwise the arrays hold the ranges that are left
     pub goes_on : k.found ≡ true → {count : ℕ} {ws' : List ℕ} → Counted count ws'
-        → Stepped (afterNumbered s t s.days)
+        → Stepped (after_numbered s t s.days)
         (record {
           numbers = record { days = p.numbers.days; first = p.numbers.first; lowest = k.lowest; highest = k.highest };
           spent = false;
@@ -165,6 +165,6 @@ module _ {s : Session} {p : Step} {rs fs cs ws : List ℕ} (h : Holds s p rs fs 
             mark = sym d.unspent;
             present = λ u. refl;
             wide = ap length e.1 ∙ length-written f p.numbers.days ws ∙ h.wide;
-            widths-held = λ u i l. ap (λ x. at x i) e.1 ∙ written_below f 0 p.numbers.days ws i (omega (arith, h.days)) few;
+            widths_held = λ u i l. ap (λ x. at x i) e.1 ∙ written_below f 0 p.numbers.days ws i (omega (arith, h.days)) few;
           };
         })

@@ -1,6 +1,6 @@
 -- A session in lent arrays, while cuts are made of it one after another.
 use Rattle.std.specs.Prelude.{◌≡◌, false, List, ℕ, ◌-◌, ◌<◌, length}
-use Rattle.limits.specs.Limits.{mostDays}
+use Rattle.limits.specs.Limits.{most_days}
 use Rattle.theory_lists.specs.Sum.{at}
 use Rattle.session.specs.Showing.{SessionInBounds}
 use Rattle.session.specs.declared.Session.{Session}
@@ -18,8 +18,8 @@ pub record Holds (s : Session) (p : Step) (rises floors ceilings widths : List �
   pub rises-held : rises ≡ s.rises
   pub mark : p.spent ≡ s.spent
   pub present : s.spent ≡ false → record { floors = floors; ceilings = ceilings; lowest = p.numbers.lowest; highest = p.numbers.highest } ≡ s.present
-  pub wide : length widths ≡ mostDays
-  pub widths-held : s.spent ≡ false → (k : ℕ) → k < s.days → at widths k ≡ width floors ceilings k
+  pub wide : length widths ≡ most_days
+  pub widths_held : s.spent ≡ false → (k : ℕ) → k < s.days → at widths k ≡ width floors ceilings k
 
 -- they hold some session whose numbers are in bounds
 pub record Holding (p : Step) (rises floors ceilings widths : List ℕ) : Type 0 where

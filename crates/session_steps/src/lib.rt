@@ -1,12 +1,12 @@
 // Cuts made one after another of a session's ranges in lent arrays, without their lists of changed days.
 ghost use Rattle.std.specs.Prelude.{◌≡◌, cond, ◌+◌, ◌-◌, ◌≤◌, ltb, length};
-ghost use Rattle.limits.specs.Limits.{mostDays};
+ghost use Rattle.limits.specs.Limits.{most_days};
 ghost use Rattle.theory_lists.specs.Sum.{at};
 ghost use Rattle.theory_lists.specs.Written.{written};
 ghost use Rattle.session.specs.Showing.{SessionInBounds};
 ghost use Rattle.session.specs.declared.Session.{Session};
 ghost use Rattle.session_order.specs.Order.{losers};
-ghost use Rattle.session_cutting.specs.Cutting.{afterNumbered};
+ghost use Rattle.session_cutting.specs.Cutting.{after_numbered};
 ghost use Rattle.session_steps.specs.Steps.{width, Holds, Holding, Stepped};
 
 use base_codes::CodedNumbers;
@@ -25,7 +25,7 @@ pub struct Step {
 
 // One more where a width fell.
 fn tally(count: usize, before: u16, after: u16) -> usize
-    requires { count ≤ mostDays }
+    requires { count ≤ most_days }
     ensures { result ≡ cond (ltb 0 (before - after)) (count + 1) count }
 {
     if after < before { count + 1 } else { count }
@@ -38,7 +38,7 @@ pub fn count_narrowed(
     n: usize,
     widths: &mut [u16; MOST_DAYS],
 ) -> usize
-    requires { n ≤ mostDays }
+    requires { n ≤ most_days }
     ensures value { result ≡ length (losers (λ k. at widths.old k - width floors.now ceilings.now k) n) }
     ensures widths_after { widths.new ≡ written (width floors.now ceilings.now) n widths.old }
 {
@@ -77,7 +77,7 @@ pub fn cut_next(
     widths: &mut [u16; MOST_DAYS],
 ) -> Step
     requires { Holding step rises.now floors.old ceilings.old widths.old }
-    ensures { (s : Session) → SessionInBounds s → Holds s step rises.now floors.old ceilings.old widths.old → Stepped (afterNumbered s asked s.days) result rises.now floors.new ceilings.new widths.new }
+    ensures { (s : Session) → SessionInBounds s → Holds s step rises.now floors.old ceilings.old widths.old → Stepped (after_numbered s asked s.days) result rises.now floors.new ceilings.new widths.new }
 {
     let numbers = step.numbers;
     let n = numbers.days;

@@ -1,12 +1,12 @@
 -- Bounds as they are given, against settled ones: when there is a schedule within them, and the exact ranges then.
 use Rattle.std.specs.Prelude.{◌≡◌, Bool, ℕ, ◌≤◌, ◌<◌, min, max}
 use Rattle.std.proofs.Common.{le_refl, arith}
-use Rattle.theory_chains.specs.Sum.{sum, sum-le}
+use Rattle.theory_chains.specs.Sum.{sum, sum_le}
 use Rattle.theory_chains.specs.Chain.{Chain, Below}
 use Rattle.theory_chains.specs.Ceilings.{ceiling, best}
-use Rattle.theory_chains.specs.Floors.{floorOf}
+use Rattle.theory_chains.specs.Floors.{floor_of}
 use Rattle.theory_chains.specs.Exact.{Sched, total-taken, ceil-bounds, floor-bounds, day-taken}
-use Rattle.theory_chains.specs.Settle.{Greatest, settled, capped, settled-least, settled-above, settled-chain, capped-greatest}
+use Rattle.theory_chains.specs.Settle.{Greatest, settled, capped, settled-least, settled-above, settled-chain, capped_greatest}
 use Rattle.theory_chains.specs.Spans.{NatSpans}
 
 -- the exact ceilings and floors of the days
@@ -14,7 +14,7 @@ abbrev pub high : (w : ℕ → Bool) (n : ℕ) (g a₀ b₀ : ℕ → ℕ) (U to
 high w n g a₀ b₀ U top = ceiling w n g (settled n g a₀) (capped n top g b₀) U
 
 abbrev pub low : (w : ℕ → Bool) (n : ℕ) (g a₀ b₀ : ℕ → ℕ) (L U top k : ℕ) → ℕ
-low w n g a₀ b₀ L U top = floorOf w n g (settled n g a₀) (high w n g a₀ b₀ U top) L top
+low w n g a₀ b₀ L U top = floor_of w n g (settled n g a₀) (high w n g a₀ b₀ U top) L top
 
 -- the exact ranges of the days and of the total
 pub record Ranges (w : ℕ → Bool) (n : ℕ) (g a b : ℕ → ℕ) (L U : ℕ) (lo hi : ℕ → ℕ) (least most : ℕ) : Type 0 where
@@ -32,7 +32,7 @@ module _ (w : ℕ → Bool) (n : ℕ) (g a₀ b₀ : ℕ → ℕ) (L U top : ℕ
   hi = high w n g a₀ b₀ U top
 
   bs : Greatest n g b₀ b
-  bs = capped-greatest n top g b₀ cap
+  bs = capped_greatest n top g b₀ cap
 
   -- the schedules within settled bounds are the same
   pub inward : (y : ℕ → ℕ) → Sched w n g a₀ b₀ L U y → Sched w n g (settled n g a₀) (capped n top g b₀) L U y
@@ -68,23 +68,23 @@ module _ (w : ℕ → Bool) (n : ℕ) (g a₀ b₀ : ℕ → ℕ) (L U top : ℕ
     bcap : Below n b (λ _. top)
     bcap k h = omega (arith, bs.below k h, cap k h)
 
-    ab-sum : sum w n a ≤ sum w n b
-    ab-sum = sum-le w n a b ab
+    ab_sum : sum w n a ≤ sum w n b
+    ab_sum = sum_le w n a b ab
 
     -- the ceilings under the total's ceiling keep the greatest total
     pub total_kept : min U (sum w n (high w n g a₀ b₀ U top)) ≡ min U (sum w n (capped n top g b₀))
     total_kept =
         let t = total-taken w n g gaps a b ca cb ab 0 U (omega arith) room (omega arith) top bcap (min U (sum w n b))
-        (omega arith) (omega arith) (omega (arith, ab-sum)) (omega arith) in
+        (omega arith) (omega arith) (omega (arith, ab_sum)) (omega arith) in
         let up = ceil-bounds w n g gaps a b ca cb ab 0 U (omega arith) room (omega arith) top bcap t.at t.sched in
-        omega (arith, sum-le w n t.at hi up, t.adds, sum-le w n hi b (λ k h. (best n g w a b ca cb ab U room k h).most))
+        omega (arith, sum_le w n t.at hi up, t.adds, sum_le w n hi b (λ k h. (best n g w a b ca cb ab U room k h).most))
 
     module _ (order : L ≤ U) (reachable : L ≤ sum w n (capped n top g b₀)) where
       totals : NatSpans (Sched w n g a₀ b₀ L U) (sum w n) (max L (sum w n a)) (min U (sum w n b))
       totals =
           record {
-            some = omega (arith, ab-sum);
-            inside = λ y s. let t = inward y s in (omega (arith, s.least, sum-le w n a y t.above), omega (arith, s.most, sum-le w n y b t.below));
+            some = omega (arith, ab_sum);
+            inside = λ y s. let t = inward y s in (omega (arith, s.least, sum_le w n a y t.above), omega (arith, s.most, sum_le w n y b t.below));
             taken = λ v l h.
                 let t = total-taken w n g gaps a b ca cb ab L U order room reachable top bcap v (omega arith) (omega arith) (omega arith) (omega arith) in
                 (t.at, outward t.at t.sched, t.adds);

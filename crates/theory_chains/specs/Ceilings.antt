@@ -2,7 +2,7 @@
 use Rattle.std.specs.Prelude.{◌≡◌, Bool, ℕ, zero, suc, ◌+◌, ◌-◌, ◌≤◌, ◌<◌, max}
 use Rattle.std.proofs.Common.{le_refl, arith}
 use Rattle.std.proofs.Math.Decide.{dec_le, ℕ_discrete}
-use Rattle.theory_chains.specs.Sum.{sum, sum-le}
+use Rattle.theory_chains.specs.Sum.{sum, sum_le}
 use Rattle.theory_chains.specs.Chain.{Chain, Below}
 use Rattle.theory_chains.specs.Fit.{fit, Fitted, fitted}
 
@@ -30,38 +30,38 @@ module _ (n : ℕ) (g : ℕ → ℕ) where
   pub through-above : (a : ℕ → ℕ) (i v : ℕ) → Below n a (through g a i v)
   through-above a i v k h = omega arith
 
-  pub through-at : (a : ℕ → ℕ) (i v : ℕ) → a i ≤ v → through g a i v i ≡ v
-  through-at a i v h = omega arith
+  pub through_at : (a : ℕ → ℕ) (i v : ℕ) → a i ≤ v → through g a i v i ≡ v
+  through_at a i v h = omega arith
 
   module _ (y : ℕ → ℕ) (cy : Chain n g y) where
     -- from one day to a later one
-    pub chain-up : (k m : ℕ) → k ≤ m → m < n → y k ≤ y m
-    chain-up k zero l h = rw (to-zero l) (le_refl (y zero))
+    pub chain_up : (k m : ℕ) → k ≤ m → m < n → y k ≤ y m
+    chain_up k zero l h = rw (to_zero l) (le_refl (y zero))
       where
-        to-zero : k ≤ zero → k ≡ zero
-        to-zero l = omega arith
-    chain-up k (suc m) l h = go (ℕ_discrete k (suc m)) (chain-up k m)
+        to_zero : k ≤ zero → k ≡ zero
+        to_zero l = omega arith
+    chain_up k (suc m) l h = go (ℕ_discrete k (suc m)) (chain_up k m)
       where
         go : Dec (k ≡ suc m) → (k ≤ m → m < n → y k ≤ y m) → y k ≤ y (suc m)
         go (yes e) before = rw e (le_refl (y (suc m)))
         go (no e) before = omega (arith, before (omega arith) (omega arith), cy.up m h)
 
-    reach-up : (k m : ℕ) → k ≤ m → reach g k ≤ reach g m
-    reach-up k zero l = rw (to-zero l) (le_refl 0)
+    reach_up : (k m : ℕ) → k ≤ m → reach g k ≤ reach g m
+    reach_up k zero l = rw (to_zero l) (le_refl 0)
       where
-        to-zero : k ≤ zero → k ≡ zero
-        to-zero l = omega arith
-    reach-up k (suc m) l = go (ℕ_discrete k (suc m)) (reach-up k m)
+        to_zero : k ≤ zero → k ≡ zero
+        to_zero l = omega arith
+    reach_up k (suc m) l = go (ℕ_discrete k (suc m)) (reach_up k m)
       where
         go : Dec (k ≡ suc m) → (k ≤ m → reach g k ≤ reach g m) → reach g k ≤ reach g (suc m)
         go (yes e) before = rw e (le_refl (reach g (suc m)))
         go (no e) before = omega (arith, before (omega arith))
 
     chain-near : (k m : ℕ) → k ≤ m → m < n → y m + reach g k ≤ y k + reach g m
-    chain-near k zero l h = rw (to-zero l) (le_refl (y zero + 0))
+    chain-near k zero l h = rw (to_zero l) (le_refl (y zero + 0))
       where
-        to-zero : k ≤ zero → k ≡ zero
-        to-zero l = omega arith
+        to_zero : k ≤ zero → k ≡ zero
+        to_zero l = omega arith
     chain-near k (suc m) l h = go (ℕ_discrete k (suc m)) (chain-near k m)
       where
         go : Dec (k ≡ suc m) → (k ≤ m → m < n → y m + reach g k ≤ y k + reach g m) → y (suc m) + reach g k ≤ y k + reach g (suc m)
@@ -73,22 +73,22 @@ module _ (n : ℕ) (g : ℕ → ℕ) where
     through-least a ay i v h l k u = go (dec_le i k)
       where
         go : Dec (i ≤ k) → through g a i v k ≤ y k
-        go (yes m) = omega (arith, chain-up i k m u, ay k u)
-        go (no m) = omega (arith, chain-near k i (omega arith) h, ay k u, reach-up k i (omega arith))
+        go (yes m) = omega (arith, chain_up i k m u, ay k u)
+        go (no m) = omega (arith, chain-near k i (omega arith) h, ay k u, reach_up k i (omega arith))
 
   -- a higher level on day i takes no less on any day
-  pub through-mono : (a : ℕ → ℕ) (i u v : ℕ) → u ≤ v → Below n (through g a i u) (through g a i v)
-  through-mono a i u v l k h = omega arith
+  pub through_mono : (a : ℕ → ℕ) (i u v : ℕ) → u ≤ v → Below n (through g a i u) (through g a i v)
+  through_mono a i u v l k h = omega arith
 
   module _ (w : ℕ → Bool) (a b : ℕ → ℕ) (ca : Chain n g a) (cb : Chain n g b) (ab : Below n a b) (U : ℕ) (room : sum w n a ≤ U) where
     abbrev ceil : ℕ → ℕ
     ceil = ceiling w n g a b U
 
-    cost-start : (i : ℕ) → i < n → cost w n g a i (a i) ≤ U
-    cost-start i h = omega (arith, sum-le w n (through g a i (a i)) a (through-least a ca a (λ k l. le_refl (a k)) i (a i) h (le_refl (a i))))
+    cost_start : (i : ℕ) → i < n → cost w n g a i (a i) ≤ U
+    cost_start i h = omega (arith, sum_le w n (through g a i (a i)) a (through-least a ca a (λ k l. le_refl (a k)) i (a i) h (le_refl (a i))))
 
     pub best : (i : ℕ) → i < n → Fitted (cost w n g a i) U (a i) (b i) (ceil i)
-    best i h = fitted (cost w n g a i) U (a i) (cost-start i h) (b i) (ab i h)
+    best i h = fitted (cost w n g a i) U (a i) (cost_start i h) (b i) (ab i h)
 
     -- no chain within the total goes above the ceilings
     pub ceiling-bounds : (y : ℕ → ℕ) → Chain n g y → Below n a y → Below n y b → sum w n y ≤ U → Below n y ceil
@@ -96,11 +96,11 @@ module _ (n : ℕ) (g : ℕ → ℕ) where
       where
         go : Dec (y i ≤ ceil i) → y i ≤ ceil i
         go (yes l) = l
-        go (no l) = absurd (omega (arith, (best i h).past (y i) (omega arith) (yb i h), sum-le w n (through g a i (y i)) y (through-least y cy a ay i (y i) h (le_refl (y i)))))
+        go (no l) = absurd (omega (arith, (best i h).past (y i) (omega arith) (yb i h), sum_le w n (through g a i (y i)) y (through-least y cy a ay i (y i) h (le_refl (y i)))))
 
     -- each level from the floor to the ceiling is taken by a chain within the total
     pub ceiling-taken : (i v : ℕ) → i < n → v ≤ ceil i → cost w n g a i v ≤ U
-    ceiling-taken i v h l = omega (arith, (best i h).within, sum-le w n (through g a i v) (through g a i (ceil i)) (through-mono a i v (ceil i) l))
+    ceiling-taken i v h l = omega (arith, (best i h).within, sum_le w n (through g a i v) (through g a i (ceil i)) (through_mono a i v (ceil i) l))
 
     pub ceiling-chain : Chain n g ceil
     ceiling-chain = record { up = ups; near = nears }

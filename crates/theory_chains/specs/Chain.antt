@@ -4,7 +4,7 @@ use Rattle.std.proofs.Common.{ap, ◌∙◌, inl, inr, le_refl, arith}
 use Prim.Native.Nat.{ℕ, zero, suc, ◌+◌, ◌≤◌, ◌<◌}
 use Rattle.std.proofs.Math.Nat.{suc_inj}
 use Rattle.std.proofs.Math.Decide.{dec_le, dec_lt, ℕ_discrete}
-use Rattle.theory_chains.specs.Sum.{sum, weigh, all, sum-le, sum-eq}
+use Rattle.theory_chains.specs.Sum.{sum, weigh, all, sum_le, sum_eq}
 
 pub record Chain (n : ℕ) (g y : ℕ → ℕ) : Type 0 where
   pub up : (k : ℕ) → suc k < n → y k ≤ y (suc k)
@@ -27,18 +27,18 @@ unfolding bumped
 bumped-yes (yes e) v a = refl
 bumped-yes (no e) v a = absurd (e a)
 
-bumped-no : {A : Type 0} (d : Dec A) (v : ℕ) → (A → ⊥) → bumped d v ≡ v
+bumped_no : {A : Type 0} (d : Dec A) (v : ℕ) → (A → ⊥) → bumped d v ≡ v
 unfolding bumped
-bumped-no (yes e) v a = absurd (a e)
-bumped-no (no e) v a = refl
+bumped_no (yes e) v a = absurd (a e)
+bumped_no (no e) v a = refl
 
 bump_at : (j k : ℕ) (y : ℕ → ℕ) → k ≡ j → bump j y k ≡ suc (y k)
 unfolding bump
 bump_at j k y e = bumped-yes (ℕ_discrete k j) (y k) e
 
-bump-other : (j k : ℕ) (y : ℕ → ℕ) → k ≢ j → bump j y k ≡ y k
+bump_other : (j k : ℕ) (y : ℕ → ℕ) → k ≢ j → bump j y k ≡ y k
 unfolding bump
-bump-other j k y h = bumped-no (ℕ_discrete k j) (y k) h
+bump_other j k y h = bumped_no (ℕ_discrete k j) (y k) h
 
 weigh-suc : (b : Bool) (v : ℕ) → weigh b (suc v) ≡ weigh b v + weigh b 1
 weigh-suc true v = omega arith
@@ -50,18 +50,18 @@ sum_bump w (suc n) j y h = go (ℕ_discrete n j) (sum_bump w n j y)
   where
     go : Dec (n ≡ j) → (j < n → sum w n (bump j y) ≡ sum w n y + weigh (w j) 1) → sum w (suc n) (bump j y) ≡ sum w (suc n) y + weigh (w j) 1
     go (yes e) below =
-        let a : sum w n (bump j y) ≡ sum w n y = sum-eq w n (bump j y) y (λ k l. bump-other j k y (omega arith)) in
+        let a : sum w n (bump j y) ≡ sum w n y = sum_eq w n (bump j y) y (λ k l. bump_other j k y (omega arith)) in
         let b : weigh (w n) (bump j y n) ≡ weigh (w n) (y n) + weigh (w n) 1 = ap (weigh (w n)) (bump_at j n y e) ∙ weigh-suc (w n) (y n) in
         let d : weigh (w n) 1 ≡ weigh (w j) 1 = ap (λ (k : ℕ). weigh (w k) 1) e in
         omega arith
     go (no e) below =
         let a : sum w n (bump j y) ≡ sum w n y + weigh (w j) 1 = below (omega arith) in
-        let b : weigh (w n) (bump j y n) ≡ weigh (w n) (y n) = ap (weigh (w n)) (bump-other j n y e) in
+        let b : weigh (w n) (bump j y n) ≡ weigh (w n) (y n) = ap (weigh (w n)) (bump_other j n y e) in
         omega arith
 
-weigh-one-le : (b : Bool) → weigh b 1 ≤ 1
-weigh-one-le true = le_refl 1
-weigh-one-le false = omega arith
+weigh-one_le : (b : Bool) → weigh b 1 ≤ 1
+weigh-one_le true = le_refl 1
+weigh-one_le false = omega arith
 
 -- ---- one day can be raised
 
@@ -73,17 +73,17 @@ module _ (n : ℕ) (g : ℕ → ℕ) (p : ℕ → ℕ) (cp : Chain n g p) where
       ups k h = go (ℕ_discrete k j) (ℕ_discrete (suc k) j)
         where
           go : Dec (k ≡ j) → Dec (suc k ≡ j) → bump j p k ≤ bump j p (suc k)
-          go (yes e) f = omega (arith, bump_at j k p e, bump-other j (suc k) p (omega arith), right k e h)
-          go (no e) (yes f) = omega (arith, bump-other j k p e, bump_at j (suc k) p f, cp.up k h)
-          go (no e) (no f) = omega (arith, bump-other j k p e, bump-other j (suc k) p f, cp.up k h)
+          go (yes e) f = omega (arith, bump_at j k p e, bump_other j (suc k) p (omega arith), right k e h)
+          go (no e) (yes f) = omega (arith, bump_other j k p e, bump_at j (suc k) p f, cp.up k h)
+          go (no e) (no f) = omega (arith, bump_other j k p e, bump_other j (suc k) p f, cp.up k h)
 
       nears : (k : ℕ) → suc k < n → bump j p (suc k) ≤ bump j p k + g k
       nears k h = go (ℕ_discrete k j) (ℕ_discrete (suc k) j)
         where
           go : Dec (k ≡ j) → Dec (suc k ≡ j) → bump j p (suc k) ≤ bump j p k + g k
-          go (yes e) f = omega (arith, bump_at j k p e, bump-other j (suc k) p (omega arith), cp.near k h)
-          go (no e) (yes f) = omega (arith, bump-other j k p e, bump_at j (suc k) p f, left k f h)
-          go (no e) (no f) = omega (arith, bump-other j k p e, bump-other j (suc k) p f, cp.near k h)
+          go (yes e) f = omega (arith, bump_at j k p e, bump_other j (suc k) p (omega arith), cp.near k h)
+          go (no e) (yes f) = omega (arith, bump_other j k p e, bump_at j (suc k) p f, left k f h)
+          go (no e) (no f) = omega (arith, bump_other j k p e, bump_other j (suc k) p f, cp.near k h)
 
 -- a day of p below q that can go up by one
 pub record Raisable (n : ℕ) (g p q : ℕ → ℕ) : Type 0 where
@@ -145,14 +145,14 @@ bump-below n j p q room pq k h = go (ℕ_discrete k j)
   where
     go : Dec (k ≡ j) → bump j p k ≤ q k
     go (yes e) = rw (e, bump_at j j p refl) room
-    go (no e) = rw (bump-other j k p e) (pq k h)
+    go (no e) = rw (bump_other j k p e) (pq k h)
 
 bump-above : (j k : ℕ) (p : ℕ → ℕ) → p k ≤ bump j p k
 bump-above j k p = go (ℕ_discrete k j)
   where
     go : Dec (k ≡ j) → p k ≤ bump j p k
     go (yes e) = omega (arith, bump_at j k p e)
-    go (no e) = omega (arith, bump-other j k p e)
+    go (no e) = omega (arith, bump_other j k p e)
 
 module _ (w : ℕ → Bool) (n : ℕ) (g : ℕ → ℕ) (gaps : (k : ℕ) → 1 ≤ g k) (q : ℕ → ℕ) (cq : Chain n g q) (t : ℕ) (top : t ≤ sum w n q) where
   -- where climbing can go on from any higher chain
@@ -167,7 +167,7 @@ module _ (w : ℕ → Bool) (n : ℕ) (g : ℕ → ℕ) (gaps : (k : ℕ) → 1 
       let one : sum w n (bump j p) ≡ sum w n p + weigh (w j) 1 = sum_bump w n j p r.inside in
       let whole : sum all n (bump j p) ≡ sum all n p + 1 = sum_bump all n j p r.inside in
       let z : Reached w n g (bump j p) q t =
-      onward (bump j p) r.chain (bump-below n j p q r.room pq) (omega arith) (omega (arith, weigh-one-le (w j))) in
+      onward (bump j p) r.chain (bump-below n j p q r.room pq) (omega arith) (omega (arith, weigh-one_le (w j))) in
       record {
         at = z.at;
         chain = z.chain;
@@ -189,14 +189,14 @@ module _ (w : ℕ → Bool) (n : ℕ) (g : ℕ → ℕ) (gaps : (k : ℕ) → 1 
     where
       go : Dec (t ≤ sum w n p) → Below n q p ⊎ Raisable n g p q → Reached w n g p q t
       go (yes done) d = stop p cp pq bottom done
-      go (no short) (inl full) = absurd (omega (arith, sum-le w n q p full))
+      go (no short) (inl full) = absurd (omega (arith, sum_le w n q p full))
       go (no short) (inr r) =
-          absurd (omega (arith, sum_bump all n r.day p r.inside, sum-le all n (bump r.day p) q (bump-below n r.day p q r.room pq)))
+          absurd (omega (arith, sum_bump all n r.day p r.inside, sum_le all n (bump r.day p) q (bump-below n r.day p q r.room pq)))
   climb (suc f) p cp pq enough bottom = go (climb f) (dec_le t (sum w n p)) (found p cp)
     where
       go : Onward f → Dec (t ≤ sum w n p) → Below n q p ⊎ Raisable n g p q → Reached w n g p q t
       go onward (yes done) d = stop p cp pq bottom done
-      go onward (no short) (inl full) = absurd (omega (arith, sum-le w n q p full))
+      go onward (no short) (inl full) = absurd (omega (arith, sum_le w n q p full))
       go onward (no short) (inr r) = higher f onward p pq enough (omega arith) r
 
 -- every total between those of two chains, one above the other, is that of a chain between them

@@ -7,13 +7,13 @@ use Rattle.std.proofs.Common.{arith, leb-true, leb-false}
 use Rattle.std.proofs.Math.Decide.{dec_lt, ℕ_discrete}
 
 -- of the numbers from low to low + d the greatest whose cost is within the margin, or low
-unfoldable pub fitFrom : (ℕ → ℕ) → ℕ → ℕ → ℕ → ℕ
-fitFrom cost margin low zero = low
-fitFrom cost margin low (suc d) = cond (leb (cost (low + suc d)) margin) (low + suc d) (fitFrom cost margin low d)
+unfoldable pub fit_from : (ℕ → ℕ) → ℕ → ℕ → ℕ → ℕ
+fit_from cost margin low zero = low
+fit_from cost margin low (suc d) = cond (leb (cost (low + suc d)) margin) (low + suc d) (fit_from cost margin low d)
 
 -- the same, from low to b
 abbrev pub fit : (ℕ → ℕ) → ℕ → ℕ → ℕ → ℕ
-fit cost margin low b = fitFrom cost margin low (b - low)
+fit cost margin low b = fit_from cost margin low (b - low)
 
 -- v is the greatest level from low to b whose cost is within the margin
 pub record Fitted (cost : ℕ → ℕ) (margin low b v : ℕ) : Type 0 where
@@ -23,13 +23,13 @@ pub record Fitted (cost : ℕ → ℕ) (margin low b v : ℕ) : Type 0 where
   pub past : (u : ℕ) → v < u → u ≤ b → margin < cost u
 
 module _ (cost : ℕ → ℕ) (margin low : ℕ) (start : cost low ≤ margin) where
-  from-fitted : (d : ℕ) → Fitted cost margin low (low + d) (fitFrom cost margin low d)
-  unfolding fitFrom
+  from-fitted : (d : ℕ) → Fitted cost margin low (low + d) (fit_from cost margin low d)
+  unfolding fit_from
   from-fitted zero = record { least = le_refl low; most = omega arith; within = start; past = λ u l m. absurd (omega arith) }
   from-fitted (suc d) = go (leb (cost (low + suc d)) margin) (leb-true (cost (low + suc d)) margin) (leb-false (cost (low + suc d)) margin) (from-fitted d)
     where
       go : (t : Bool) → (t ≡ true → cost (low + suc d) ≤ margin) → (t ≡ false → margin < cost (low + suc d))
-          → Fitted cost margin low (low + d) (fitFrom cost margin low d) → Fitted cost margin low (low + suc d) (cond t (low + suc d) (fitFrom cost margin low d))
+          → Fitted cost margin low (low + d) (fit_from cost margin low d) → Fitted cost margin low (low + suc d) (cond t (low + suc d) (fit_from cost margin low d))
       go true in-margin over before = record { least = omega arith; most = le_refl (low + suc d); within = in-margin refl; past = λ u l m. absurd (omega arith) }
       go false in-margin over before =
           record {
@@ -39,7 +39,7 @@ module _ (cost : ℕ → ℕ) (margin low : ℕ) (start : cost low ≤ margin) w
             past = λ u l m. at u l m (ℕ_discrete u (low + suc d));
           }
         where
-          at : (u : ℕ) → fitFrom cost margin low d < u → u ≤ low + suc d → Dec (u ≡ low + suc d) → margin < cost u
+          at : (u : ℕ) → fit_from cost margin low d < u → u ≤ low + suc d → Dec (u ≡ low + suc d) → margin < cost u
           at u l m (yes e) = rw e (over refl)
           at u l m (no e) = before.past u l (omega arith)
 
@@ -67,9 +67,9 @@ fitted-same {v = v} f same e g h =
     }
 
 -- where costs are the same at u and u' with u + e ≡ u' + f, and the bounds are so apart, the greatest levels are too
-pub fitted-moved : {cost cost' : ℕ → ℕ} {margin low low' b b' v v' : ℕ} (e f : ℕ) → Fitted cost margin low b v → Fitted cost' margin low' b' v'
+pub fitted_moved : {cost cost' : ℕ → ℕ} {margin low low' b b' v v' : ℕ} (e f : ℕ) → Fitted cost margin low b v → Fitted cost' margin low' b' v'
     → ((u u' : ℕ) → u + e ≡ u' + f → cost u ≡ cost' u') → b + e ≡ b' + f → v + e ≡ v' + f
-fitted-moved {margin = margin} {v = v} {v' = v'} e f one two same top = go (dec_lt (v + e) (v' + f)) (dec_lt (v' + f) (v + e))
+fitted_moved {margin = margin} {v = v} {v' = v'} e f one two same top = go (dec_lt (v + e) (v' + f)) (dec_lt (v' + f) (v + e))
   where
     go : Dec (v + e < v' + f) → Dec (v' + f < v + e) → v + e ≡ v' + f
     go (yes l) d = let u : ℕ = v' + f - e in absurd (omega (arith, one.past u (omega arith) (omega (arith, two.most)), same u v' (omega arith), two.within))

@@ -1,7 +1,7 @@
 -- The mirror: days counted from the other end, and levels from the other end of the scale. It turns floors into ceilings and chains into chains.
 use Rattle.std.specs.Prelude.{◌≡◌, refl, Bool, true, false, ℕ, zero, suc, ◌+◌, ◌-◌, ◌≤◌, ◌<◌}
 use Rattle.std.proofs.Common.{ap, arith}
-use Rattle.theory_chains.specs.Sum.{sum, weigh, sum-eq}
+use Rattle.theory_chains.specs.Sum.{sum, weigh, sum_eq}
 use Rattle.theory_chains.specs.Chain.{Chain, Below}
 
 -- the same day, counted from the last of n
@@ -25,8 +25,8 @@ module _ (n top : ℕ) where
   pub mirror-below : (y z : ℕ → ℕ) → Below n y z → Below n (mirror n top z) (mirror n top y)
   mirror-below y z yz k h = omega (arith, yz (flip n k) (omega arith))
 
-  pub mirror-top : (y : ℕ → ℕ) → Below n (mirror n top y) (λ _. top)
-  mirror-top y k h = omega arith
+  pub mirror_top : (y : ℕ → ℕ) → Below n (mirror n top y) (λ _. top)
+  mirror_top y k h = omega arith
 
   pub mirror-chain : (g y : ℕ → ℕ) → Chain n g y → Below n y (λ _. top) → Chain n (steps n g) (mirror n top y)
   mirror-chain g y cy cap = record { up = ups; near = nears }
@@ -46,22 +46,22 @@ module _ (n top : ℕ) where
 
 -- ---- totals
 
-weigh-add : (b : Bool) (u v : ℕ) → weigh b (u + v) ≡ weigh b u + weigh b v
-weigh-add true u v = refl
-weigh-add false u v = refl
+weigh_add : (b : Bool) (u v : ℕ) → weigh b (u + v) ≡ weigh b u + weigh b v
+weigh_add true u v = refl
+weigh_add false u v = refl
 
-pub sum-add : (w : ℕ → Bool) (n : ℕ) (y z : ℕ → ℕ) → sum w n (λ k. y k + z k) ≡ sum w n y + sum w n z
-sum-add w zero y z = refl
-sum-add w (suc n) y z = omega (arith, sum-add w n y z, weigh-add (w n) (y n) (z n))
+pub sum_add : (w : ℕ → Bool) (n : ℕ) (y z : ℕ → ℕ) → sum w n (λ k. y k + z k) ≡ sum w n y + sum w n z
+sum_add w zero y z = refl
+sum_add w (suc n) y z = omega (arith, sum_add w n y z, weigh_add (w n) (y n) (z n))
 
 -- the first day apart
 pub sum_first : (w : ℕ → Bool) (n : ℕ) (y : ℕ → ℕ) → sum w (suc n) y ≡ weigh (w 0) (y 0) + sum (λ k. w (suc k)) n (λ k. y (suc k))
 sum_first w zero y = omega arith
 sum_first w (suc n) y = omega (arith, sum_first w n y)
 
-pub sum-weigh-eq : (w u : ℕ → Bool) (n : ℕ) (y z : ℕ → ℕ) → ((k : ℕ) → k < n → weigh (w k) (y k) ≡ weigh (u k) (z k)) → sum w n y ≡ sum u n z
-sum-weigh-eq w u zero y z h = refl
-sum-weigh-eq w u (suc n) y z h = omega (arith, sum-weigh-eq w u n y z (λ k l. h k (omega arith)), h n (omega arith))
+pub sum-weigh_eq : (w u : ℕ → Bool) (n : ℕ) (y z : ℕ → ℕ) → ((k : ℕ) → k < n → weigh (w k) (y k) ≡ weigh (u k) (z k)) → sum w n y ≡ sum u n z
+sum-weigh_eq w u zero y z h = refl
+sum-weigh_eq w u (suc n) y z h = omega (arith, sum-weigh_eq w u n y z (λ k l. h k (omega arith)), h n (omega arith))
 
 -- a sum is the same from the other end
 pub sum-backward : (w : ℕ → Bool) (n : ℕ) (y : ℕ → ℕ) → sum (backward n w) n (backward n y) ≡ sum w n y
@@ -69,7 +69,7 @@ sum-backward w zero y = refl
 sum-backward w (suc n) y =
     let first : weigh (w (suc n - 1)) (y (suc n - 1)) ≡ weigh (w n) (y n) = ap (λ (m : ℕ). weigh (w m) (y m)) (omega arith) in
     let rest : sum (λ k. backward (suc n) w (suc k)) n (λ k. backward (suc n) y (suc k)) ≡ sum (backward n w) n (backward n y)
-    = sum-weigh-eq (λ k. backward (suc n) w (suc k)) (backward n w) n (λ k. backward (suc n) y (suc k)) (backward n y)
+    = sum-weigh_eq (λ k. backward (suc n) w (suc k)) (backward n w) n (λ k. backward (suc n) y (suc k)) (backward n y)
     (λ k h. ap (λ (m : ℕ). weigh (w m) (y m)) (omega arith)) in
     omega (arith, sum_first (backward (suc n) w) n (backward (suc n) y), sum-backward w n y)
 
@@ -77,14 +77,14 @@ sum-backward w (suc n) y =
 pub mirror-sum : (w : ℕ → Bool) (n top : ℕ) (y : ℕ → ℕ) → Below n y (λ _. top) → sum (backward n w) n (mirror n top y) + sum w n y ≡ sum w n (λ _. top)
 mirror-sum w n top y cap =
     let back : sum (backward n w) n (mirror n top y) ≡ sum w n (λ k. top - y k) = sum-backward w n (λ k. top - y k) in
-    let both : sum w n (λ k. (top - y k) + y k) ≡ sum w n (λ _. top) = sum-eq w n (λ k. (top - y k) + y k) (λ _. top) (λ k h. omega (arith, cap k h)) in
-    omega (arith, sum-add w n (λ k. top - y k) y)
+    let both : sum w n (λ k. (top - y k) + y k) ≡ sum w n (λ _. top) = sum_eq w n (λ k. (top - y k) + y k) (λ _. top) (λ k h. omega (arith, cap k h)) in
+    omega (arith, sum_add w n (λ k. top - y k) y)
 
 -- the same, from the mirror's side
 pub mirror-sum-back : (w : ℕ → Bool) (n top : ℕ) (y : ℕ → ℕ) → Below n y (λ _. top) → sum w n (mirror n top y) + sum (backward n w) n y ≡ sum w n (λ _. top)
 mirror-sum-back w n top y cap =
     let back : sum (backward n (backward n w)) n (mirror n top y) ≡ sum w n (mirror n top y) =
-    sum-weigh-eq (backward n (backward n w)) w n (mirror n top y) (mirror n top y) (λ k h. ap (λ (m : ℕ). weigh (w m) (mirror n top y k)) (flip-flip n k h)) in
+    sum-weigh_eq (backward n (backward n w)) w n (mirror n top y) (mirror n top y) (λ k h. ap (λ (m : ℕ). weigh (w m) (mirror n top y k)) (flip-flip n k h)) in
     omega (arith, mirror-sum (backward n w) n top y cap, sum-backward w n (λ _. top))
 
 -- a level above another's mirror

@@ -42,8 +42,8 @@ unfolding from within
 from-same i k w u e = rw e
 
 -- what day i at v puts on the days from i on, over their floors
-abbrev pub overloadFrom : (w : ℕ → Bool) (n : ℕ) (a : ℕ → ℕ) (i v : ℕ) → ℕ
-overloadFrom w n a i v = sum (from i w) n (λ k. v - a k)
+abbrev pub overload_from : (w : ℕ → Bool) (n : ℕ) (a : ℕ → ℕ) (i v : ℕ) → ℕ
+overload_from w n a i v = sum (from i w) n (λ k. v - a k)
 
 pub reach-free : (k : ℕ) → reach free k ≡ k * 16777216
 reach-free zero = omega arith
@@ -61,7 +61,7 @@ module _ (a : ℕ → ℕ) (w : ℕ → Bool) (i v : ℕ) (small : v ≤ 1677721
       go (no h) false = refl
 
   -- the cost is the sum of the floors and the overload
-  pub cost-overload : (n : ℕ) → cost w n free a i v ≡ sum w n a + overloadFrom w n a i v
+  pub cost-overload : (n : ℕ) → cost w n free a i v ≡ sum w n a + overload_from w n a i v
   cost-overload zero = refl
   cost-overload (suc n) = omega (arith, cost-overload n, one-day n)
 

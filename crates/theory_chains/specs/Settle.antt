@@ -5,7 +5,7 @@ use Prim.Native.Nat.{ℕ, zero, suc, ◌+◌, ◌-◌, ◌≤◌, ◌<◌, max}
 use Rattle.std.proofs.Common.{le_refl}
 use native.Mathlib.Omega.{arith}
 use Rattle.theory_chains.specs.Chain.{Chain, Below}
-use Rattle.theory_chains.specs.Mirror.{mirror, flip, steps, mirror-below, mirror-chain, mirror-top, flip-flip, swap}
+use Rattle.theory_chains.specs.Mirror.{mirror, flip, steps, mirror-below, mirror-chain, mirror_top, flip-flip, swap}
 use Rattle.theory_chains.specs.Floors.{unmirror}
 
 -- floors carried forward: each at least the one before
@@ -39,8 +39,8 @@ module _ (n : ℕ) (g : ℕ → ℕ) where
   back-least a y cy ay (suc d) k h = omega (arith, back-least a y cy ay d (suc k) (omega arith), cy.near k (omega arith), ay k (omega arith))
 
   -- over floors that never fall
-  back-up : (a : ℕ → ℕ) → ((k : ℕ) → a k ≤ a (suc k)) → (d k : ℕ) → back g a (suc d) k ≤ back g a d (suc k)
-  back-up a rising d k = omega (arith, rising k, back_above a d (suc k))
+  back_up : (a : ℕ → ℕ) → ((k : ℕ) → a k ≤ a (suc k)) → (d k : ℕ) → back g a (suc d) k ≤ back g a d (suc k)
+  back_up a rising d k = omega (arith, rising k, back_above a d (suc k))
 
   pub settled-least : (a y : ℕ → ℕ) → Chain n g y → Below n a y → Below n (settled n g a) y
   unfolding settled
@@ -61,7 +61,7 @@ module _ (n : ℕ) (g : ℕ → ℕ) where
       rising k = omega arith
 
       ups : (k : ℕ) → suc k < n → back g (forward a) (n - suc k) k ≤ back g (forward a) (n - suc (suc k)) (suc k)
-      ups k h = omega (arith, one k h, back-up (forward a) rising (n - suc (suc k)) k)
+      ups k h = omega (arith, one k h, back_up (forward a) rising (n - suc (suc k)) k)
 
       nears : (k : ℕ) → suc k < n → back g (forward a) (n - suc (suc k)) (suc k) ≤ back g (forward a) (n - suc k) k + g k
       nears k h = omega (arith, one k h)
@@ -78,15 +78,15 @@ pub record Greatest (n : ℕ) (g b₀ b : ℕ → ℕ) : Type 0 where
   pub below : Below n b b₀
   pub over : (y : ℕ → ℕ) → Chain n g y → Below n y b₀ → Below n y b
 
-pub chain-greatest : {n : ℕ} {g b : ℕ → ℕ} → Chain n g b → Greatest n g b b
-chain-greatest {b = b} cb = record { chain = cb; below = λ k h. le_refl (b k); over = λ y cy yb. yb }
+pub chain_greatest : {n : ℕ} {g b : ℕ → ℕ} → Chain n g b → Greatest n g b b
+chain_greatest {b = b} cb = record { chain = cb; below = λ k h. le_refl (b k); over = λ y cy yb. yb }
 
 pub capped : (n top : ℕ) (g b : ℕ → ℕ) (k : ℕ) → ℕ
 capped n top g b = mirror n top (settled n (steps n g) (mirror n top b))
 
-pub capped-greatest : (n top : ℕ) (g b : ℕ → ℕ) → Below n b (λ _. top) → Greatest n g b (capped n top g b)
+pub capped_greatest : (n top : ℕ) (g b : ℕ → ℕ) → Below n b (λ _. top) → Greatest n g b (capped n top g b)
 unfolding capped
-capped-greatest n top g b cap = record { chain = chain; below = below; over = over }
+capped_greatest n top g b cap = record { chain = chain; below = below; over = over }
   where
     a* : ℕ → ℕ
     a* = settled n (steps n g) (mirror n top b)
@@ -97,7 +97,7 @@ capped-greatest n top g b cap = record { chain = chain; below = below; over = ov
     chain : Chain n g (mirror n top a*)
     chain =
         unmirror n top g a* (settled-chain n (steps n g) (mirror n top b))
-        (settled-least n (steps n g) (mirror n top b) (λ _. top) level (mirror-top n top b))
+        (settled-least n (steps n g) (mirror n top b) (λ _. top) level (mirror_top n top b))
 
     below : Below n (mirror n top a*) b
     below k h = omega (arith, settled-above n (steps n g) (mirror n top b) (flip n k) (omega arith), ap b (flip-flip n k h))

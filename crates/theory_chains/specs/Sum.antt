@@ -16,25 +16,25 @@ sum w (suc n) y = sum w n y + weigh (w n) (y n)
 abbrev pub all : ℕ → Bool
 all k = true
 
-pub weigh-le : (b : Bool) {u v : ℕ} → u ≤ v → weigh b u ≤ weigh b v
-weigh-le true h = h
-weigh-le false h = le_refl 0
+pub weigh_le : (b : Bool) {u v : ℕ} → u ≤ v → weigh b u ≤ weigh b v
+weigh_le true h = h
+weigh_le false h = le_refl 0
 
-pub sum-le : (w : ℕ → Bool) (n : ℕ) (y z : ℕ → ℕ) → ((k : ℕ) → k < n → y k ≤ z k) → sum w n y ≤ sum w n z
-sum-le w zero y z h = le_refl 0
-sum-le w (suc n) y z h =
-    let one : sum w n y ≤ sum w n z = sum-le w n y z (λ k l. h k (omega arith)) in
-    let two : weigh (w n) (y n) ≤ weigh (w n) (z n) = weigh-le (w n) (h n (omega arith)) in
+pub sum_le : (w : ℕ → Bool) (n : ℕ) (y z : ℕ → ℕ) → ((k : ℕ) → k < n → y k ≤ z k) → sum w n y ≤ sum w n z
+sum_le w zero y z h = le_refl 0
+sum_le w (suc n) y z h =
+    let one : sum w n y ≤ sum w n z = sum_le w n y z (λ k l. h k (omega arith)) in
+    let two : weigh (w n) (y n) ≤ weigh (w n) (z n) = weigh_le (w n) (h n (omega arith)) in
     omega arith
 
-pub sum-eq : (w : ℕ → Bool) (n : ℕ) (y z : ℕ → ℕ) → ((k : ℕ) → k < n → y k ≡ z k) → sum w n y ≡ sum w n z
-sum-eq w zero y z h = refl
-sum-eq w (suc n) y z h = cc (sum-eq w n y z (λ k l. h k (omega arith)), h n (omega arith))
+pub sum_eq : (w : ℕ → Bool) (n : ℕ) (y z : ℕ → ℕ) → ((k : ℕ) → k < n → y k ≡ z k) → sum w n y ≡ sum w n z
+sum_eq w zero y z h = refl
+sum_eq w (suc n) y z h = cc (sum_eq w n y z (λ k l. h k (omega arith)), h n (omega arith))
 
 -- only the counted days matter
-pub sum-le-counted : (w : ℕ → Bool) (n : ℕ) (y z : ℕ → ℕ) → ((k : ℕ) → k < n → w k ≡ true → y k ≤ z k) → sum w n y ≤ sum w n z
-sum-le-counted w zero y z h = le_refl 0
-sum-le-counted w (suc n) y z h = go (w n) (h n (omega arith)) (sum-le-counted w n y z (λ k l. h k (omega arith)))
+pub sum_le_counted : (w : ℕ → Bool) (n : ℕ) (y z : ℕ → ℕ) → ((k : ℕ) → k < n → w k ≡ true → y k ≤ z k) → sum w n y ≤ sum w n z
+sum_le_counted w zero y z h = le_refl 0
+sum_le_counted w (suc n) y z h = go (w n) (h n (omega arith)) (sum_le_counted w n y z (λ k l. h k (omega arith)))
   where
     go : (b : Bool) → (b ≡ true → y n ≤ z n) → sum w n y ≤ sum w n z → sum w n y + weigh b (y n) ≤ sum w n z + weigh b (z n)
     go true here before = omega (arith, here refl)

@@ -11,9 +11,9 @@ cond-first true m e = refl
 cond-first false m e = absurd (omega arith)
 
 -- the first number, or the second where the first is 0
-pub then-zero : (m k : ℕ) → cond (eqb m 0) k m ≡ 0 → (m ≡ 0) × (k ≡ 0)
-then-zero zero k e = (refl, e)
-then-zero (suc m) k e = let z : suc m ≡ 0 = rw (ne_eqb (suc m) 0 (λ q. omega arith)) at e in absurd (omega arith)
+pub then_zero : (m k : ℕ) → cond (eqb m 0) k m ≡ 0 → (m ≡ 0) × (k ≡ 0)
+then_zero zero k e = (refl, e)
+then_zero (suc m) k e = let z : suc m ≡ 0 = rw (ne_eqb (suc m) 0 (λ q. omega arith)) at e in absurd (omega arith)
 
 pub or-false : (a b : Bool) → (a || b) ≡ false → (a ≡ false) × (b ≡ false)
 or-false true b e = let z : ◌≡◌ {A = ℕ} 0 1 = cc in absurd (omega arith)

@@ -7,7 +7,7 @@ use native.Mathlib.Omega.{arith}
 use Rattle.std.proofs.Math.ListN.{length, length-append, get_or-append}
 use Rattle.std.proofs.lemmas.List.Edits.{sets, sets-eq}
 use Rattle.std.proofs.Math.Seq.{length-sets}
-use Rattle.theory_lists.specs.Front.{inFront}
+use Rattle.theory_lists.specs.Front.{in_front}
 
 -- f 0, f 1, .. , n of them, one after another
 unfoldable pub rows : {A : Type 0} → (ℕ → List A) → ℕ → List A
@@ -15,9 +15,9 @@ rows f zero = []
 rows f (suc n) = rows f n ++ f n
 
 module _ {A : Type 0} (f : ℕ → List A) where
-  pub rows-add : (n : ℕ) → rows f (n + 1) ≡ rows f n ++ f n
+  pub rows_add : (n : ℕ) → rows f (n + 1) ≡ rows f n ++ f n
   unfolding rows
-  rows-add n = rw add-one
+  rows_add n = rw add-one
 
   pub length-rows : (w n : ℕ) → ((k : ℕ) → k < n → length (f k) ≡ w) → length (rows f n) ≡ n * w
   unfolding rows
@@ -49,26 +49,26 @@ rows-front d f b (suc j) k h =
 
 module _ {A : Type 0} where
   -- two lists stored one after the other
-  pub sets-append : (xs ys l : List A) (i : ℕ) → sets (sets l i xs) (i + length xs) ys ≡ sets l i (xs ++ ys)
-  sets-append [] ys l i = rw (add-zero i)
-  sets-append (a ∷ xs) ys l i =
+  pub sets_append : (xs ys l : List A) (i : ℕ) → sets (sets l i xs) (i + length xs) ys ≡ sets l i (xs ++ ys)
+  sets_append [] ys l i = rw (add-zero i)
+  sets_append (a ∷ xs) ys l i =
       let e : i + suc (length xs) ≡ suc i + length xs = omega arith in
-      rw e (sets-append xs ys (set l i a) (suc i))
+      rw e (sets_append xs ys (set l i a) (suc i))
 
   -- ys stored after the w elements of xs
-  pub stored-after : (l : List A) (i w : ℕ) (xs ys : List A) {m out : List A} → length xs ≡ w → m ≡ sets l i xs → out ≡ sets m (i + w) ys → out ≡ sets l i (xs ++ ys)
-  stored-after l i w xs ys e p q = rw (q, p, ← e) (sets-append xs ys l i)
+  pub stored_after : (l : List A) (i w : ℕ) (xs ys : List A) {m out : List A} → length xs ≡ w → m ≡ sets l i xs → out ≡ sets m (i + w) ys → out ≡ sets l i (xs ++ ys)
+  stored_after l i w xs ys e p q = rw (q, p, ← e) (sets_append xs ys l i)
 
   -- a list stored from the start on
-  pub front-sets : (xs l : List A) → length xs ≤ length l → sets l 0 xs ≡ inFront xs l
-  unfolding inFront
+  pub front-sets : (xs l : List A) → length xs ≤ length l → sets l 0 xs ≡ in_front xs l
+  unfolding in_front
   front-sets xs l h =
       let e : 0 + length xs ≡ length xs = omega arith in
       rw e at (sets-eq xs l 0 (omega arith))
 
   -- one row more
   pub rows_more : (f : ℕ → List A) (l : List A) (i k : ℕ) → sets (sets l i (rows f k)) (i + length (rows f k)) (f k) ≡ sets l i (rows f (k + 1))
-  rows_more f l i k = rw (rows-add f k) (sets-append (rows f k) (f k) l i)
+  rows_more f l i k = rw (rows_add f k) (sets_append (rows f k) (f k) l i)
 
 -- ---- a loop that stores n rows from a place on: the first k are stored, and the next one begins at `next`
 
@@ -79,9 +79,9 @@ pub record Stored {A : Type 0} (f : ℕ → List A) (n place : ℕ) (l : List A)
   pub ends : next ≡ place + length (rows f k)
 
 module _ {A : Type 0} {f : ℕ → List A} {n place : ℕ} {l : List A} where
-  pub stored-none : Stored f n place l 0 place l
+  pub stored_none : Stored f n place l 0 place l
   unfolding rows
-  stored-none = record { most = omega arith; kept = refl; made = refl; ends = omega arith }
+  stored_none = record { most = omega arith; kept = refl; made = refl; ends = omega arith }
 
   pub stored_more : {k next end : ℕ} {out after : List A} → Stored f n place l k next out → k < n → (after ≡ sets out next (f k)) × (end ≡ next + length (f k)) → Stored f n place l (k + 1) end after
   stored_more {k} {next} {end} {out} {after} h u e =
@@ -89,26 +89,26 @@ module _ {A : Type 0} {f : ℕ → List A} {n place : ℕ} {l : List A} where
         most = omega arith;
         kept = ap length e.0 ∙ length-sets out next (f k) ∙ h.kept;
         made = rw (e.0, h.made, h.ends) (rows_more f l place k);
-        ends = rw (rows-add f k) (omega (arith, e.1, h.ends, length-append (rows f k) (f k)));
+        ends = rw (rows_add f k) (omega (arith, e.1, h.ends, length-append (rows f k) (f k)));
       }
 
-  pub stored-all : {k next : ℕ} {out : List A} → Stored f n place l k next out → n ≤ k → (out ≡ sets l place (rows f n)) × (next ≡ place + length (rows f n))
-  stored-all {k} h u = let e : k ≡ n = omega (arith, h.most) in (rw e at h.made, rw e at h.ends)
+  pub stored_all : {k next : ℕ} {out : List A} → Stored f n place l k next out → n ≤ k → (out ≡ sets l place (rows f n)) × (next ≡ place + length (rows f n))
+  stored_all {k} h u = let e : k ≡ n = omega (arith, h.most) in (rw e at h.made, rw e at h.ends)
 
   -- there is room for one row more, where none is longer than w
-  pub stored-room : {k next : ℕ} {out : List A} (w : ℕ) → Stored f n place l k next out → k < n → ((j : ℕ) → j < n → length (f j) ≤ w) → place + n * w ≤ length l → next + length (f k) ≤ length out
-  stored-room {k} w h u b r =
+  pub stored_room : {k next : ℕ} {out : List A} (w : ℕ) → Stored f n place l k next out → k < n → ((j : ℕ) → j < n → length (f j) ≤ w) → place + n * w ≤ length l → next + length (f k) ≤ length out
+  stored_room {k} w h u b r =
       let over : (k + 1) * w ≤ n * w = mul-le-mul_right w (omega arith) in
       omega (arith, h.kept, h.ends, b k u, rows-most f w k (λ j v. b j (omega arith)), over, r)
 
 -- rows of one width
 module _ {A : Type 0} {f : ℕ → List A} {n place : ℕ} {l : List A} (w : ℕ) where
-  pub even-none : Stored f n place l 0 (place + 0 * w) l
-  even-none = let z : place + 0 * w ≡ place = omega arith in rw z stored-none
+  pub even_none : Stored f n place l 0 (place + 0 * w) l
+  even_none = let z : place + 0 * w ≡ place = omega arith in rw z stored_none
 
-  pub even-more : {k : ℕ} {out after : List A} → ((j : ℕ) → length (f j) ≡ w) → Stored f n place l k (place + k * w) out → k < n → after ≡ sets out (place + k * w) (f k)
+  pub even_more : {k : ℕ} {out after : List A} → ((j : ℕ) → length (f j) ≡ w) → Stored f n place l k (place + k * w) out → k < n → after ≡ sets out (place + k * w) (f k)
       → Stored f n place l (k + 1) (place + (k + 1) * w) after
-  even-more {k} wide h u e = stored_more h u (e, omega (arith, wide k))
+  even_more {k} wide h u e = stored_more h u (e, omega (arith, wide k))
 
 -- ---- a loop that stores a list from a place on, one element after another: the first i are stored
 
@@ -128,7 +128,7 @@ module _ {A : Type 0} {xs l : List A} {place : ℕ} where
       record {
         most = omega arith;
         kept = length-set out (place + i) v ∙ h.kept;
-        made = rw (h.made, t, e) (rw n at (sets-append (take i xs) (get_or xs i d ∷ []) l place));
+        made = rw (h.made, t, e) (rw n at (sets_append (take i xs) (get_or xs i d ∷ []) l place));
       }
 
   pub copied_all : {i : ℕ} {out : List A} → Copied xs place i l out → length xs ≤ i → out ≡ sets l place xs

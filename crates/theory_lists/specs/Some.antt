@@ -3,7 +3,7 @@ use Rattle.std.specs.Prelude.{ℕ, zero, suc, ◌+◌, ◌≤◌, ◌<◌, ◌�
 use Rattle.std.proofs.Math.Path.{refl}
 use Rattle.std.proofs.Common.{sym, le_refl, add-one, arith, ltb-true, lt-ltb, le-ltb}
 use Rattle.std.proofs.Math.Bool.{or-false, or_assoc}
-use Rattle.theory_lists.specs.First.{firstWhere}
+use Rattle.theory_lists.specs.First.{first_where}
 
 unfoldable pub some : (ℕ → Bool) → ℕ → Bool
 some t zero = false
@@ -27,14 +27,14 @@ some_same t u zero h = refl
 some_same t u (suc n) h = rw (some_same t u n (λ k l. h k (omega arith)), h n (omega arith)) refl
 
 -- there is a first such number
-pub some_first : (t : ℕ → Bool) (n : ℕ) → some t n ≡ ltb (firstWhere t n) n
-unfolding some firstWhere
+pub some_first : (t : ℕ → Bool) (n : ℕ) → some t n ≡ ltb (first_where t n) n
+unfolding some first_where
 some_first t zero = sym (le-ltb 0 0 (le_refl 0))
 some_first t (suc m) =
-    rw (some_first t m) (go (ltb (firstWhere t m) m) (t m) (ltb-true (firstWhere t m) m))
+    rw (some_first t m) (go (ltb (first_where t m) m) (t m) (ltb-true (first_where t m) m))
   where
-    go : (less now : Bool) → (less ≡ true → firstWhere t m < m) → (less || now) ≡ ltb (cond less (firstWhere t m) (cond now m (suc m))) (suc m)
-    go true now l = sym (lt-ltb (firstWhere t m) (suc m) (omega (arith, l refl)))
+    go : (less now : Bool) → (less ≡ true → first_where t m < m) → (less || now) ≡ ltb (cond less (first_where t m) (cond now m (suc m))) (suc m)
+    go true now l = sym (lt-ltb (first_where t m) (suc m) (omega (arith, l refl)))
     go false true l = sym (lt-ltb m (suc m) (omega arith))
     go false false l = sym (le-ltb (suc m) (suc m) (le_refl (suc m)))
 
@@ -52,5 +52,5 @@ module _ {t : ℕ → Bool} {n : ℕ} where
   pub told_more : {k : ℕ} {flag now : Bool} → Told t n k flag → k < n → now ≡ t k → Told t n (k + 1) (flag || now)
   told_more {k} h l e = record { most = omega arith; holds = rw (h.holds, e) (sym (some_more t k)) }
 
-  pub told-all : {k : ℕ} {flag : Bool} → Told t n k flag → n ≤ k → flag ≡ some t n
-  told-all {k} h l = let e : k ≡ n = omega (arith, h.most) in rw e at h.holds
+  pub told_all : {k : ℕ} {flag : Bool} → Told t n k flag → n ≤ k → flag ≡ some t n
+  told_all {k} h l = let e : k ≡ n = omega (arith, h.most) in rw e at h.holds

@@ -9,11 +9,11 @@ use borrow.Author.Tests.{lt-ltb, le-ltb}
 use lib.Dec.{ltb}
 use lib.ListN.{set}
 use Rattle.theory_lists.specs.Sum.{at}
-use Rattle.theory_lists.specs.Written.{written, lastWritten, written-past, last_none, last_more, last-before, last-all}
-use Rattle.theory_lists.specs.First.{Nowhere, nowhere-none, nowhere-more, nowhere-here, nowhere-all}
+use Rattle.theory_lists.specs.Written.{written, last_written, written-past, last_none, last_more, last-before, last-all}
+use Rattle.theory_lists.specs.First.{Nowhere, nowhere_none, nowhere_more, nowhere_here, nowhere_all}
 use Rattle.theory_lists.specs.Filled.{Filled, filled_none, filled_more, filled-all}
-use Rattle.theory_method.specs.Filter.{carried, firstCrossed}
-use Rattle.tighten_carry.specs.Back.{backFrom, carriedBack}
+use Rattle.theory_method.specs.Filter.{carried, first_crossed}
+use Rattle.tighten_carry.specs.Back.{back_from, carried_back}
 
 -- ---- carrying: the floors below i are carried and uncrossed, and day i is to be at least up - 2000
 
@@ -38,15 +38,15 @@ pub record Kept (fs cs rs : List ℕ) (n i up : ℕ) (out : List ℕ) (x y v z :
 
 -- what is left: r days carried, the first crossed day or all n
 abbrev Left : List ℕ → List ℕ → List ℕ → ℕ → ℕ → List ℕ → Type 0
-Left fs cs rs n r out = (r ≡ firstCrossed (carried fs rs) (at cs) n) × (out ≡ written (carried fs rs) r fs)
+Left fs cs rs n r out = (r ≡ first_crossed (carried fs rs) (at cs) n) × (out ≡ written (carried fs rs) r fs)
 
 module _ {fs cs rs : List ℕ} {n : ℕ} where
   pub upto-none : Upto fs cs rs n 0 0 fs
   unfolding carried
-  upto-none = record { under = nowhere-none; floors = filled_none; next = omega arith }
+  upto-none = record { under = nowhere_none; floors = filled_none; next = omega arith }
 
   pub upto_all : {i up : ℕ} {out : List ℕ} → Upto fs cs rs n i up out → n ≤ i → Left fs cs rs n n out
-  upto_all h l = (nowhere-all h.under l, filled-all h.floors l)
+  upto_all h l = (nowhere_all h.under l, filled-all h.floors l)
 
   module _ {i up : ℕ} {out : List ℕ} {x y v : ℕ} (t : Turn fs cs rs n i up out x y v) where
     floor : v ≡ carried fs rs i
@@ -58,14 +58,14 @@ module _ {fs cs rs : List ℕ} {n : ℕ} where
     upto-crossed u =
         let h = t.head in
         let crossed : ltb (at cs i) (carried fs rs i) ≡ true = lt-ltb (at cs i) (carried fs rs i) (omega (arith, floor, t.ceiling)) in
-        (nowhere-here h.under t.more crossed, h.floors.made)
+        (nowhere_here h.under t.more crossed, h.floors.made)
 
   pub upto-more : {i up : ℕ} {out : List ℕ} {x y v z : ℕ} → Kept fs cs rs n i up out x y v z → Upto fs cs rs n (i + 1) (v + z) (set out i v)
   unfolding carried
   upto-more {i} k =
       let t = k.turn in
       record {
-        under = nowhere-more t.head.under t.more (le-ltb (at cs i) (carried fs rs i) (omega (arith, floor t, t.ceiling, k.under)));
+        under = nowhere_more t.head.under t.more (le-ltb (at cs i) (carried fs rs i) (omega (arith, floor t, t.ceiling, k.under)));
         floors = filled_more t.head.floors t.more (floor t);
         next = rw add-one (omega (arith, floor t, k.rise));
       }
@@ -75,39 +75,39 @@ module _ {fs cs rs : List ℕ} {n : ℕ} where
 pub record Backing (l rs : List ℕ) (n : ℕ) (out : List ℕ) (high i : ℕ) : Type 0 where
   pub most : i ≤ n
   pub small : high < 65536
-  pub level : high ≡ backFrom l rs n (n - i)
-  pub made : out ≡ lastWritten (backFrom l rs n) n (n - i) l
+  pub level : high ≡ back_from l rs n (n - i)
+  pub made : out ≡ last_written (back_from l rs n) n (n - i) l
 
 module _ {l rs : List ℕ} {n : ℕ} where
   pub back_start : {y : ℕ} → (y ≡ at l n) × (y < 65536) → Backing l rs n l y n
-  unfolding backFrom
+  unfolding back_from
   back_start q =
       let z : n - n ≡ 0 = omega arith in
       record { most = omega arith; small = q.1; level = rw z q.0; made = rw z (sym (last_none _ n l)) }
 
-  pub back_end : {out : List ℕ} {high i : ℕ} → Backing l rs n out high i → i ≤ 0 → out ≡ written (carriedBack l rs n) n l
+  pub back_end : {out : List ℕ} {high i : ℕ} → Backing l rs n out high i → i ≤ 0 → out ≡ written (carried_back l rs n) n l
   back_end {i = i} t h =
       let z : n - i ≡ n = omega arith in
-      (rw z at t.made) ∙ last-all (backFrom l rs n) (carriedBack l rs n) n l (λ k u. refl)
+      (rw z at t.made) ∙ last-all (back_from l rs n) (carried_back l rs n) n l (λ k u. refl)
 
   -- a turn reads the level y and the rise z of day i - 1, and computes v
   module _ {out : List ℕ} {high i : ℕ} (t : Backing l rs n out high i) (h : 0 < i) {y z v : ℕ} (qy : (y ≡ at out (i - 1)) × (y < 65536)) (qz : z ≡ at rs (i - 1))
       (qv : v ≡ min y (max (high + 2000) z - z)) where
-    next : v ≡ backFrom l rs n (n - i + 1)
-    unfolding backFrom
+    next : v ≡ back_from l rs n (n - i + 1)
+    unfolding back_from
     next =
         let m : n - i + 1 ≡ suc (n - i) = omega arith in
         let k : n - suc (n - i) ≡ i - 1 = omega (arith, t.most) in
         let old : at out (i - 1) ≡ at l (i - 1) = ap (λ o. at o (i - 1)) t.made ∙ last-before _ 0 n (n - i) l (i - 1) (omega (arith, t.most)) in
         rw (m, k) (omega (arith, qv, qy.0, qz, old, t.level))
 
-    pub back-turn : Backing l rs n (set out (i - 1) v) v (i - 1)
-    back-turn =
+    pub back_turn : Backing l rs n (set out (i - 1) v) v (i - 1)
+    back_turn =
         let m : n - i + 1 ≡ n - (i - 1) = omega (arith, t.most) in
         let k : n - (n - (i - 1)) ≡ i - 1 = omega (arith, t.most) in
         record {
           most = omega (arith, t.most);
           small = omega (arith, qv, qy.1);
           level = rw m at next;
-          made = ap (λ o. set o (i - 1) v) t.made ∙ (rw (m, k) at (last_more (backFrom l rs n) n (n - i) l v next));
+          made = ap (λ o. set o (i - 1) v) t.made ∙ (rw (m, k) at (last_more (back_from l rs n) n (n - i) l v next));
         }

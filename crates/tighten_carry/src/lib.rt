@@ -1,10 +1,10 @@
 // Floors carried forward, ceilings carried back, and whether a floor is above its ceiling. A rise code is the rise plus 2,000.
 ghost use Rattle.std.specs.Prelude.{◌≡◌, ◌≤◌, ◌<◌, ltb};
-ghost use Rattle.limits.specs.Limits.{mostDays};
+ghost use Rattle.limits.specs.Limits.{most_days};
 ghost use Rattle.theory_lists.specs.Sum.{at};
 ghost use Rattle.theory_lists.specs.Written.{written};
-ghost use Rattle.theory_method.specs.Filter.{carried, firstCrossed};
-ghost use Rattle.tighten_carry.specs.Back.{carriedBack};
+ghost use Rattle.theory_method.specs.Filter.{carried, first_crossed};
+ghost use Rattle.tighten_carry.specs.Back.{carried_back};
 
 use base_numbers::{larger, smaller, word};
 use limits::{MOST_DAYS, RISE_OFFSET};
@@ -17,8 +17,8 @@ pub fn carry(
     rises: &[u16; MOST_DAYS],
     n: usize,
 ) -> usize
-    requires { n ≤ mostDays }
-    ensures value { result ≡ firstCrossed (carried floors.old rises.now) (at ceilings.now) n }
+    requires { n ≤ most_days }
+    ensures value { result ≡ first_crossed (carried floors.old rises.now) (at ceilings.now) n }
     ensures floors_after { floors.new ≡ written (carried floors.old rises.now) result floors.old }
 {
     let mut up = 0u32;
@@ -39,8 +39,8 @@ pub fn carry(
 
 // Carries back from day n to the days before it: each level is at most the one after less the rise between them.
 pub fn carry_back(levels: &mut [u16; MOST_DAYS], rises: &[u16; MOST_DAYS], n: usize)
-    requires { n < mostDays }
-    ensures { levels.new ≡ written (carriedBack levels.old rises.now n) n levels.old }
+    requires { n < most_days }
+    ensures { levels.new ≡ written (carried_back levels.old rises.now n) n levels.old }
 {
     let mut high = word(levels[n]);
     let mut i = n as u32;
@@ -58,8 +58,8 @@ pub fn carry_back(levels: &mut [u16; MOST_DAYS], rises: &[u16; MOST_DAYS], n: us
 
 // Whether the floor of one of the first n days is above its ceiling.
 pub fn is_crossed(floors: &[u16; MOST_DAYS], ceilings: &[u16; MOST_DAYS], n: usize) -> bool
-    requires { n ≤ mostDays }
-    ensures { result ≡ ltb (firstCrossed (at floors.now) (at ceilings.now) n) n }
+    requires { n ≤ most_days }
+    ensures { result ≡ ltb (first_crossed (at floors.now) (at ceilings.now) n) n }
 {
     let mut crossed = false;
     let mut i = 0;

@@ -9,7 +9,7 @@ use borrow.Author.Tests.{lt-ltb, le-ltb}
 use Rattle.theory_lists.specs.Sum.{at}
 use Rattle.theory_lists.specs.Written.{written}
 use Rattle.theory_method.specs.Counted.{counted}
-use Rattle.theory_method.specs.Filter.{Box, withFloors, withCeilings, InBounds, carried, firstCrossed, forwarded, lowered, raised, held, none, tightFloors, tightCeilings, tightened}
+use Rattle.theory_method.specs.Filter.{Box, with_floors, with_ceilings, InBounds, carried, first_crossed, forwarded, lowered, raised, held, none, tight_floors, tight_ceilings, tightened}
 use Rattle.theory_method.specs.Stages.{Ready, ready, crossing, lowered-ready, lowered-rising}
 use Rattle.tighten_passes.specs.View.{FloorsReady}
 
@@ -18,7 +18,7 @@ use Rattle.tighten_passes.specs.View.{FloorsReady}
 -- the floors are carried, and no day is crossed
 pub record Carried (b : Box) (fs : List ℕ) : Type 0 where
   pub bounds : InBounds b
-  pub clear : b.days ≤ firstCrossed (carried b.floors b.rises) (at b.ceilings) b.days
+  pub clear : b.days ≤ first_crossed (carried b.floors b.rises) (at b.ceilings) b.days
   pub floors : fs ≡ forwarded b.floors b.rises b.days
 
 -- their total is at most the highest, and the ceilings are lowered by what is left
@@ -37,15 +37,15 @@ pub record Narrowed (b : Box) (fs : List ℕ) (s : ℕ) (cs : List ℕ) (t l u :
 
 -- a box with these floors, or these floors and ceilings
 abbrev within : Box → List ℕ → List ℕ → Box
-within b fs cs = withCeilings (withFloors b fs) cs
+within b fs cs = with_ceilings (with_floors b fs) cs
 
 -- carrying stopped, or not
-module _ {b : Box} (h : InBounds b) {r : ℕ} (er : r ≡ firstCrossed (carried b.floors b.rises) (at b.ceilings) b.days)
+module _ {b : Box} (h : InBounds b) {r : ℕ} (er : r ≡ first_crossed (carried b.floors b.rises) (at b.ceilings) b.days)
     {fs : List ℕ} (ef : fs ≡ written (carried b.floors b.rises) r b.floors) where
-  pub tight-crossed : r < b.days → none (withFloors b fs) ≡ tightened b
+  pub tight_crossed : r < b.days → none (with_floors b fs) ≡ tightened b
   unfolding tightened
-  tight-crossed l =
-      let t : ltb (firstCrossed (carried b.floors b.rises) (at b.ceilings) b.days) b.days ≡ true = lt-ltb _ _ (rw er at l) in
+  tight_crossed l =
+      let t : ltb (first_crossed (carried b.floors b.rises) (at b.ceilings) b.days) b.days ≡ true = lt-ltb _ _ (rw er at l) in
       rw (t, ef, er)
 
   module _ (clear : b.days ≤ r) where
@@ -59,48 +59,48 @@ module _ {b : Box} {fs : List ℕ} (d : Carried b fs) where
   pub carried-ready : Ready fs b.ceilings b.rises b.days
   carried-ready = rw d.floors (ready d.bounds d.clear)
 
-  after-carrying : tightCeilings (withFloors b fs) ≡ tightened b
+  after_carrying : tight_ceilings (with_floors b fs) ≡ tightened b
   unfolding tightened
-  after-carrying =
-      let t : ltb (firstCrossed (carried b.floors b.rises) (at b.ceilings) b.days) b.days ≡ false = le-ltb _ _ d.clear in
+  after_carrying =
+      let t : ltb (first_crossed (carried b.floors b.rises) (at b.ceilings) b.days) b.days ≡ false = le-ltb _ _ d.clear in
       rw (t, d.floors)
 
-  pub tight-over : {bottom : ℕ} → bottom ≡ held b.days b.first (at fs) → b.highest < bottom → none (withFloors b fs) ≡ tightened b
-  unfolding tightCeilings
-  tight-over eb l =
+  pub tight_over : {bottom : ℕ} → bottom ≡ held b.days b.first (at fs) → b.highest < bottom → none (with_floors b fs) ≡ tightened b
+  unfolding tight_ceilings
+  tight_over eb l =
       let t : ltb b.highest (held b.days b.first (at fs)) ≡ true = lt-ltb _ _ (rw eb at l) in
-      let z : tightCeilings (withFloors b fs) ≡ none (withFloors b fs) = rw t in
-      sym z ∙ after-carrying
+      let z : tight_ceilings (with_floors b fs) ≡ none (with_floors b fs) = rw t in
+      sym z ∙ after_carrying
 
 module _ {b : Box} {fs : List ℕ} {bottom : ℕ} {cs : List ℕ} (d : Lowered b fs bottom cs) where
-  pub lowered-raisable : FloorsReady fs cs b.rises b.days
-  lowered-raisable =
+  pub lowered_raisable : FloorsReady fs cs b.rises b.days
+  lowered_raisable =
       let r = carried-ready d.before in
       rw d.ceilings (record { ready = lowered-ready r (counted b.first b.days) (b.highest - bottom); rising = lowered-rising r (counted b.first b.days) (b.highest - bottom) })
 
-  after-lowering : tightFloors (within b fs cs) ≡ tightened b
-  unfolding tightCeilings
-  after-lowering =
+  after_lowering : tight_floors (within b fs cs) ≡ tightened b
+  unfolding tight_ceilings
+  after_lowering =
       let t : ltb b.highest (held b.days b.first (at fs)) ≡ false = le-ltb _ _ (rw d.bottom at d.under) in
-      let z : tightCeilings (withFloors b fs) ≡ tightFloors (within b fs cs) = rw (t, d.ceilings, d.bottom) in
-      sym z ∙ after-carrying d.before
+      let z : tight_ceilings (with_floors b fs) ≡ tight_floors (within b fs cs) = rw (t, d.ceilings, d.bottom) in
+      sym z ∙ after_carrying d.before
 
 module _ {b : Box} {fs : List ℕ} {bottom : ℕ} {cs : List ℕ} {top low high : ℕ} (d : Narrowed b fs bottom cs top low high) where
   abbrev apart : Bool
   apart = ltb (min b.highest (held b.days b.first (at cs))) (max b.lowest (held b.days b.first (at fs)))
 
-  pub tight-apart : high < low → none (within b fs cs) ≡ tightened b
-  unfolding tightFloors
-  tight-apart l =
+  pub tight_apart : high < low → none (within b fs cs) ≡ tightened b
+  unfolding tight_floors
+  tight_apart l =
       let t : apart ≡ true = lt-ltb _ _ (rw (d.high, d.low, d.top, d.before.bottom) at l) in
-      let z : tightFloors (within b fs cs) ≡ none (within b fs cs) = rw t in
-      sym z ∙ after-lowering d.before
+      let z : tight_floors (within b fs cs) ≡ none (within b fs cs) = rw t in
+      sym z ∙ after_lowering d.before
 
-  pub tight-found : low ≤ high
+  pub tight_found : low ≤ high
       → record { found = true; floors = raised fs cs b.rises b.days b.first (top - low); ceilings = cs; lowest = low; highest = high } ≡ tightened b
-  unfolding tightFloors
-  tight-found l =
+  unfolding tight_floors
+  tight_found l =
       let t : apart ≡ false = le-ltb _ _ (rw (d.high, d.low, d.top, d.before.bottom) at l) in
-      let z : tightFloors (within b fs cs) ≡ record { found = true; floors = raised fs cs b.rises b.days b.first (top - low); ceilings = cs; lowest = low; highest = high }
+      let z : tight_floors (within b fs cs) ≡ record { found = true; floors = raised fs cs b.rises b.days b.first (top - low); ceilings = cs; lowest = low; highest = high }
       = rw (t, d.high, d.low, d.top, d.before.bottom) in
-      sym z ∙ after-lowering d.before
+      sym z ∙ after_lowering d.before

@@ -9,22 +9,22 @@ use native.Mathlib.Nat.{le_refl, mul-le-mul_left, div-mul-le_self, le-div_iff_mu
 use native.Mathlib.Numerals.{add-one}
 use mathlib.Core.Bool.{cond}
 use lib.ListN.{set, length, get_or-replicate, length-replicate}
-use Rattle.limits.specs.Limits.{mostDays, highestLevel, riseOffset, highestRiseCode, lastShift, highestShift, highestHeld}
-use Rattle.theory_lists.specs.Sum.{sumFor, at, above, sum-none, sum-front, sum-most, sum-last, sum-part, sum_zeros, excess-low, excess-exact}
-use Rattle.theory_lists.specs.Written.{written, lastWritten, written-more, written-past, written_below, written_same, written-own, length-written, last_none, last_more, last-before, last-at, last-front}
+use Rattle.limits.specs.Limits.{most_days, highest_level, rise_offset, highest_rise_code, last_shift, highest_shift, highest_held}
+use Rattle.theory_lists.specs.Sum.{sum_for, at, above, sum-none, sum-front, sum-most, sum-last, sum_part, sum_zeros, excess_low, excess_exact}
+use Rattle.theory_lists.specs.Written.{written, last_written, written-more, written-past, written_below, written_same, written_own, length-written, last_none, last_more, last-before, last_at, last-front}
 use Rattle.theory_chains.specs.Sum.{all}
 use Rattle.theory_chains.specs.Fit.{fit, fitted, fitted-one}
-use Rattle.theory_method.specs.Shift.{shift, shiftFrom, shift-start, shift-low, shift-high, shift-step}
+use Rattle.theory_method.specs.Shift.{shift, shift_from, shift_start, shift-low, shift-high, shift-step}
 use Rattle.theory_method.specs.Counted.{counted, count-all}
-use Rattle.theory_method.specs.Filter.{shifted, overload, loweredFrom, lowered, loweredAll, mirrored, reversed, zeros, raised}
-use Rattle.theory_method.specs.Stages.{Ready, mirroredAll, reversedAll, mirrored-at, reversed-at, mirrored-ready, lowered-at, raised_is}
+use Rattle.theory_method.specs.Filter.{shifted, overload, lowered_from, lowered, lowered_all, mirrored, reversed, zeros, raised}
+use Rattle.theory_method.specs.Stages.{Ready, mirrored_all, reversed_all, mirrored_at, reversed_at, mirrored-ready, lowered_at, raised_is}
 use Rattle.theory_method.specs.Stages as Stages
 use Rattle.theory_method.proofs.Counting.{lowered-counted, lowered-before, lowered-front, lowered-past}
-use Rattle.tighten_carry.specs.Back.{backFrom, carriedBack}
+use Rattle.tighten_carry.specs.Back.{back_from, carried_back}
 use Rattle.tighten_passes.specs.Round.{over, window, rounded}
-use Rattle.tighten_passes.proofs.WindowLaws.{rounded-is, window-under, window-past, window-is}
-use Rattle.tighten_passes.specs.View.{viewed, viewedRises, Carried, Sight, FloorsReady}
-use Rattle.tighten_passes.specs.Pass.{highestShifted, highestRoom, Span, Open, Sticking, Found, Overloaded, Rounded, Lowest, Entering}
+use Rattle.tighten_passes.proofs.WindowLaws.{rounded_is, window-under, window-past, window_is}
+use Rattle.tighten_passes.specs.View.{viewed, viewed_rises, Carried, Sight, FloorsReady}
+use Rattle.tighten_passes.specs.Pass.{highest_shifted, highest_room, Span, Open, Sticking, Found, Overloaded, Rounded, Lowest, Entering}
 
 -- ---- shifted floors
 
@@ -33,17 +33,17 @@ abbrev Rising : (ℕ → ℕ) → ℕ → Type 0
 Rising a n = (j k : ℕ) → j ≤ k → k < n → a j ≤ a k
 
 module _ {fs rs : List ℕ} {n : ℕ} (g : Carried fs rs n) where
-  shift-next : (k : ℕ) → k < n → shift (at rs) n k + riseOffset ≡ shift (at rs) n (k + 1) + at rs k
+  shift-next : (k : ℕ) → k < n → shift (at rs) n k + rise_offset ≡ shift (at rs) n (k + 1) + at rs k
   shift-next k h = shift-step (at rs) n g.most g.rise k h
 
-  shift-most : (k : ℕ) → k ≤ n → shift (at rs) n k ≤ highestShift
+  shift-most : (k : ℕ) → k ≤ n → shift (at rs) n k ≤ highest_shift
   shift-most k h = omega (arith, g.most, shift-high (at rs) n g.most g.rise (n - k) (omega arith))
 
   -- before day 0 a step down is left
-  shift-least : (k : ℕ) → 0 < k → k ≤ n → riseOffset ≤ shift (at rs) n k
+  shift-least : (k : ℕ) → 0 < k → k ≤ n → rise_offset ≤ shift (at rs) n k
   shift-least k h u = omega (arith, shift-low (at rs) n g.most g.rise (n - k) (omega arith), g.most)
 
-  shifted-most : (k : ℕ) → k < n → shifted fs rs n k ≤ highestShifted
+  shifted-most : (k : ℕ) → k < n → shifted fs rs n k ≤ highest_shifted
   shifted-most k h = omega (arith, shift-most k (omega arith), g.floor k h)
 
   -- the floors rise
@@ -62,9 +62,9 @@ over_none a n i v up h = omega (arith, sum-most (above a v) i (n - i) 0 (λ k l 
 
 -- ---- what is read through a view
 
-module _ {back : Bool} {n : ℕ} (few : n ≤ mostDays) where
-  pub level-back : (l : List ℕ) (k : ℕ) {r : ℕ} → back ≡ true → k < n → r ≡ at l (n - (k + 1)) → highestLevel - r ≡ at (viewed back l n) k
-  level-back l k e h q = rw (e, q) (sym (mirrored-at n few l k h))
+module _ {back : Bool} {n : ℕ} (few : n ≤ most_days) where
+  pub level-back : (l : List ℕ) (k : ℕ) {r : ℕ} → back ≡ true → k < n → r ≡ at l (n - (k + 1)) → highest_level - r ≡ at (viewed back l n) k
+  level-back l k e h q = rw (e, q) (sym (mirrored_at n few l k h))
 
   pub rise-back : (rs : List ℕ) (k : ℕ) {r : ℕ} → back ≡ true → r ≡ at rs (n - (k + 2)) → r ≡ cond back (reversed rs n k) (at rs k)
   rise-back rs k e q = rw (e, q) refl
@@ -75,44 +75,44 @@ module _ {back : Bool} {n : ℕ} (few : n ≤ mostDays) where
   pub rise-plain : (rs : List ℕ) (k : ℕ) {r : ℕ} → back ≡ false → r ≡ at rs k → r ≡ cond back (reversed rs n k) (at rs k)
   rise-plain rs k e q = rw (e, q) refl
 
-zeros-length : length zeros ≡ mostDays
-zeros-length = length-replicate {A = ℕ} mostDays 0
+zeros-length : length zeros ≡ most_days
+zeros-length = length-replicate {A = ℕ} most_days 0
 
 -- the rise from day k of m days to the next, from the other end
-rises-at : (rs : List ℕ) (n m k : ℕ) → m ≤ mostDays → k + 1 < m → at (viewedRises true rs n m) k ≡ reversed rs n k
-rises-at rs n m k few h = written_below (reversed rs n) 0 (m - 1) zeros k (omega arith) (omega (arith, zeros-length))
+rises_at : (rs : List ℕ) (n m k : ℕ) → m ≤ most_days → k + 1 < m → at (viewed_rises true rs n m) k ≡ reversed rs n k
+rises_at rs n m k few h = written_below (reversed rs n) 0 (m - 1) zeros k (omega arith) (omega (arith, zeros-length))
 
 -- past the last of them stands 0
-last-rise : (rs : List ℕ) (n m k : ℕ) → m ≤ k + 1 → k < mostDays → at (viewedRises true rs n m) k ≡ 0
-last-rise rs n m k h few = written-past (reversed rs n) 0 (m - 1) zeros k (omega arith) ∙ get_or-replicate mostDays k 0 0 few
+last-rise : (rs : List ℕ) (n m k : ℕ) → m ≤ k + 1 → k < most_days → at (viewed_rises true rs n m) k ≡ 0
+last-rise rs n m k h few = written-past (reversed rs n) 0 (m - 1) zeros k (omega arith) ∙ get_or-replicate most_days k 0 0 few
 
-pub rise-seen : (back : Bool) (rs : List ℕ) (n m k : ℕ) {r : ℕ} → m ≤ mostDays → k + 1 < m → r ≡ cond back (reversed rs n k) (at rs k) → r ≡ at (viewedRises back rs n m) k
-rise-seen true rs n m k few h q = q ∙ sym (rises-at rs n m k few h)
-rise-seen false rs n m k few h q = q
+pub rise_seen : (back : Bool) (rs : List ℕ) (n m k : ℕ) {r : ℕ} → m ≤ most_days → k + 1 < m → r ≡ cond back (reversed rs n k) (at rs k) → r ≡ at (viewed_rises back rs n m) k
+rise_seen true rs n m k few h q = q ∙ sym (rises_at rs n m k few h)
+rise_seen false rs n m k few h q = q
 
 -- ---- drop_last
 
 module _ {fs rs : List ℕ} {n i margin v past c room top e : ℕ} (g : Carried fs rs n) (t : Sticking fs rs n i margin v past c room top e) where
-  pub end-most : e ≤ highestShift
-  end-most = omega (arith, t.window.span.last, shift-most g (past - 1) (omega (arith, t.window.span.inside)))
+  pub end_most : e ≤ highest_shift
+  end_most = omega (arith, t.window.span.last, shift-most g (past - 1) (omega (arith, t.window.span.inside)))
 
-  pub end-least : riseOffset ≤ e
-  end-least = omega (arith, t.window.span.last, shift-least g (past - 1) (omega (arith, t.more)) (omega (arith, t.window.span.inside)))
+  pub end_least : rise_offset ≤ e
+  end_least = omega (arith, t.window.span.last, shift-least g (past - 1) (omega (arith, t.more)) (omega (arith, t.window.span.inside)))
 
-  less : room ≡ margin + (sumFor (shifted fs rs n) i (c - 1) + top)
+  less : room ≡ margin + (sum_for (shifted fs rs n) i (c - 1) + top)
   less =
       let at_last : i + c - 1 ≡ past - 1 = omega (arith, t.window.span.ends) in
       omega (arith, t.window.span.total, t.window.span.high, rw at_last at (sum-last (shifted fs rs n) i c t.window.some))
 
-  pub top-fits : top ≤ room
-  top-fits = omega (arith, less)
+  pub top_fits : top ≤ room
+  top_fits = omega (arith, less)
 
   -- the day before the last, with floor x and shift e', which follows from the rise w between them
-  pub dropped : {w x e' : ℕ} → w ≡ at rs (past - 1 - 1) → e' ≡ e + w - riseOffset → x ≡ at fs (past - 1 - 1)
+  pub dropped : {w x e' : ℕ} → w ≡ at rs (past - 1 - 1) → e' ≡ e + w - rise_offset → x ≡ at fs (past - 1 - 1)
       → Open fs rs n i margin v (past - 1) (c - 1) (room - top) (x + e') e'
   dropped {w} {x} {e'} qw qe qx =
       let p : past - 1 - 1 + 1 ≡ past - 1 = omega (arith, t.more) in
-      let s : shift (at rs) n (past - 1 - 1) + riseOffset ≡ shift (at rs) n (past - 1) + at rs (past - 1 - 1) =
+      let s : shift (at rs) n (past - 1 - 1) + rise_offset ≡ shift (at rs) n (past - 1) + at rs (past - 1 - 1) =
       rw p at (shift-next g (past - 1 - 1) (omega (arith, t.more, t.window.span.inside))) in
       let z : e' ≡ shift (at rs) n (past - 1 - 1) = omega (arith, t.window.span.last) in
       record {
@@ -139,7 +139,7 @@ settled {fs} {rs} {n} {i} {v = v} {past = past} {c = c} t under =
     let p : i + c - 1 ≡ past - 1 = omega (arith, t.span.ends) in
     record {
       span = t.span;
-      found = window-is (shifted fs rs n) n i v c t.some (omega (arith, t.span.ends, t.span.inside))
+      found = window_is (shifted fs rs n) n i v c t.some (omega (arith, t.span.ends, t.span.inside))
           (λ h. rw p (omega (arith, t.span.high, under (omega (arith, t.span.ends)))))
           (λ k l u. t.beyond k (omega (arith, t.span.ends)) u);
     }
@@ -177,8 +177,8 @@ module _ {fs rs : List ℕ} {n i margin v past c room top e : ℕ} (g : Carried 
   pub found_some : 0 < c
   found_some = omega (arith, f.found)
 
-  pub found-few : c ≤ mostDays
-  found-few = omega (arith, f.span.ends, f.span.inside, g.most)
+  pub found_few : c ≤ most_days
+  found_few = omega (arith, f.span.ends, f.span.inside, g.most)
 
   found-beyond : (k : ℕ) → past ≤ k → k < n → v ≤ shifted fs rs n k
   found-beyond k h u = window-past (shifted fs rs n) n i v k (omega (arith, f.found, f.span.ends)) u
@@ -206,14 +206,14 @@ module _ {fs rs : List ℕ} {n i margin v past c room top e : ℕ} (g : Carried 
     found-load : over all (shifted fs rs n) n i v + room ≡ margin + c * v
     found-load =
         let p : c + (n - past) ≡ n - i = omega (arith, f.span.ends, f.span.inside) in
-        let z : over all (shifted fs rs n) n i v ≡ sumFor (above (shifted fs rs n) v) i c =
+        let z : over all (shifted fs rs n) n i v ≡ sum_for (above (shifted fs rs n) v) i c =
         rw p at (sum_zeros (above (shifted fs rs n) v) i c (n - past)
         (λ k h u. omega (arith, found-beyond k (omega (arith, f.span.ends)) (omega (arith, f.span.ends, f.span.inside))))) in
-        omega (arith, f.span.total, excess-exact (shifted fs rs n) i c v found_all)
+        omega (arith, f.span.total, excess_exact (shifted fs rs n) i c v found_all)
 
     module _ (more : room < c * v) where
-      found-active : top < v
-      found-active = pick (dec_lt (i + 1) past)
+      found_active : top < v
+      found_active = pick (dec_lt (i + 1) past)
         where
           pick : Dec (i + 1 < past) → top < v
           pick (yes y) = found-under y
@@ -233,13 +233,13 @@ module _ {fs rs : List ℕ} {n i margin v past c room top e : ℕ} (g : Carried 
           let p : i + c - 1 ≡ past - 1 = omega (arith, f.span.ends) in
           let r : rounded all (shifted fs rs n) n i margin v
           ≡ v - min ((over all (shifted fs rs n) n i v - margin + c - 1) / c) (v - top) =
-          rw (w, p, count-all, ← f.span.high) at (rounded-is all (shifted fs rs n) n i margin v) in
+          rw (w, p, count-all, ← f.span.high) at (rounded_is all (shifted fs rs n) n i margin v) in
           let both : (over all (shifted fs rs n) n i v - margin + c - 1) / c + room / c ≡ v =
           shares c v (over all (shifted fs rs n) n i v - margin) room found_some (omega (arith, found-load)) (omega (arith, found-load)) in
-          omega (arith, r, both, found-active)
+          omega (arith, r, both, found_active)
 
-      less-is : max (room / c) top < v
-      less-is = omega (arith, found-active, half)
+      less_is : max (room / c) top < v
+      less_is = omega (arith, found_active, half)
         where
           half : room / c < v
           half = pick (dec_lt (room / c) v)
@@ -250,31 +250,31 @@ module _ {fs rs : List ℕ} {n i margin v past c room top e : ℕ} (g : Carried 
                   let m : v ≤ room / c = omega arith in
                   absurd (omega (arith, mul-le-mul_left c m, div-mul-le_self room c))
 
-      once-open : Open fs rs n i margin (max (room / c) top) past c room top e
-      once-open =
-          record { span = f.span; some = found_some; beyond = λ k h u. omega (arith, less-is, found-beyond k h u) }
+      once_open : Open fs rs n i margin (max (room / c) top) past c room top e
+      once_open =
+          record { span = f.span; some = found_some; beyond = λ k h u. omega (arith, less_is, found-beyond k h u) }
 
 module _ {fs rs : List ℕ} {n i margin v past c room top e : ℕ} (g : Carried fs rs n) (t : Overloaded fs rs n i margin v past c room top e) where
   -- what the room has for each day, where it is above top: the window stays
-  pub round-even : {q : ℕ} → q ≡ room / c → top < q → Rounded fs rs n i margin v q past c room top e
-  round-even {q} is h =
+  pub round_even : {q : ℕ} → q ≡ room / c → top < q → Rounded fs rs n i margin v q past c room top e
+  round_even {q} is h =
       let m : max (room / c) top ≡ q = omega arith in
       record {
         level = omega (arith, m, round_is g t.window t.base t.more);
-        window = settled (rw m at (once-open g t.window t.base t.more)) (λ _. h);
+        window = settled (rw m at (once_open g t.window t.base t.more)) (λ _. h);
       }
 
   -- where it is not, v falls to top
   module _ {q : ℕ} (is : q ≡ room / c) (h : q ≤ top) where
-    to-top : max (room / c) top ≡ top
-    to-top = omega arith
+    to_top : max (room / c) top ≡ top
+    to_top = omega arith
 
-    pub top-open : Open fs rs n i margin top past c room top e
-    top-open = rw to-top at (once-open g t.window t.base t.more)
+    pub top_open : Open fs rs n i margin top past c room top e
+    top_open = rw to_top at (once_open g t.window t.base t.more)
 
-    pub round-top : {u past' c' room' top' e' : ℕ} → (u ≡ top) × Found fs rs n i margin top past' c' room' top' e'
+    pub round_top : {u past' c' room' top' e' : ℕ} → (u ≡ top) × Found fs rs n i margin top past' c' room' top' e'
         → Rounded fs rs n i margin v u past' c' room' top' e'
-    round-top f = record { level = omega (arith, f.0, to-top, round_is g t.window t.base t.more); window = rw f.0 f.1 }
+    round_top f = record { level = omega (arith, f.0, to_top, round_is g t.window t.base t.more); window = rw f.0 f.1 }
 
 -- ---- lower
 
@@ -285,86 +285,86 @@ pub record Stand (fs rs : List ℕ) (n i margin cap v past c room top e : ℕ) :
   pub fits : v ≤ cap
   pub higher : (u : ℕ) → v < u → u ≤ cap → margin < over all (shifted fs rs n) n i u
 
-pub stand-start : {fs rs : List ℕ} {n i margin cap v past c room top e : ℕ} → (v ≡ cap) × Found fs rs n i margin cap past c room top e → shifted fs rs n i ≤ cap
+pub stand_start : {fs rs : List ℕ} {n i margin cap v past c room top e : ℕ} → (v ≡ cap) × Found fs rs n i margin cap past c room top e → shifted fs rs n i ≤ cap
     → Stand fs rs n i margin cap v past c room top e
-stand-start f b = record { window = rw f.0 f.1; base = omega (arith, f.0); fits = omega (arith, f.0); higher = λ u h l. absurd (omega (arith, f.0)) }
+stand_start f b = record { window = rw f.0 f.1; base = omega (arith, f.0); fits = omega (arith, f.0); higher = λ u h l. absurd (omega (arith, f.0)) }
 
 module _ {fs rs : List ℕ} {n i margin cap v past c room top e : ℕ} (g : Carried fs rs n) (t : Stand fs rs n i margin cap v past c room top e) where
-  pub stand-done : {first : ℕ} → cap ≡ first → c * v ≤ room → Lowest fs rs n i margin first v past c room top e
-  stand-done is h =
+  pub stand_done : {first : ℕ} → cap ≡ first → c * v ≤ room → Lowest fs rs n i margin first v past c room top e
+  stand_done is h =
       rw (← is) record {
         level = record { least = t.base; most = t.fits; within = omega (arith, found-load g t.window t.base); past = t.higher };
         window = t.window;
       }
 
   module _ (h : room < c * v) where
-    pub stand-over : Overloaded fs rs n i margin v past c room top e
-    stand-over = record { window = t.window; base = t.base; more = h }
+    pub stand_over : Overloaded fs rs n i margin v past c room top e
+    stand_over = record { window = t.window; base = t.base; more = h }
 
     -- each level between is over the margin: its days take more than the room
     passed : (u : ℕ) → max (room / c) top < u → u ≤ cap → Dec (v < u) → margin < over all (shifted fs rs n) n i u
     passed u l m (yes y) = t.higher u y m
     passed u l m (no y) =
         let p : c + (n - past) ≡ n - i = omega (arith, t.window.span.ends, t.window.span.inside) in
-        let part : sumFor (above (shifted fs rs n) u) i c ≤ over all (shifted fs rs n) n i u = rw p at (sum-part (above (shifted fs rs n) u) i c (n - past)) in
+        let part : sum_for (above (shifted fs rs n) u) i c ≤ over all (shifted fs rs n) n i u = rw p at (sum_part (above (shifted fs rs n) u) i c (n - past)) in
         let k : room / c + 1 ≤ u = omega arith in
         omega (
           arith,
           mul-le-mul_left c k,
           below_next room c (found_some g t.window),
-          excess-low (shifted fs rs n) i c u,
+          excess_low (shifted fs rs n) i c u,
           t.window.span.total,
         )
 
     module _ {u past' c' room' top' e' : ℕ} (q : Rounded fs rs n i margin v u past' c' room' top' e') where
-      stand-level : u ≡ max (room / c) top
-      stand-level = q.level ∙ round_is g t.window t.base h
+      stand_level : u ≡ max (room / c) top
+      stand_level = q.level ∙ round_is g t.window t.base h
 
-      pub stand-less : u < v
-      stand-less = omega (arith, stand-level, less-is g t.window t.base h)
+      pub stand_less : u < v
+      stand_less = omega (arith, stand_level, less_is g t.window t.base h)
 
-      pub stand-turn : Stand fs rs n i margin cap u past' c' room' top' e'
-      stand-turn =
+      pub stand_turn : Stand fs rs n i margin cap u past' c' room' top' e'
+      stand_turn =
           record {
             window = q.window;
             base = omega (
               arith,
-              stand-level,
+              stand_level,
               t.window.span.high,
               rising g i (past - 1) (omega (arith, t.window.span.ends, found_some g t.window)) (omega (arith, t.window.span.inside, t.window.span.ends, found_some g t.window)),
             );
-            fits = omega (arith, stand-less, t.fits);
-            higher = λ w l m. passed w (omega (arith, stand-level)) m (dec_lt v w);
+            fits = omega (arith, stand_less, t.fits);
+            higher = λ w l m. passed w (omega (arith, stand_level)) m (dec_lt v w);
           }
 
 -- ---- lower_ceiling, raise_floor
 
 module _ {fs rs : List ℕ} {n i margin ceiling floor v past c room top e : ℕ} (g : Carried fs rs n) (t : Entering fs rs n i margin ceiling floor v past c room top e) where
-  pub entering-few : c + 1 ≤ mostDays
-  entering-few = omega (arith, g.most, t.window.span.ends, t.window.span.inside)
+  pub entering_few : c + 1 ≤ most_days
+  entering_few = omega (arith, g.most, t.window.span.ends, t.window.span.inside)
 
   -- the day fits as it is
   pub day-fits : (top < min v ceiling) × ((c + 1) * min v ceiling ≤ room + floor) → Lowest fs rs n i margin (min v ceiling) (min v ceiling) past (c + 1) (room + floor) top e
-  day-fits h = stand-done g (stand-start (refl, settled t.window (λ _. h.0)) t.base) refl h.1
+  day-fits h = stand_done g (stand_start (refl, settled t.window (λ _. h.0)) t.base) refl h.1
 
 -- ---- the passes
 
-lowered-start : (fs cs rs : List ℕ) (n margin : ℕ) → loweredFrom fs cs rs n all margin 0 ≡ shifted cs rs n (n - 1)
-unfolding loweredFrom
-lowered-start fs cs rs n margin = refl
+lowered_start : (fs cs rs : List ℕ) (n margin : ℕ) → lowered_from fs cs rs n all margin 0 ≡ shifted cs rs n (n - 1)
+unfolding lowered_from
+lowered_start fs cs rs n margin = refl
 
 lowered-more : (fs cs rs : List ℕ) (n margin m : ℕ)
-    → loweredFrom fs cs rs n all margin (m + 1)
+    → lowered_from fs cs rs n all margin (m + 1)
     ≡ fit (overload fs rs n all (n - (m + 1))) margin (shifted fs rs n (n - (m + 1)))
-    (min (loweredFrom fs cs rs n all margin m) (shifted cs rs n (n - (m + 1))))
-unfolding loweredFrom
+    (min (lowered_from fs cs rs n all margin m) (shifted cs rs n (n - (m + 1))))
+unfolding lowered_from
 lowered-more fs cs rs n margin m = rw add-one
 
 -- with the days from i on done, those of them before `past` are those below v
 pub record Pass (fs cs rs : List ℕ) (n margin v past c room top e i : ℕ) : Type 0 where
   pub most : i ≤ n
-  pub level : v ≡ loweredFrom fs cs rs n all margin (n - i)
-  pub low : v ≤ highestShifted
+  pub level : v ≡ lowered_from fs cs rs n all margin (n - i)
+  pub low : v ≤ highest_shifted
   pub span : Span fs rs n i margin past c room top e
   pub beyond : (k : ℕ) → past ≤ k → k < n → v ≤ shifted fs rs n k
   pub base : (k : ℕ) → k < i → shifted fs rs n k ≤ v
@@ -373,24 +373,24 @@ pub floors-carried : {fs cs rs : List ℕ} {n : ℕ} → Ready fs cs rs n → Ca
 floors-carried g = record { most = g.most; floor = λ k h. omega (arith, g.fits k h, g.ceiling k h); rise = g.rise; climb = g.rising }
 
 module _ {fs cs rs : List ℕ} {n : ℕ} (g : Ready fs cs rs n) where
-  last-shift : shift (at rs) n (n - 1) + riseOffset ≡ lastShift + at rs (n - 1)
+  last-shift : shift (at rs) n (n - 1) + rise_offset ≡ last_shift + at rs (n - 1)
   last-shift =
       let z : n - n ≡ 0 = omega arith in
-      let first : shift (at rs) n n ≡ lastShift = rw z (shift-start (at rs) n) in
+      let first : shift (at rs) n n ≡ last_shift = rw z (shift_start (at rs) n) in
       let e : n - 1 + 1 ≡ n = omega (arith, g.some) in
-      let p : shift (at rs) n (n - 1) + riseOffset ≡ shift (at rs) n n + at rs (n - 1) = rw e at (shift-next (floors-carried g) (n - 1) (omega (arith, g.some))) in
+      let p : shift (at rs) n (n - 1) + rise_offset ≡ shift (at rs) n n + at rs (n - 1) = rw e at (shift-next (floors-carried g) (n - 1) (omega (arith, g.some))) in
       omega (arith, first)
 
 module _ {fs cs rs : List ℕ} {n margin : ℕ} (g : Ready fs cs rs n) where
   -- before the last day, whose shift is e, its ceiling y and its floor x
-  pass-start : {e y x : ℕ} → e ≡ shift (at rs) n (n - 1) → y ≡ at cs (n - 1) → x ≡ at fs (n - 1)
+  pass_start : {e y x : ℕ} → e ≡ shift (at rs) n (n - 1) → y ≡ at cs (n - 1) → x ≡ at fs (n - 1)
       → Pass fs cs rs n margin (y + e) n 0 margin (x + e) e n
-  pass-start {e} {y} {x} qe qy qx =
+  pass_start {e} {y} {x} qe qy qx =
       let z : n - n ≡ 0 = omega arith in
       let v : y + e ≡ shifted cs rs n (n - 1) = omega arith in
       record {
         most = omega arith;
-        level = rw z (v ∙ sym (lowered-start fs cs rs n margin));
+        level = rw z (v ∙ sym (lowered_start fs cs rs n margin));
         low = omega (arith, g.ceiling (n - 1) (omega (arith, g.some)), shift-most (floors-carried g) (n - 1) (omega arith));
         span = record {
           ends = omega arith;
@@ -406,30 +406,30 @@ module _ {fs cs rs : List ℕ} {n margin : ℕ} (g : Ready fs cs rs n) where
   module _ {v past c room top e i : ℕ} (p : Pass fs cs rs n margin v past c room top e i) where
     -- one day down, to day k, whose shift is `here`, its ceiling y and its floor x
     module _ (k : ℕ) {here y x : ℕ} (q : i ≡ k + 1) (now : here ≡ shift (at rs) n k) (qy : y ≡ at cs k) (qx : x ≡ at fs k) where
-      cap-is : min v (y + here) ≡ min v (shifted cs rs n k)
-      cap-is = omega arith
+      cap_is : min v (y + here) ≡ min v (shifted cs rs n k)
+      cap_is = omega arith
 
-      cap-base : shifted fs rs n k ≤ min v (y + here)
-      cap-base = omega (arith, cap-is, g.fits k (omega (arith, p.most)), p.base k (omega arith))
+      cap_base : shifted fs rs n k ≤ min v (y + here)
+      cap_base = omega (arith, cap_is, g.fits k (omega (arith, p.most)), p.base k (omega arith))
 
-      entered : room + (x + here) ≡ margin + sumFor (shifted fs rs n) k (c + 1)
+      entered : room + (x + here) ≡ margin + sum_for (shifted fs rs n) k (c + 1)
       entered =
           let low : x + here ≡ shifted fs rs n k = omega arith in
-          let total : sumFor (shifted fs rs n) k (c + 1) ≡ shifted fs rs n k + sumFor (shifted fs rs n) i c = rw (← q) at (sum-front (shifted fs rs n) k c) in
+          let total : sum_for (shifted fs rs n) k (c + 1) ≡ shifted fs rs n k + sum_for (shifted fs rs n) i c = rw (← q) at (sum-front (shifted fs rs n) k c) in
           omega (arith, low, total, p.span.total)
 
-      entered-small : margin ≤ highestHeld → room + (x + here) ≤ highestRoom
+      entered-small : margin ≤ highest_held → room + (x + here) ≤ highest_room
       entered-small small =
-          let few : c + 1 ≤ mostDays = omega (arith, p.span.ends, p.span.inside, g.most) in
+          let few : c + 1 ≤ most_days = omega (arith, p.span.ends, p.span.inside, g.most) in
           omega (
             arith,
             entered,
-            mul-le-mul_left highestShifted few,
-            sum-most (shifted fs rs n) k (c + 1) highestShifted (λ j h u. shifted-most (floors-carried g) j (omega (arith, p.span.ends, p.span.inside))),
+            mul-le-mul_left highest_shifted few,
+            sum-most (shifted fs rs n) k (c + 1) highest_shifted (λ j h u. shifted-most (floors-carried g) j (omega (arith, p.span.ends, p.span.inside))),
           )
 
-      pass-enters : margin ≤ highestHeld → Entering fs rs n k margin (y + here) (x + here) v past c room top e
-      pass-enters small =
+      pass_enters : margin ≤ highest_held → Entering fs rs n k margin (y + here) (x + here) v past c room top e
+      pass_enters small =
           record {
             window = record {
               span = record {
@@ -443,39 +443,39 @@ module _ {fs cs rs : List ℕ} {n margin : ℕ} (g : Ready fs cs rs n) where
               beyond = λ j h u. omega (arith, p.beyond j h u);
             };
             low = omega (arith, p.low);
-            base = cap-base;
+            base = cap_base;
             small = entered-small small;
           }
 
       module _ {v' past' c' room' top' e' : ℕ} (l : Lowest fs rs n k margin (min v (y + here)) v' past' c' room' top' e') where
         -- the level found is the definition's
-        pass-level : v' ≡ loweredFrom fs cs rs n all margin (n - k)
-        pass-level =
+        pass_level : v' ≡ lowered_from fs cs rs n all margin (n - k)
+        pass_level =
             let m : n - i + 1 ≡ n - k = omega (arith, p.most) in
             let r : n - (n - k) ≡ k = omega (arith, p.most) in
-            let d : loweredFrom fs cs rs n all margin (n - k)
-            ≡ fit (overload fs rs n all k) margin (shifted fs rs n k) (min (loweredFrom fs cs rs n all margin (n - i)) (shifted cs rs n k)) =
+            let d : lowered_from fs cs rs n all margin (n - k)
+            ≡ fit (overload fs rs n all k) margin (shifted fs rs n k) (min (lowered_from fs cs rs n all margin (n - i)) (shifted cs rs n k)) =
             rw (m, r) at (lowered-more fs cs rs n margin (n - i)) in
-            let b : min v (y + here) ≡ min (loweredFrom fs cs rs n all margin (n - i)) (shifted cs rs n k) =
-            cap-is ∙ ap (λ x. min x (shifted cs rs n k)) p.level in
+            let b : min v (y + here) ≡ min (lowered_from fs cs rs n all margin (n - i)) (shifted cs rs n k) =
+            cap_is ∙ ap (λ x. min x (shifted cs rs n k)) p.level in
             let start : overload fs rs n all k (shifted fs rs n k) ≤ margin =
             omega (arith, over_none (shifted fs rs n) n k (shifted fs rs n k) (rising (floors-carried g)) (omega arith)) in
-            fitted-one l.level (fitted (overload fs rs n all k) margin (shifted fs rs n k) start (min v (y + here)) cap-base)
+            fitted-one l.level (fitted (overload fs rs n all k) margin (shifted fs rs n k) start (min v (y + here)) cap_base)
             ∙ ap (fit (overload fs rs n all k) margin (shifted fs rs n k)) b
             ∙ sym d
 
         -- as shown it is a level
-        pass-shown : (here ≤ v') × (v' - here ≤ highestLevel)
-        pass-shown = (omega (arith, l.level.least), omega (arith, cap-is, l.level.most, g.ceiling k (omega (arith, p.most))))
+        pass_shown : (here ≤ v') × (v' - here ≤ highest_level)
+        pass_shown = (omega (arith, l.level.least), omega (arith, cap_is, l.level.most, g.ceiling k (omega (arith, p.most))))
 
-        pass-stored : v' - here ≡ lowered fs cs rs n all margin k
-        pass-stored = omega (arith, pass-level)
+        pass_stored : v' - here ≡ lowered fs cs rs n all margin k
+        pass_stored = omega (arith, pass_level)
 
-        pass-turn : Pass fs cs rs n margin v' past' c' room' top' e' k
-        pass-turn =
+        pass_turn : Pass fs cs rs n margin v' past' c' room' top' e' k
+        pass_turn =
             record {
               most = omega (arith, p.most);
-              level = pass-level;
+              level = pass_level;
               low = omega (arith, l.level.most, p.low);
               span = l.window.span;
               beyond = found-beyond (floors-carried g) l.window;
@@ -486,31 +486,31 @@ module _ {fs cs rs : List ℕ} {n margin : ℕ} (g : Ready fs cs rs n) where
 
 -- the lowered ceiling of the m-th day from the end, as shown
 abbrev shown : List ℕ → List ℕ → List ℕ → ℕ → ℕ → ℕ → ℕ
-shown fs cs rs n margin m = loweredFrom fs cs rs n all margin m - shiftFrom (at rs) n m
+shown fs cs rs n margin m = lowered_from fs cs rs n all margin m - shift_from (at rs) n m
 
 -- ceilings lowered down to the first counted day, and carried back from there
 module _ {fs cs rs : List ℕ} {n first : ℕ} (g : Ready fs cs rs n) (counts : first < n) (margin : ℕ) where
   abbrev done : List ℕ
-  done = lastWritten (shown fs cs rs n margin) n (n - first) cs
+  done = last_written (shown fs cs rs n margin) n (n - first) cs
 
   done_first : at done first ≡ lowered fs cs rs n (counted first n) margin first
   done_first =
-      last-at (shown fs cs rs n margin) 0 n (n - first) cs first (omega arith) (omega arith) counts (omega (arith, g.ceilings, g.most)) ∙ sym (lowered-counted g margin first (le_refl first) counts)
+      last_at (shown fs cs rs n margin) 0 n (n - first) cs first (omega arith) (omega arith) counts (omega (arith, g.ceilings, g.most)) ∙ sym (lowered-counted g margin first (le_refl first) counts)
 
-  back_is : (m : ℕ) → m ≤ first → backFrom done rs first m ≡ lowered fs cs rs n (counted first n) margin (first - m)
-  unfolding backFrom
+  back_is : (m : ℕ) → m ≤ first → back_from done rs first m ≡ lowered fs cs rs n (counted first n) margin (first - m)
+  unfolding back_from
   back_is zero h = let e : first - 0 ≡ first = omega arith in rw e done_first
   back_is (suc m) h =
       let k : first - suc m + 1 ≡ first - m = omega arith in
       let old : at done (first - suc m) ≡ at cs (first - suc m) = last-before _ 0 n (n - first) cs (first - suc m) (omega arith) in
       let next : lowered fs cs rs n (counted first n) margin (first - suc m)
-      ≡ min (at cs (first - suc m)) (lowered fs cs rs n (counted first n) margin (first - m) + riseOffset - at rs (first - suc m)) =
+      ≡ min (at cs (first - suc m)) (lowered fs cs rs n (counted first n) margin (first - m) + rise_offset - at rs (first - suc m)) =
       rw k at (lowered-before g counts margin (first - suc m) (omega arith)) in
       omega (arith, old, next, back_is m (omega arith))
 
-  carried-all : written (carriedBack done rs first) first done ≡ written (lowered fs cs rs n (counted first n) margin) n cs
+  carried-all : written (carried_back done rs first) first done ≡ written (lowered fs cs rs n (counted first n) margin) n cs
   carried-all =
-      written_same (carriedBack done rs first) (lowered fs cs rs n (counted first n) margin) first done
+      written_same (carried_back done rs first) (lowered fs cs rs n (counted first n) margin) first done
       (λ k h. let e : first - (first - k) ≡ k = omega arith in rw e at (back_is (first - k) (omega arith)))
       ∙ last-front (shown fs cs rs n margin) (lowered fs cs rs n (counted first n) margin) n first cs (omega arith)
       (λ k h l. sym (lowered-counted g margin k h l))
@@ -521,14 +521,14 @@ pub record Lowering (fs cs rs : List ℕ) (n first margin : ℕ) (out : List ℕ
   pub late : first ≤ i
   pub shift-here : here ≡ shift (at rs) n i
   pub pass : Pass fs cs rs n margin v past c room top e (i + 1)
-  pub made : out ≡ lastWritten (shown fs cs rs n margin) n (n - (i + 1)) cs
+  pub made : out ≡ last_written (shown fs cs rs n margin) n (n - (i + 1)) cs
 
 pub plain_sight : {fs cs rs : List ℕ} {n : ℕ} → Ready fs cs rs n → Sight false fs rs n n
 plain_sight {n = n} g = record { all = g.most; some = le_refl n; small = (floors-carried g).floor; carried = floors-carried g }
 
-pub lowering-start : {fs cs rs : List ℕ} {n first margin : ℕ} → Ready fs cs rs n → first < n → {w e y x : ℕ} → w ≡ at rs (n - 1) → e ≡ lastShift + w - riseOffset → y ≡ at cs (n - 1)
+pub lowering_start : {fs cs rs : List ℕ} {n first margin : ℕ} → Ready fs cs rs n → first < n → {w e y x : ℕ} → w ≡ at rs (n - 1) → e ≡ last_shift + w - rise_offset → y ≡ at cs (n - 1)
     → x ≡ at fs (n - 1) → Lowering fs cs rs n first margin cs e (y + e) n 0 margin (x + e) e (n - 1)
-lowering-start {fs} {cs} {rs} {n} g counts {e = e} qw qe qy qx =
+lowering_start {fs} {cs} {rs} {n} g counts {e = e} qw qe qy qx =
     let z : n - (n - 1 + 1) ≡ 0 = omega arith in
     let o : n - 1 + 1 ≡ n = omega (arith, g.some) in
     let end : e ≡ shift (at rs) n (n - 1) = omega (arith, last-shift g) in
@@ -536,70 +536,70 @@ lowering-start {fs} {cs} {rs} {n} g counts {e = e} qw qe qy qx =
       inside = omega (arith, g.some);
       late = omega arith;
       shift-here = end;
-      pass = rw o (pass-start g end qy qx);
+      pass = rw o (pass_start g end qy qx);
       made = rw z (sym (last_none _ n cs));
     }
 
 module _ {fs cs rs : List ℕ} {n first margin : ℕ} {out : List ℕ} {here v past c room top e i : ℕ} (g : Ready fs cs rs n)
     (t : Lowering fs cs rs n first margin out here v past c room top e i) where
   -- the days up to i are as they were
-  lowering-old : {y : ℕ} → y ≡ at out i → y ≡ at cs i
-  lowering-old q = q ∙ ap (λ l. at l i) t.made ∙ last-before _ 0 n (n - (i + 1)) cs i (omega (arith, t.inside))
+  lowering_old : {y : ℕ} → y ≡ at out i → y ≡ at cs i
+  lowering_old q = q ∙ ap (λ l. at l i) t.made ∙ last-before _ 0 n (n - (i + 1)) cs i (omega (arith, t.inside))
 
-  pub lowering-most : here ≤ highestShift
-  lowering-most = omega (arith, t.shift-here, shift-most (floors-carried g) i (omega (arith, t.inside)))
+  pub lowering_most : here ≤ highest_shift
+  lowering_most = omega (arith, t.shift-here, shift-most (floors-carried g) i (omega (arith, t.inside)))
 
-  pub lowering-least : 0 < i → riseOffset ≤ here
-  lowering-least h = omega (arith, t.shift-here, shift-least (floors-carried g) i h (omega (arith, t.inside)))
+  pub lowering_least : 0 < i → rise_offset ≤ here
+  lowering_least h = omega (arith, t.shift-here, shift-least (floors-carried g) i h (omega (arith, t.inside)))
 
   module _ {y x : ℕ} (qy : y ≡ at out i) (qx : x ≡ at fs i) where
-    pub lowering-enters : margin ≤ highestHeld → Entering fs rs n i margin (y + here) (x + here) v past c room top e
-    lowering-enters small = pass-enters g t.pass i refl t.shift-here (lowering-old qy) qx small
+    pub lowering_enters : margin ≤ highest_held → Entering fs rs n i margin (y + here) (x + here) v past c room top e
+    lowering_enters small = pass_enters g t.pass i refl t.shift-here (lowering_old qy) qx small
 
     module _ {v' past' c' room' top' e' : ℕ} (l : Lowest fs rs n i margin (min v (y + here)) v' past' c' room' top' e') where
-      pub lowering-shown : (here ≤ v') × (v' - here ≤ highestLevel)
-      lowering-shown = pass-shown g t.pass i refl t.shift-here (lowering-old qy) qx l
+      pub lowering_shown : (here ≤ v') × (v' - here ≤ highest_level)
+      lowering_shown = pass_shown g t.pass i refl t.shift-here (lowering_old qy) qx l
 
       module _ {u : ℕ} (qu : u ≡ v' - here) where
-        stored : set out i u ≡ lastWritten (shown fs cs rs n margin) n (n - i) cs
+        stored : set out i u ≡ last_written (shown fs cs rs n margin) n (n - i) cs
         stored =
             let m : n - (i + 1) + 1 ≡ n - i = omega (arith, t.inside) in
             let k : n - (n - i) ≡ i = omega (arith, t.inside) in
-            let z : u ≡ shown fs cs rs n margin (n - (i + 1) + 1) = rw m (qu ∙ pass-stored g t.pass i refl t.shift-here (lowering-old qy) qx l) in
+            let z : u ≡ shown fs cs rs n margin (n - (i + 1) + 1) = rw m (qu ∙ pass_stored g t.pass i refl t.shift-here (lowering_old qy) qx l) in
             ap (λ l. set l i u) t.made ∙ (rw (m, k) at (last_more (shown fs cs rs n margin) n (n - (i + 1)) cs u z))
 
-        pub lowering-turn : {w here' : ℕ} → first < i → w ≡ at rs (i - 1) → here' ≡ here + w - riseOffset
+        pub lowering_turn : {w here' : ℕ} → first < i → w ≡ at rs (i - 1) → here' ≡ here + w - rise_offset
             → Lowering fs cs rs n first margin (set out i u) here' v' past' c' room' top' e' (i - 1)
-        lowering-turn {w} {here'} h qw qh =
+        lowering_turn {w} {here'} h qw qh =
             let o : i - 1 + 1 ≡ i = omega arith in
-            let s : shift (at rs) n (i - 1) + riseOffset ≡ shift (at rs) n i + at rs (i - 1) = rw o at (shift-next (floors-carried g) (i - 1) (omega (arith, t.inside))) in
+            let s : shift (at rs) n (i - 1) + rise_offset ≡ shift (at rs) n i + at rs (i - 1) = rw o at (shift-next (floors-carried g) (i - 1) (omega (arith, t.inside))) in
             record {
               inside = omega (arith, t.inside);
               late = omega arith;
               shift-here = omega (arith, t.shift-here);
-              pass = rw o (pass-turn g t.pass i refl t.shift-here (lowering-old qy) qx l);
+              pass = rw o (pass_turn g t.pass i refl t.shift-here (lowering_old qy) qx l);
               made = rw o stored;
             }
 
         -- after the first counted day, whose ceiling is carried back to the days before it
-        pub lowering-end : first < n → i ≤ first → {l : List ℕ} → l ≡ written (carriedBack (set out i u) rs first) first (set out i u)
+        pub lowering_end : first < n → i ≤ first → {l : List ℕ} → l ≡ written (carried_back (set out i u) rs first) first (set out i u)
             → l ≡ written (lowered fs cs rs n (counted first n) margin) n cs
-        lowering-end counts below q =
+        lowering_end counts below q =
             let e : i ≡ first = omega (arith, t.late) in
-            let done : set out i u ≡ lastWritten (shown fs cs rs n margin) n (n - first) cs = stored ∙ ap (λ (j : ℕ). lastWritten (shown fs cs rs n margin) n (n - j) cs) e in
+            let done : set out i u ≡ last_written (shown fs cs rs n margin) n (n - first) cs = stored ∙ ap (λ (j : ℕ). last_written (shown fs cs rs n margin) n (n - j) cs) e in
             q ∙ (rw done (carried-all g counts margin))
 
 -- ---- raise_floors: the same over the mirror of the counted days
 
 module _ {fs cs rs : List ℕ} {n : ℕ} (h : FloorsReady fs cs rs n) where
-  back-ready : Ready (mirroredAll cs n) (mirroredAll fs n) (reversedAll rs n) n
+  back-ready : Ready (mirrored_all cs n) (mirrored_all fs n) (reversed_all rs n) n
   back-ready = mirrored-ready h.ready h.rising
 
-  pub floor-small : (k : ℕ) → k < n → at fs k ≤ highestLevel
+  pub floor-small : (k : ℕ) → k < n → at fs k ≤ highest_level
   floor-small k l = omega (arith, h.ready.fits k l, h.ready.ceiling k l)
 
   -- the mirrored floors rise
-  back-rising : Stages.Rising (mirroredAll fs n) (reversedAll rs n) n
+  back-rising : Stages.Rising (mirrored_all fs n) (reversed_all rs n) n
   back-rising = (mirrored-ready own h.ready.rising).rising
     where
       own : Ready fs fs rs n
@@ -619,15 +619,15 @@ module _ {fs cs rs : List ℕ} {n : ℕ} (h : FloorsReady fs cs rs n) where
 
 -- m of these days are ready too
 module _ {fs cs rs : List ℕ} {n m : ℕ} (h : FloorsReady fs cs rs n) (some : 0 < m) (few : m ≤ n) where
-  part-rise : (k : ℕ) → k < m → Dec (k + 1 < m) → at (viewedRises true rs n m) k ≤ highestRiseCode
-  part-rise k l (yes u) = omega (arith, rises-at rs n m k (omega (arith, h.ready.most)) u, h.ready.rise (n - (k + 2)) (omega arith))
-  part-rise k l (no u) = omega (arith, last-rise rs n m k (omega arith) (omega (arith, h.ready.most)))
+  part_rise : (k : ℕ) → k < m → Dec (k + 1 < m) → at (viewed_rises true rs n m) k ≤ highest_rise_code
+  part_rise k l (yes u) = omega (arith, rises_at rs n m k (omega (arith, h.ready.most)) u, h.ready.rise (n - (k + 2)) (omega arith))
+  part_rise k l (no u) = omega (arith, last-rise rs n m k (omega arith) (omega (arith, h.ready.most)))
 
-  rises-same : (k : ℕ) → k + 1 < m → at (viewedRises true rs n m) k ≡ at (reversedAll rs n) k
-  rises-same k l = rises-at rs n m k (omega (arith, h.ready.most)) l ∙ sym (reversed-at n h.ready.most rs k (omega arith))
+  rises-same : (k : ℕ) → k + 1 < m → at (viewed_rises true rs n m) k ≡ at (reversed_all rs n) k
+  rises-same k l = rises_at rs n m k (omega (arith, h.ready.most)) l ∙ sym (reversed_at n h.ready.most rs k (omega arith))
 
-  part-ready : Ready (mirroredAll cs n) (mirroredAll fs n) (viewedRises true rs n m) m
-  part-ready =
+  part_ready : Ready (mirrored_all cs n) (mirrored_all fs n) (viewed_rises true rs n m) m
+  part_ready =
       let r = back-ready h in
       record {
         some = some;
@@ -637,39 +637,39 @@ module _ {fs cs rs : List ℕ} {n m : ℕ} (h : FloorsReady fs cs rs n) (some : 
         rises = length-written (reversed rs n) (m - 1) zeros ∙ zeros-length;
         fits = λ k l. r.fits k (omega arith);
         ceiling = λ k l. r.ceiling k (omega arith);
-        rise = λ k l. part-rise k l (dec_lt (k + 1) m);
+        rise = λ k l. part_rise k l (dec_lt (k + 1) m);
         rising = λ k l. omega (arith, rises-same k l, r.rising k (omega arith));
       }
 
-  pub back-sight : Sight true cs rs n m
-  back-sight = record { all = h.ready.most; some = few; small = h.ready.ceiling; carried = floors-carried part-ready }
+  pub back_sight : Sight true cs rs n m
+  back_sight = record { all = h.ready.most; some = few; small = h.ready.ceiling; carried = floors-carried part_ready }
 
   -- the pass over them is that of all days, of which they count
-  part-lowered : (margin k : ℕ) → k < m
-      → lowered (mirroredAll cs n) (mirroredAll fs n) (reversedAll rs n) n (counted 0 m) margin k ≡ lowered (mirroredAll cs n) (mirroredAll fs n) (viewedRises true rs n m) m all margin k
-  part-lowered margin k l = lowered-front (back-ready h) part-ready few rises-same (back-rising h) margin k l
+  part_lowered : (margin k : ℕ) → k < m
+      → lowered (mirrored_all cs n) (mirrored_all fs n) (reversed_all rs n) n (counted 0 m) margin k ≡ lowered (mirrored_all cs n) (mirrored_all fs n) (viewed_rises true rs n m) m all margin k
+  part_lowered margin k l = lowered-front (back-ready h) part_ready few rises-same (back-rising h) margin k l
 
 -- day i of a list, seen from the other end
-seen : (l : List ℕ) (n i : ℕ) {y : ℕ} → n ≤ mostDays → i < n → y ≡ highestLevel - at l i → y ≡ at (mirroredAll l n) (n - (i + 1))
+seen : (l : List ℕ) (n i : ℕ) {y : ℕ} → n ≤ most_days → i < n → y ≡ highest_level - at l i → y ≡ at (mirrored_all l n) (n - (i + 1))
 seen l n i few h q =
     let e : n - (n - (i + 1) + 1) ≡ i = omega arith in
-    rw q (sym (mirrored-at n few l (n - (i + 1)) (omega arith) ∙ ap (λ (k : ℕ). highestLevel - at l k) e))
+    rw q (sym (mirrored_at n few l (n - (i + 1)) (omega arith) ∙ ap (λ (k : ℕ). highest_level - at l k) e))
 
 -- the raised floor of day k
 abbrev high : List ℕ → List ℕ → List ℕ → ℕ → ℕ → ℕ → ℕ → ℕ
-high fs cs rs n first margin = mirrored (loweredAll (mirroredAll cs n) (mirroredAll fs n) (reversedAll rs n) n (counted 0 (n - first)) margin) n
+high fs cs rs n first margin = mirrored (lowered_all (mirrored_all cs n) (mirrored_all fs n) (reversed_all rs n) n (counted 0 (n - first)) margin) n
 
 -- at the loop's head, with the floors before day i raised; `here` is the shift of day i, seen from the other end
 pub record Raising (fs cs rs : List ℕ) (n first margin : ℕ) (out : List ℕ) (here v past c room top e i : ℕ) : Type 0 where
   pub inside : i < n
   pub late : first ≤ i
-  pub shift-here : here ≡ shift (at (viewedRises true rs n (n - first))) (n - first) (n - (i + 1))
-  pub pass : Pass (mirroredAll cs n) (mirroredAll fs n) (viewedRises true rs n (n - first)) (n - first) margin v past c room top e (n - i)
+  pub shift-here : here ≡ shift (at (viewed_rises true rs n (n - first))) (n - first) (n - (i + 1))
+  pub pass : Pass (mirrored_all cs n) (mirrored_all fs n) (viewed_rises true rs n (n - first)) (n - first) margin v past c room top e (n - i)
   pub made : out ≡ written (high fs cs rs n first margin) i fs
 
 module _ {fs cs rs : List ℕ} {n first : ℕ} (h : FloorsReady fs cs rs n) (counts : first < n) where
-  ready : Ready (mirroredAll cs n) (mirroredAll fs n) (viewedRises true rs n (n - first)) (n - first)
-  ready = part-ready h (omega arith) (omega arith)
+  ready : Ready (mirrored_all cs n) (mirrored_all fs n) (viewed_rises true rs n (n - first)) (n - first)
+  ready = part_ready h (omega arith) (omega arith)
 
   -- a floor before the counted days stays
   kept : (margin k : ℕ) → k < first → high fs cs rs n first margin k ≡ at fs k
@@ -677,85 +677,85 @@ module _ {fs cs rs : List ℕ} {n first : ℕ} (h : FloorsReady fs cs rs n) (cou
       let e : n - (n - (k + 1) + 1) ≡ k = omega arith in
       omega (
         arith,
-        lowered-at (back-ready h) (counted 0 (n - first)) margin (n - (k + 1)) (omega arith),
+        lowered_at (back-ready h) (counted 0 (n - first)) margin (n - (k + 1)) (omega arith),
         lowered-past {m = n - first} (back-ready h) (back-rising h) margin (n - (k + 1)) (omega arith) (omega arith),
-        rw e at (mirrored-at n h.ready.most fs (n - (k + 1)) (omega arith)),
+        rw e at (mirrored_at n h.ready.most fs (n - (k + 1)) (omega arith)),
         floor-small h k (omega arith),
       )
 
 module _ {fs cs rs : List ℕ} {n first margin : ℕ} (h : FloorsReady fs cs rs n) (counts : first < n) where
-  pub raising-start : {e y x : ℕ} → e + riseOffset ≡ lastShift → y ≡ highestLevel - at fs first → x ≡ highestLevel - at cs first
+  pub raising_start : {e y x : ℕ} → e + rise_offset ≡ last_shift → y ≡ highest_level - at fs first → x ≡ highest_level - at cs first
       → Raising fs cs rs n first margin fs e (y + e) (n - first) 0 margin (x + e) e first
-  raising-start {e} {y} {x} qe qy qx =
+  raising_start {e} {y} {x} qe qy qx =
       let one : n - (first + 1) ≡ n - first - 1 = omega arith in
-      let none : at (viewedRises true rs n (n - first)) (n - first - 1) ≡ 0 = last-rise rs n (n - first) (n - first - 1) (omega arith) (omega (arith, h.ready.most)) in
-      let end : e ≡ shift (at (viewedRises true rs n (n - first))) (n - first) (n - first - 1) = omega (arith, last-shift (ready h counts)) in
+      let none : at (viewed_rises true rs n (n - first)) (n - first - 1) ≡ 0 = last-rise rs n (n - first) (n - first - 1) (omega arith) (omega (arith, h.ready.most)) in
+      let end : e ≡ shift (at (viewed_rises true rs n (n - first))) (n - first) (n - first - 1) = omega (arith, last-shift (ready h counts)) in
       record {
         inside = counts;
         late = omega arith;
         shift-here = rw one end;
-        pass = pass-start (ready h counts) end (rw one at (seen fs n first h.ready.most counts qy)) (rw one at (seen cs n first h.ready.most counts qx));
-        made = sym (written_same (high fs cs rs n first margin) (at fs) first fs (kept h counts margin) ∙ written-own 0 first fs);
+        pass = pass_start (ready h counts) end (rw one at (seen fs n first h.ready.most counts qy)) (rw one at (seen cs n first h.ready.most counts qx));
+        made = sym (written_same (high fs cs rs n first margin) (at fs) first fs (kept h counts margin) ∙ written_own 0 first fs);
       }
 
   module _ {out : List ℕ} {here v past c room top e i : ℕ} (t : Raising fs cs rs n first margin out here v past c room top e i) where
     -- the days from i on are as they were
-    pub raising-old : at out i ≡ at fs i
-    raising-old = ap (λ l. at l i) t.made ∙ written-past _ 0 i fs i (omega arith)
+    pub raising_old : at out i ≡ at fs i
+    raising_old = ap (λ l. at l i) t.made ∙ written-past _ 0 i fs i (omega arith)
 
-    next-is : n - i ≡ n - (i + 1) + 1
-    next-is = omega (arith, t.inside)
+    next_is : n - i ≡ n - (i + 1) + 1
+    next_is = omega (arith, t.inside)
 
-    pub raising-most : here ≤ highestShift
-    raising-most = omega (arith, t.shift-here, shift-most (floors-carried (ready h counts)) (n - (i + 1)) (omega (arith, t.late)))
+    pub raising_most : here ≤ highest_shift
+    raising_most = omega (arith, t.shift-here, shift-most (floors-carried (ready h counts)) (n - (i + 1)) (omega (arith, t.late)))
 
-    pub raising-least : i + 1 < n → riseOffset ≤ here
-    raising-least m = omega (arith, t.shift-here, shift-least (floors-carried (ready h counts)) (n - (i + 1)) (omega arith) (omega (arith, t.late)))
+    pub raising_least : i + 1 < n → rise_offset ≤ here
+    raising_least m = omega (arith, t.shift-here, shift-least (floors-carried (ready h counts)) (n - (i + 1)) (omega arith) (omega (arith, t.late)))
 
-    module _ {y x : ℕ} (qy : y ≡ highestLevel - at out i) (qx : x ≡ highestLevel - at cs i) where
-      floor-is : y ≡ at (mirroredAll fs n) (n - (i + 1))
-      floor-is = seen fs n i h.ready.most t.inside (qy ∙ ap (λ (x : ℕ). highestLevel - x) raising-old)
+    module _ {y x : ℕ} (qy : y ≡ highest_level - at out i) (qx : x ≡ highest_level - at cs i) where
+      floor_is : y ≡ at (mirrored_all fs n) (n - (i + 1))
+      floor_is = seen fs n i h.ready.most t.inside (qy ∙ ap (λ (x : ℕ). highest_level - x) raising_old)
 
-      ceiling-is : x ≡ at (mirroredAll cs n) (n - (i + 1))
-      ceiling-is = seen cs n i h.ready.most t.inside qx
+      ceiling_is : x ≡ at (mirrored_all cs n) (n - (i + 1))
+      ceiling_is = seen cs n i h.ready.most t.inside qx
 
-      pub raising-enters : margin ≤ highestHeld
-          → Entering (mirroredAll cs n) (viewedRises true rs n (n - first)) (n - first) (n - (i + 1)) margin (y + here) (x + here) v past c room top e
-      raising-enters small = pass-enters (ready h counts) t.pass (n - (i + 1)) next-is t.shift-here floor-is ceiling-is small
+      pub raising_enters : margin ≤ highest_held
+          → Entering (mirrored_all cs n) (viewed_rises true rs n (n - first)) (n - first) (n - (i + 1)) margin (y + here) (x + here) v past c room top e
+      raising_enters small = pass_enters (ready h counts) t.pass (n - (i + 1)) next_is t.shift-here floor_is ceiling_is small
 
       module _ {v' past' c' room' top' e' : ℕ}
-          (l : Lowest (mirroredAll cs n) (viewedRises true rs n (n - first)) (n - first) (n - (i + 1)) margin (min v (y + here)) v' past' c' room' top' e') where
-        pub raising-shown : (here ≤ v') × (v' - here ≤ highestLevel)
-        raising-shown = pass-shown (ready h counts) t.pass (n - (i + 1)) next-is t.shift-here floor-is ceiling-is l
+          (l : Lowest (mirrored_all cs n) (viewed_rises true rs n (n - first)) (n - first) (n - (i + 1)) margin (min v (y + here)) v' past' c' room' top' e') where
+        pub raising_shown : (here ≤ v') × (v' - here ≤ highest_level)
+        raising_shown = pass_shown (ready h counts) t.pass (n - (i + 1)) next_is t.shift-here floor_is ceiling_is l
 
-        module _ {u : ℕ} (qu : u ≡ highestLevel - (v' - here)) where
-          written-up : set out i u ≡ written (high fs cs rs n first margin) (i + 1) fs
-          written-up =
-              let a : at (loweredAll (mirroredAll cs n) (mirroredAll fs n) (reversedAll rs n) n (counted 0 (n - first)) margin) (n - (i + 1)) ≡ v' - here =
-              lowered-at (back-ready h) (counted 0 (n - first)) margin (n - (i + 1)) (omega (arith, t.inside))
-              ∙ part-lowered h (omega arith) (omega arith) margin (n - (i + 1)) (omega (arith, t.late, t.inside))
-              ∙ sym (pass-stored (ready h counts) t.pass (n - (i + 1)) next-is t.shift-here floor-is ceiling-is l) in
-              ap (λ o. set o i u) t.made ∙ written-more _ i fs u (qu ∙ ap (λ (x : ℕ). highestLevel - x) (sym a))
+        module _ {u : ℕ} (qu : u ≡ highest_level - (v' - here)) where
+          written_up : set out i u ≡ written (high fs cs rs n first margin) (i + 1) fs
+          written_up =
+              let a : at (lowered_all (mirrored_all cs n) (mirrored_all fs n) (reversed_all rs n) n (counted 0 (n - first)) margin) (n - (i + 1)) ≡ v' - here =
+              lowered_at (back-ready h) (counted 0 (n - first)) margin (n - (i + 1)) (omega (arith, t.inside))
+              ∙ part_lowered h (omega arith) (omega arith) margin (n - (i + 1)) (omega (arith, t.late, t.inside))
+              ∙ sym (pass_stored (ready h counts) t.pass (n - (i + 1)) next_is t.shift-here floor_is ceiling_is l) in
+              ap (λ o. set o i u) t.made ∙ written-more _ i fs u (qu ∙ ap (λ (x : ℕ). highest_level - x) (sym a))
 
-          pub raising-turn : {w here' : ℕ} → i + 1 < n → w ≡ at rs i → here' ≡ here + w - riseOffset
+          pub raising_turn : {w here' : ℕ} → i + 1 < n → w ≡ at rs i → here' ≡ here + w - rise_offset
               → Raising fs cs rs n first margin (set out i u) here' v' past' c' room' top' e' (i + 1)
-          raising-turn {w} {here'} m qw qh =
+          raising_turn {w} {here'} m qw qh =
               let k : n - (n - (i + 1 + 1) + 2) ≡ i = omega arith in
               let o : n - (i + 1 + 1) + 1 ≡ n - (i + 1) = omega arith in
-              let b : at (viewedRises true rs n (n - first)) (n - (i + 1 + 1)) ≡ at rs i =
-              rises-at rs n (n - first) (n - (i + 1 + 1)) (omega (arith, h.ready.most)) (omega (arith, t.late)) ∙ ap (at rs) k in
-              let s : shift (at (viewedRises true rs n (n - first))) (n - first) (n - (i + 1 + 1)) + riseOffset
-              ≡ shift (at (viewedRises true rs n (n - first))) (n - first) (n - (i + 1)) + at (viewedRises true rs n (n - first)) (n - (i + 1 + 1)) =
+              let b : at (viewed_rises true rs n (n - first)) (n - (i + 1 + 1)) ≡ at rs i =
+              rises_at rs n (n - first) (n - (i + 1 + 1)) (omega (arith, h.ready.most)) (omega (arith, t.late)) ∙ ap (at rs) k in
+              let s : shift (at (viewed_rises true rs n (n - first))) (n - first) (n - (i + 1 + 1)) + rise_offset
+              ≡ shift (at (viewed_rises true rs n (n - first))) (n - first) (n - (i + 1)) + at (viewed_rises true rs n (n - first)) (n - (i + 1 + 1)) =
               rw o at (shift-next (floors-carried (ready h counts)) (n - (i + 1 + 1)) (omega (arith, t.late))) in
               record {
                 inside = m;
                 late = omega (arith, t.late);
                 shift-here = omega (arith, t.shift-here);
-                pass = pass-turn (ready h counts) t.pass (n - (i + 1)) next-is t.shift-here floor-is ceiling-is l;
-                made = written-up;
+                pass = pass_turn (ready h counts) t.pass (n - (i + 1)) next_is t.shift-here floor_is ceiling_is l;
+                made = written_up;
               }
 
-          pub raising-end : n ≤ i + 1 → set out i u ≡ raised fs cs rs n first margin
-          raising-end m =
+          pub raising_end : n ≤ i + 1 → set out i u ≡ raised fs cs rs n first margin
+          raising_end m =
               let z : i + 1 ≡ n = omega (arith, t.inside) in
-              (rw z at written-up) ∙ sym (raised_is fs cs rs n first margin)
+              (rw z at written_up) ∙ sym (raised_is fs cs rs n first margin)

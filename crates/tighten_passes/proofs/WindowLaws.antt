@@ -6,13 +6,13 @@ use native.Mathlib.Omega.{arith}
 use native.Mathlib.Decide.{dec_lt}
 use lib.Dec.{ltb}
 use borrow.Author.Tests.{ltb-true, ltb-false}
-use Rattle.theory_method.specs.Counted.{countIn}
+use Rattle.theory_method.specs.Counted.{count_in}
 use Rattle.tighten_passes.specs.Round.{below, window, over, step, rounded}
 
-pub rounded-is : (w : ℕ → Bool) (a : ℕ → ℕ) (n i margin v : ℕ)
-    → rounded w a n i margin v ≡ v - step (over w a n i v - margin) (countIn w i (window a n i v)) (v - a (i + window a n i v - 1))
+pub rounded_is : (w : ℕ → Bool) (a : ℕ → ℕ) (n i margin v : ℕ)
+    → rounded w a n i margin v ≡ v - step (over w a n i v - margin) (count_in w i (window a n i v)) (v - a (i + window a n i v - 1))
 unfolding rounded
-rounded-is w a n i margin v = refl
+rounded_is w a n i margin v = refl
 
 module _ (a : ℕ → ℕ) (i v : ℕ) where
   pub below-most : (m : ℕ) → below a i v m ≤ m
@@ -63,8 +63,8 @@ module _ (a : ℕ → ℕ) (n i v : ℕ) where
   window-past k h u = below-past a i v (n - i) k (omega arith) (omega arith)
 
   -- there is one such number
-  pub window-is : (c : ℕ) → 0 < c → i + c ≤ n → (1 < c → a (i + c - 1) < v) → ((k : ℕ) → i + c ≤ k → k < n → v ≤ a k) → c ≡ window a n i v
-  window-is c some inside under past = go (dec_lt c (window a n i v)) (dec_lt (window a n i v) c)
+  pub window_is : (c : ℕ) → 0 < c → i + c ≤ n → (1 < c → a (i + c - 1) < v) → ((k : ℕ) → i + c ≤ k → k < n → v ≤ a k) → c ≡ window a n i v
+  window_is c some inside under past = go (dec_lt c (window a n i v)) (dec_lt (window a n i v) c)
     where
       go : Dec (c < window a n i v) → Dec (window a n i v < c) → c ≡ window a n i v
       go (yes l) d =

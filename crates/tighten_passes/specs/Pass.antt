@@ -1,7 +1,7 @@
 -- What the functions of a pass hand on, over n days of floors and rise codes, all of which count. Levels are shifted.
 use Rattle.std.specs.Prelude.{ℕ, ◌+◌, ◌-◌, ◌*◌, ◌≤◌, ◌<◌, min, ◌≡◌, List}
-use Rattle.limits.specs.Limits.{mostDays, highestLevel, highestShift, highestHeld}
-use Rattle.theory_lists.specs.Sum.{sumFor, at}
+use Rattle.limits.specs.Limits.{most_days, highest_level, highest_shift, highest_held}
+use Rattle.theory_lists.specs.Sum.{sum_for, at}
 use Rattle.theory_chains.specs.Sum.{all}
 use Rattle.theory_chains.specs.Fit.{Fitted}
 use Rattle.theory_method.specs.Shift.{shift}
@@ -9,17 +9,17 @@ use Rattle.theory_method.specs.Filter.{shifted}
 use Rattle.tighten_passes.specs.Round.{over, window, rounded}
 
 -- no shifted level is above this, and no margin with the levels of all days above the next: 32 bits hold both
-abbrev pub highestShifted : ℕ
-highestShifted = highestShift + highestLevel
+abbrev pub highest_shifted : ℕ
+highest_shifted = highest_shift + highest_level
 
-abbrev pub highestRoom : ℕ
-highestRoom = highestHeld + mostDays * highestShifted
+abbrev pub highest_room : ℕ
+highest_room = highest_held + most_days * highest_shifted
 
 -- the c days from day i on, which end before `past`: the margin plus the sum of their floors, the floor of the last and its shift
 pub record Span (fs rs : List ℕ) (n i margin past c room top e : ℕ) : Type 0 where
   pub ends : past ≡ i + c
   pub inside : past ≤ n
-  pub total : room ≡ margin + sumFor (shifted fs rs n) i c
+  pub total : room ≡ margin + sum_for (shifted fs rs n) i c
   pub high : top ≡ shifted fs rs n (past - 1)
   pub last : e ≡ shift (at rs) n (past - 1)
 
@@ -59,6 +59,6 @@ pub record Lowest (fs rs : List ℕ) (n i margin cap u past c room top e : ℕ) 
 -- what is handed on to day i, with the next day at v: the window of the next day and day i itself
 pub record Entering (fs rs : List ℕ) (n i margin ceiling floor v past c room top e : ℕ) : Type 0 where
   pub window : Open fs rs n i margin (min v ceiling) past (c + 1) (room + floor) top e
-  pub low : min v ceiling ≤ highestShifted
+  pub low : min v ceiling ≤ highest_shifted
   pub base : shifted fs rs n i ≤ min v ceiling
-  pub small : room + floor ≤ highestRoom
+  pub small : room + floor ≤ highest_room

@@ -1,6 +1,6 @@
 -- One round of lowering day i's ceiling v, as document 01 has it, over the shifted floors a of n days, of which those of w count.
 use Rattle.std.specs.Prelude.{ℕ, zero, suc, ◌+◌, ◌-◌, ◌/◌, min, max, Bool, cond, ltb}
-use Rattle.theory_method.specs.Counted.{runSum, countIn}
+use Rattle.theory_method.specs.Counted.{run_sum, count_in}
 
 -- of the m days from day i on, the number of those up to the last that is below v, or 0
 unfoldable pub below : (ℕ → ℕ) → ℕ → ℕ → ℕ → ℕ
@@ -13,7 +13,7 @@ window a n i v = max 1 (below a i v (n - i))
 
 -- by how much v is above the floors of the counted days from day i on
 abbrev pub over : (ℕ → Bool) → (ℕ → ℕ) → ℕ → ℕ → ℕ → ℕ
-over w a n i v = runSum w (λ k. v - a k) i (n - i)
+over w a n i v = run_sum w (λ k. v - a k) i (n - i)
 
 -- the smaller of excess / count, rounded up, and room
 abbrev pub step : ℕ → ℕ → ℕ → ℕ
@@ -23,4 +23,4 @@ step excess count room = min ((excess + count - 1) / count) room
 unfoldable pub rounded : (ℕ → Bool) → (ℕ → ℕ) → ℕ → ℕ → ℕ → ℕ → ℕ
 rounded w a n i margin v =
     let days : ℕ = window a n i v in
-    v - step (over w a n i v - margin) (countIn w i days) (v - a (i + days - 1))
+    v - step (over w a n i v - margin) (count_in w i days) (v - a (i + days - 1))

@@ -2,14 +2,14 @@
 // the other end of the days and of the scale, in place. Both go over the counted days alone: a day before them gets its ceiling from the day after it, and
 // no total raises its floor.
 ghost use Rattle.std.specs.Prelude.{◌≡◌, true, false, cond, ℕ, ◌+◌, ◌-◌, ◌*◌, ◌≤◌, ◌<◌, min, ltb};
-ghost use Rattle.limits.specs.Limits.{mostDays, highestLevel, riseOffset, highestShift, highestHeld};
+ghost use Rattle.limits.specs.Limits.{most_days, highest_level, rise_offset, highest_shift, highest_held};
 ghost use Rattle.theory_lists.specs.Sum.{at};
 ghost use Rattle.theory_lists.specs.Written.{written};
 ghost use Rattle.theory_method.specs.Counted.{counted};
 ghost use Rattle.theory_method.specs.Filter.{shifted, lowered, reversed, raised};
 ghost use Rattle.theory_method.specs.Stages.{Ready};
-ghost use Rattle.tighten_passes.specs.View.{viewed, viewedRises, Sight, FloorsReady};
-ghost use Rattle.tighten_passes.specs.Pass.{highestShifted, highestRoom, Open, Sticking, Found, Overloaded, Rounded, Lowest, Entering};
+ghost use Rattle.tighten_passes.specs.View.{viewed, viewed_rises, Sight, FloorsReady};
+ghost use Rattle.tighten_passes.specs.Pass.{highest_shifted, highest_room, Open, Sticking, Found, Overloaded, Rounded, Lowest, Entering};
 
 use base_numbers::{smaller, word};
 use limits::{HIGHEST_LEVEL, LAST_SHIFT, MOST_DAYS, RISE_OFFSET};
@@ -32,16 +32,16 @@ struct Window {
 
 // A level, from the other end of the scale.
 fn mirror_level(level: u16) -> u32
-    requires { level ≤ highestLevel }
-    ensures { result ≡ highestLevel - level }
+    requires { level ≤ highest_level }
+    ensures { result ≡ highest_level - level }
 {
     HIGHEST_LEVEL as u32 - word(level)
 }
 
 // The level of day k, or of that day from the other end of n days and of the scale.
 fn level(levels: &[u16; MOST_DAYS], n: usize, k: usize, back: bool) -> u32
-    requires { (n ≤ mostDays) × (k < n) × ((j : ℕ) → j < n → at levels.now j ≤ highestLevel) }
-    ensures { (result ≡ at (viewed back levels.now n) k) × (result ≤ highestLevel) }
+    requires { (n ≤ most_days) × (k < n) × ((j : ℕ) → j < n → at levels.now j ≤ highest_level) }
+    ensures { (result ≡ at (viewed back levels.now n) k) × (result ≤ highest_level) }
 {
     if back {
         mirror_level(levels[n - (k + 1)])
@@ -52,7 +52,7 @@ fn level(levels: &[u16; MOST_DAYS], n: usize, k: usize, back: bool) -> u32
 
 // The code of the rise from day k to the next, or of that from the other end.
 fn rise(rises: &[u16; MOST_DAYS], n: usize, k: usize, back: bool) -> u32
-    requires { (n ≤ mostDays) × (k + 1 < n) }
+    requires { (n ≤ most_days) × (k + 1 < n) }
     ensures { (result ≡ cond back (reversed rises.now n k) (at rises.now k)) × (result < 65536) }
 {
     if back {
@@ -64,8 +64,8 @@ fn rise(rises: &[u16; MOST_DAYS], n: usize, k: usize, back: bool) -> u32
 
 // The shift of a day, from that of the next day and the rise code between them.
 fn shift_before(next: u32, rise: u32) -> u32
-    requires { (next ≤ highestShift) × (rise < 65536) × (riseOffset ≤ next + rise) }
-    ensures { result ≡ next + rise - riseOffset }
+    requires { (next ≤ highest_shift) × (rise < 65536) × (rise_offset ≤ next + rise) }
+    ensures { result ≡ next + rise - rise_offset }
 {
     next + rise - RISE_OFFSET as u32
 }
@@ -74,7 +74,7 @@ fn shift_before(next: u32, rise: u32) -> u32
 
 // Whether the window's last day is not below v, and is not day i.
 fn sticks(w: Window, i: usize) -> bool
-    requires { i < mostDays }
+    requires { i < most_days }
     ensures v_le_top { result ≡ true → (w.v ≤ w.top) × (i + 1 < w.past) }
     ensures top_lt_v { result ≡ false → i + 1 < w.past → w.top < w.v }
 {
@@ -96,9 +96,9 @@ fn drop_last(
     back: bool,
 ) -> Window
     requires sight { Sight back floors.now rises.now n days }
-    requires sticking { Sticking (viewed back floors.now n) (viewedRises back rises.now n days) days i margin w.v w.past w.count w.room w.top w.end }
+    requires sticking { Sticking (viewed back floors.now n) (viewed_rises back rises.now n days) days i margin w.v w.past w.count w.room w.top w.end }
     ensures v_value { (result.v ≡ w.v) × (result.past < w.past) }
-    ensures fact { Open (viewed back floors.now n) (viewedRises back rises.now n days) days i margin w.v result.past result.count result.room result.top result.end }
+    ensures fact { Open (viewed back floors.now n) (viewed_rises back rises.now n days) days i margin w.v result.past result.count result.room result.top result.end }
 {
     let past = w.past - 1;
     let last = past as usize - 1;
@@ -126,8 +126,8 @@ fn settle(
     back: bool,
 ) -> Window
     requires sight { Sight back floors.now rises.now n days }
-    requires fact { Open (viewed back floors.now n) (viewedRises back rises.now n days) days i margin w.v w.past w.count w.room w.top w.end }
-    ensures { (result.v ≡ w.v) × Found (viewed back floors.now n) (viewedRises back rises.now n days) days i margin w.v result.past result.count result.room result.top result.end }
+    requires fact { Open (viewed back floors.now n) (viewed_rises back rises.now n days) days i margin w.v w.past w.count w.room w.top w.end }
+    ensures { (result.v ≡ w.v) × Found (viewed back floors.now n) (viewed_rises back rises.now n days) days i margin w.v result.past result.count result.room result.top result.end }
 {
     let mut at = w;
     while sticks(at, i) {
@@ -163,8 +163,8 @@ fn round(
     back: bool,
 ) -> Window
     requires sight { Sight back floors.now rises.now n days }
-    requires overloaded { Overloaded (viewed back floors.now n) (viewedRises back rises.now n days) days i margin w.v w.past w.count w.room w.top w.end }
-    ensures { Rounded (viewed back floors.now n) (viewedRises back rises.now n days) days i margin w.v result.v result.past result.count result.room result.top result.end }
+    requires overloaded { Overloaded (viewed back floors.now n) (viewed_rises back rises.now n days) days i margin w.v w.past w.count w.room w.top w.end }
+    ensures { Rounded (viewed back floors.now n) (viewed_rises back rises.now n days) days i margin w.v result.v result.past result.count result.room result.top result.end }
 {
     let even = w.room / w.count;
     if w.top < even {
@@ -184,7 +184,7 @@ fn round(
 
 // Whether v is over the margin.
 fn is_over(w: Window) -> bool
-    requires { (w.count ≤ mostDays) × (w.v ≤ highestShifted) }
+    requires { (w.count ≤ most_days) × (w.v ≤ highest_shifted) }
     ensures { result ≡ ltb w.room (w.count * w.v) }
 {
     w.room < w.count * w.v
@@ -202,9 +202,9 @@ fn lower(
     back: bool,
 ) -> Window
     requires sight { Sight back floors.now rises.now n days }
-    requires fact { Open (viewed back floors.now n) (viewedRises back rises.now n days) days i margin w.v w.past w.count w.room w.top w.end }
-    requires v_le_highest_shifted { (w.v ≤ highestShifted) × (shifted (viewed back floors.now n) (viewedRises back rises.now n days) days i ≤ w.v) }
-    ensures { Lowest (viewed back floors.now n) (viewedRises back rises.now n days) days i margin w.v result.v result.past result.count result.room result.top result.end }
+    requires fact { Open (viewed back floors.now n) (viewed_rises back rises.now n days) days i margin w.v w.past w.count w.room w.top w.end }
+    requires v_le_highest_shifted { (w.v ≤ highest_shifted) × (shifted (viewed back floors.now n) (viewed_rises back rises.now n days) days i ≤ w.v) }
+    ensures { Lowest (viewed back floors.now n) (viewed_rises back rises.now n days) days i margin w.v result.v result.past result.count result.room result.top result.end }
 {
     let mut at = settle(floors, rises, n, days, i, margin, w, back);
     while is_over(at) {
@@ -215,7 +215,7 @@ fn lower(
 
 // The window of the next day with a day in front of it, whose shifted ceiling and floor are given.
 fn enter(next: Window, ceiling: u32, floor: u32) -> Window
-    requires { (next.count < mostDays) × (next.room + floor ≤ highestRoom) }
+    requires { (next.count < most_days) × (next.room + floor ≤ highest_room) }
     ensures { result ≡ record { v = min next.v ceiling; past = next.past; count = next.count + 1; room = next.room + floor; top = next.top; end = next.end } }
 {
     Window {
@@ -230,7 +230,7 @@ fn enter(next: Window, ceiling: u32, floor: u32) -> Window
 
 // Whether v is within the margin, and the window is not too long.
 fn fits(w: Window) -> bool
-    requires { (w.count ≤ mostDays) × (w.v ≤ highestShifted) }
+    requires { (w.count ≤ most_days) × (w.v ≤ highest_shifted) }
     ensures { result ≡ true → (w.top < w.v) × (w.count * w.v ≤ w.room) }
 {
     if w.v <= w.top {
@@ -275,8 +275,8 @@ fn raise_floor(
     next: Window,
 ) -> Window
     requires sight { Sight true ceilings.now rises.now n days }
-    requires entering { Entering (viewed true ceilings.now n) (viewedRises true rises.now n days) days i margin ceiling floor next.v next.past next.count next.room next.top next.end }
-    ensures { Lowest (viewed true ceilings.now n) (viewedRises true rises.now n days) days i margin (min next.v ceiling) result.v result.past result.count result.room result.top result.end }
+    requires entering { Entering (viewed true ceilings.now n) (viewed_rises true rises.now n days) days i margin ceiling floor next.v next.past next.count next.room next.top next.end }
+    ensures { Lowest (viewed true ceilings.now n) (viewed_rises true rises.now n days) days i margin (min next.v ceiling) result.v result.past result.count result.room result.top result.end }
 {
     let w = enter(next, ceiling, floor);
     if fits(w) {
@@ -289,7 +289,7 @@ fn raise_floor(
 
 // Before the last day, whose shift is `end`: its levels, shifted, and no day yet.
 fn start(ceiling: u32, floor: u32, end: u32, n: u32, margin: u32) -> Window
-    requires { (ceiling < 65536) × (floor < 65536) × (end ≤ highestShift) }
+    requires { (ceiling < 65536) × (floor < 65536) × (end ≤ highest_shift) }
     ensures { result ≡ record { v = ceiling + end; past = n; count = 0; room = margin; top = floor + end; end = end } }
 {
     Window {
@@ -304,7 +304,7 @@ fn start(ceiling: u32, floor: u32, end: u32, n: u32, margin: u32) -> Window
 
 // The level as shown.
 fn shown(w: Window, here: u32) -> u16
-    requires { (here ≤ w.v) × (w.v - here ≤ highestLevel) }
+    requires { (here ≤ w.v) × (w.v - here ≤ highest_level) }
     ensures { result ≡ w.v - here }
 {
     (w.v - here) as u16
@@ -320,7 +320,7 @@ pub fn lower_ceilings(
     first: usize,
     margin: u32,
 )
-    requires { Ready floors.now ceilings.old rises.now n × (first < n) × (margin ≤ highestHeld) }
+    requires { Ready floors.now ceilings.old rises.now n × (first < n) × (margin ≤ highest_held) }
     ensures { ceilings.new ≡ written (lowered floors.now ceilings.old rises.now n (counted first n) margin) n ceilings.old }
 {
     let days = n as u32;
@@ -359,7 +359,7 @@ pub fn raise_floors(
     first: usize,
     margin: u32,
 )
-    requires { FloorsReady floors.old ceilings.now rises.now n × (first < n) × (margin ≤ highestHeld) }
+    requires { FloorsReady floors.old ceilings.now rises.now n × (first < n) × (margin ≤ highest_held) }
     ensures { floors.new ≡ raised floors.old ceilings.now rises.now n first margin }
 {
     let end = n as u32;

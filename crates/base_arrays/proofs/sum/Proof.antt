@@ -2,7 +2,7 @@
 use Prim.Native.Nat.{◌-◌}
 use lib.ListN.{length}
 use Rattle.theory_lists.specs.Sum.{at}
-use Rattle.base_arrays.proofs.Laws.{Summed, summed-none, summed-more, summed-all}
+use Rattle.base_arrays.proofs.Laws.{Summed, summed_none, summed_more, summed_all}
 use borrow.Author.Rules.{rules}
 use Rattle.base_arrays.proofs.sum.Statement.{statement}
 use Rattle.base_arrays.proofs.sum.Tie as tie
@@ -14,13 +14,13 @@ abbrev decreases-loop : tie.decreases-loop
 decreases-loop levels total₀ count₀ end total count = length levels - count
 
 loop-holds : tie.Need-loop-init invariant-loop decreases-loop
-loop-holds c = summed-none
+loop-holds c = summed_none
 
 loop-again : tie.Need-loop-preserved invariant-loop decreases-loop
-loop-again c = summed-more c.before.before.before.loop.invariant c.before.before.loop-test.true c.word.ensures
+loop-again c = summed_more c.before.before.before.loop.invariant c.before.before.loop-test.true c.word.ensures
 
 returns : tie.Need-returns invariant-loop decreases-loop
-returns c = summed-all c.before.loop.invariant c.loop-test.false
+returns c = summed_all c.before.loop.invariant c.loop-test.false
 
 pub sum-spec : {M : Type 1} → statement M
 sum-spec =

@@ -8,7 +8,7 @@ abbrev at-start : tie.Else1 → tie.Start
 at-start c = c.before
 
 words : (s : tie.Start) → Words s.args.low s.args.high s.args.z
-words s = let f = s.ranges in record { low_fits = f.low; high_fits = f.high; z-fits = f.z }
+words s = let f = s.ranges in record { low_fits = f.low; high_fits = f.high; z_fits = f.z }
 
 tested : (c : tie.Else2) → let a = (at-start c.before).args in Tested a.low a.high a.z
 tested c =

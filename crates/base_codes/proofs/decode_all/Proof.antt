@@ -5,7 +5,7 @@ use Rattle.theory_lists.specs.Filled.{Filled, filled_none, filled_more, filled-a
 use mir.Syntax.{w32}
 use mir.Val.{to_z}
 use Rattle.base_codes.specs.Code.{decoded}
-use Rattle.base_codes.proofs.Loops.{low-seen, short-seen, decoded-seen}
+use Rattle.base_codes.proofs.Loops.{low_seen, short_seen, decoded_seen}
 use borrow.Author.Rules.{rules}
 use native.Mathlib.Omega.{arith}
 use Rattle.base_codes.proofs.decode_all.Statement.{statement}
@@ -30,19 +30,19 @@ at_turn c = c.before
 decode-short-requires : tie.Need-decode-short-requires invariant-loop decreases-loop
 decode-short-requires c κs =
     let s = at-start (at_turn c) in
-    (low-seen s.fits.low s.pre.0, s.pre.3 _ (omega arith))
+    (low_seen s.fits.low s.pre.0, s.pre.3 _ (omega arith))
 
 loop-again : tie.Need-loop-preserved invariant-loop decreases-loop
 loop-again c =
     let t = at_turn c.before in
     let s = at-start t in
     let more = t.loop-test.taken in
-    filled_more t.before.loop.inv more (short-seen s.fits.low (s.pre.0, s.pre.3 t.before.loop.k more) c.decode-short.ensures)
+    filled_more t.before.loop.inv more (short_seen s.fits.low (s.pre.0, s.pre.3 t.before.loop.k more) c.decode-short.ensures)
 
 returns : tie.Need-returns invariant-loop decreases-loop
 returns c =
     let s = c.before.before in
-    decoded-seen s.ranges.low s.args.codes.now _ s.args.out.now _ (filled-all c.before.loop.invariant c.loop-test.false)
+    decoded_seen s.ranges.low s.args.codes.now _ s.args.out.now _ (filled-all c.before.loop.invariant c.loop-test.false)
 
 pub decode-all-spec : {M : Type 1} → statement M
 decode-all-spec =

@@ -2,7 +2,7 @@
 use mathlib.Core.Path.{refl}
 use lib.ListN.{length-set}
 use native.Mathlib.Numerals.{add-one}
-use Rattle.base_little_endian.specs.Fields.{u16Bytes}
+use Rattle.base_little_endian.specs.Fields.{u16_bytes}
 use borrow.Author.Rules.{rules}
 use native.Mathlib.Omega.{arith}
 use Rattle.base_little_endian.proofs.put_u16.Statement.{statement}
@@ -12,7 +12,7 @@ slice-write-out-2 : tie.Need-slice-write-out-2
 slice-write-out-2 c = simp length-set (omega arith)
 
 returns : tie.Need-returns
-unfolding u16Bytes
+unfolding u16_bytes
 returns c = rw add-one refl
 
 pub put-u16-spec : {M : Type 1} → statement M

@@ -1,13 +1,13 @@
 -- `signed_32` meets its contract: from half on, the lowest number and what is above half (`signed` of Casts).
 use mir.Syntax.{w32}
-use Rattle.base_little_endian.proofs.Casts.{add-fits, signed}
+use Rattle.base_little_endian.proofs.Casts.{add_fits, signed}
 use borrow.Author.Rules.{rules}
 use native.Mathlib.Omega.{arith}
 use Rattle.base_little_endian.proofs.signed_32.Statement.{statement}
 use Rattle.base_little_endian.proofs.signed_32.Tie as tie
 
 add-result : tie.Need-overflow-add-result
-add-result c = add-fits w32 c.before.ranges.x (omega arith)
+add-result c = add_fits w32 c.before.ranges.x (omega arith)
 
 returns-2 : tie.Need-returns-2
 returns-2 c = signed w32 c.before.ranges.x (omega arith)

@@ -1,5 +1,5 @@
 -- `magnitude` meets its contract: -1 less a negative number, and 1 more, are how far it is below 0.
-use Rattle.base_text.proofs.Laws.{sub-fits, cast_fits, add-fits, magnitude}
+use Rattle.base_text.proofs.Laws.{sub-fits, cast_fits, add_fits, magnitude}
 use Rattle.base_text.proofs.magnitude.Statement.{statement}
 use Rattle.base_text.proofs.magnitude.Tie as tie
 
@@ -10,7 +10,7 @@ cast-result : tie.Need-overflow-cast-result
 cast-result c = cast_fits c.ranges.z c.requires
 
 add-result : tie.Need-overflow-add-result
-add-result c = add-fits c.ranges.z c.requires
+add-result c = add_fits c.ranges.z c.requires
 
 returns : tie.Need-returns
 returns c = magnitude c.ranges.z c.requires

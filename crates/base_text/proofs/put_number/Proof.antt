@@ -6,7 +6,7 @@ use lib.IntN.{nat_abs}
 use lib.ListN.{length, length-set}
 use mir.Syntax.{w32}
 use mir.Val.{to_z, of_z}
-use Rattle.theory_lists.specs.Rows.{sets-append}
+use Rattle.theory_lists.specs.Rows.{sets_append}
 use Rattle.base_text.specs.Numbers.{decimal, number}
 use borrow.Author.Rules.{rules}
 use Rattle.base_text.proofs.Laws.{negative, not_negative, whole-fits}
@@ -52,7 +52,7 @@ returns c =
     let a = (at-start (at-minus m).before).args in
     let e = minus m in
     let stored = d.put-decimal.ensures in
-    (rw e (stored.0 ∙ sets-append (45 ∷ []) (decimal m.magnitude.result) a.out.now a.at), omega (arith, ap length e, stored.1))
+    (rw e (stored.0 ∙ sets_append (45 ∷ []) (decimal m.magnitude.result) a.out.now a.at), omega (arith, ap length e, stored.1))
 
 -- ---- 0 or more
 

@@ -2,15 +2,15 @@
 -- The measure is the cuts left.
 use Prim.Native.Nat.{◌-◌, ◌*◌}
 use mathlib.Core.Path.{◌≡◌, sym, ap, ◌∙◌}
-use Rattle.theory_lists.specs.First.{nonzero, zero-fails, nonzero-here, nonzero-all, Nowhere, nowhere-none, nowhere-more}
-use Rattle.file_format.specs.Format.{numberedAt}
-use Rattle.c_files.specs.Writing.{numberedRefusal}
+use Rattle.theory_lists.specs.First.{nonzero, zero_fails, nonzero-here, nonzero-all, Nowhere, nowhere_none, nowhere_more}
+use Rattle.file_format.specs.Format.{numbered_at}
+use Rattle.c_files.specs.Writing.{numbered_refusal}
 use borrow.Author.Rules.{rules}
 use Rattle.c_files.proofs.cuts_refusal.Statement.{statement}
 use Rattle.c_files.proofs.cuts_refusal.Tie as tie
 
 abbrev invariant-loop : tie.invariant-loop
-invariant-loop cuts count days j₀ j = Nowhere (nonzero (λ k. numberedRefusal days (numberedAt cuts (k * 8)))) count j
+invariant-loop cuts count days j₀ j = Nowhere (nonzero (λ k. numbered_refusal days (numbered_at cuts (k * 8)))) count j
 
 abbrev decreases-loop : tie.decreases-loop
 decreases-loop cuts count days j₀ j = count - j
@@ -28,11 +28,11 @@ at-numbered c = c.before
 by-numbered : (c : tie.After-numbered-refusal invariant-loop decreases-loop)
     → let l = (at_turn (at-numbered c)).before in
     let a = (at-start l).args in
-    c.numbered-refusal.result ≡ numberedRefusal a.days (numberedAt a.cuts.now (l.loop.j * 8))
-by-numbered c = c.numbered-refusal.ensures ∙ ap (numberedRefusal _) (at-numbered c).numbered-at.ensures
+    c.numbered-refusal.result ≡ numbered_refusal a.days (numbered_at a.cuts.now (l.loop.j * 8))
+by-numbered c = c.numbered-refusal.ensures ∙ ap (numbered_refusal _) (at-numbered c).numbered-at.ensures
 
 loop-holds : tie.Need-loop-init invariant-loop decreases-loop
-loop-holds c = nowhere-none
+loop-holds c = nowhere_none
 
 returns : tie.Need-returns invariant-loop decreases-loop
 returns c =
@@ -43,7 +43,7 @@ returns c =
 loop-again : tie.Need-loop-preserved invariant-loop decreases-loop
 loop-again c =
     let t = at_turn (at-numbered c.before) in
-    nowhere-more t.before.loop.inv t.loop-test.taken (zero-fails _ (sym (by-numbered c.before) ∙ c.if1.false))
+    nowhere_more t.before.loop.inv t.loop-test.taken (zero_fails _ (sym (by-numbered c.before) ∙ c.if1.false))
 
 returns-2 : tie.Need-returns-2 invariant-loop decreases-loop
 returns-2 c = nonzero-all _ c.before.loop.invariant c.loop-test.false

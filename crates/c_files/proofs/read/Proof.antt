@@ -5,10 +5,10 @@ use mathlib.Core.List.{List}
 use native.Mathlib.Omega.{arith}
 use lib.ListN.{length}
 use borrow.Author.Rules.{rules}
-use Rattle.file_format.specs.Format.{cutCount}
+use Rattle.file_format.specs.Format.{cut_count}
 use Rattle.file_reading.specs.declared.ReadAnswer.{ReadAnswer}
-use Rattle.c_files.specs.Reading.{noRoomOver}
-use Rattle.c_files.proofs.Reading.{Found, found, Room, roomy, bad-file, too_short, Passed, Stored, read_all}
+use Rattle.c_files.specs.Reading.{no_room_over}
+use Rattle.c_files.proofs.Reading.{Found, found, Room, roomy, bad_file, too_short, Passed, Stored, read_all}
 use Rattle.c_files.proofs.read.Statement.{statement}
 use Rattle.c_files.proofs.read.Tie as tie
 
@@ -99,14 +99,14 @@ here c = found _ (from-right c).read.ensures.0 c.if1.false
 few : (c : tie.Else1) → (answer c).numbers.days ≤ 512
 few c = omega (arith, (here c).days, (here c).taken.few)
 
-count : (c : tie.After-wide) → c.wide.result ≡ cutCount (bytes (from-read (from-right (from-counted c))))
+count : (c : tie.After-wide) → c.wide.result ≡ cut_count (bytes (from-read (from-right (from-counted c))))
 count c = c.wide.ensures.0 ∙ (at-number c).u16-at.ensures
 
 judged : (c : tie.After-has-no-room)
     → let w = at-counted c in
     let e = from-counted w in
     let a = (from-read (from-right e)).args in
-    c.has-no-room.result ≡ noRoomOver (answer e).numbers.days w.wide.result (length a.floors.now) (length a.ceilings.now) (length a.rises.now) (length a.cuts.now)
+    c.has-no-room.result ≡ no_room_over (answer e).numbers.days w.wide.result (length a.floors.now) (length a.ceilings.now) (length a.rises.now) (length a.cuts.now)
 judged c = c.has-no-room.ensures
 
 -- past 2
@@ -148,22 +148,22 @@ stored c =
       low_read = r.0;
       high_read = r.1.0;
       steps-read = r.1.1;
-      floors-put = l.put-points.ensures;
-      ceilings-put = h.put-points2.ensures;
-      rises-put = s.put-points3.ensures;
-      cuts-put = rw (at_offset c.before).day-offset.ensures at c.put_rest.ensures;
+      floors_put = l.put-points.ensures;
+      ceilings_put = h.put-points2.ensures;
+      rises_put = s.put-points3.ensures;
+      cuts_put = rw (at_offset c.before).day-offset.ensures at c.put_rest.ensures;
     }
 
 -- ---- the answers
 
 returns : tie.Need-returns
-returns c = let t = c.before in bad-file _ _ _ _ _ (at_read t.before).read.ensures.0 t.if1.true c.refused.ensures
+returns c = let t = c.before in bad_file _ _ _ _ _ (at_read t.before).read.ensures.0 t.if1.true c.refused.ensures
 
 u16-at-requires : tie.Need-u16-at-requires
 u16-at-requires c κs = omega (arith, (here c.before).taken.whole)
 
 has-no-room-requires : tie.Need-has-no-room-requires
-has-no-room-requires c κs = let h = here (from-counted c) in (omega (arith, h.days, h.taken.some), omega (arith, count c, h.taken.fewCuts))
+has-no-room-requires c κs = let h = here (from-counted c) in (omega (arith, h.days, h.taken.some), omega (arith, count c, h.taken.few_cuts))
 
 returns-2 : tie.Need-returns-2
 returns-2 c =

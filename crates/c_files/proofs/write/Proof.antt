@@ -6,12 +6,12 @@ use native.Mathlib.Omega.{arith}
 use lib.ListN.{length}
 use borrow.Author.Rules.{rules}
 use Rattle.base_little_endian.specs.Fields.{Bytes}
-use Rattle.session.specs.Opening.{earlyOpening}
+use Rattle.session.specs.Opening.{early_opening}
 use Rattle.session.proofs.Entered.{entered}
-use Rattle.c_lists.specs.Profiles.{ByteProfile, byteProfile, byteLengthRefusal, profileOf}
+use Rattle.c_lists.specs.Profiles.{ByteProfile, byte_profile, byte_length_refusal, profile_of}
 use Rattle.c_lists.proofs.Laws.{Held, held}
-use Rattle.c_files.specs.Writing.{lengthsRefusal}
-use Rattle.c_files.proofs.Writing.{Sized, sized, Opens, Checked, Stored, bad-lengths, bad-profile, bad-cut, too_short, written}
+use Rattle.c_files.specs.Writing.{lengths_refusal}
+use Rattle.c_files.proofs.Writing.{Sized, sized, Opens, Checked, Stored, bad_lengths, bad_profile, bad_cut_lem, too_short, written}
 use Rattle.c_files.proofs.write.Statement.{statement}
 use Rattle.c_files.proofs.write.Tie as tie
 
@@ -118,7 +118,7 @@ the-lists c = from-floors (the-floors c)
 -- ---- what was handed over
 
 abbrev handed : tie.Start → ByteProfile
-handed s = let a = s.args in byteProfile a.numbers a.floors.now a.ceilings.now a.rises.now
+handed s = let a = s.args in byte_profile a.numbers a.floors.now a.ceilings.now a.rises.now
 
 cut-bytes : (c : tie.After-shared-slice-known4) → Bytes (at-start c).args.cuts.now
 cut-bytes c = record { small = λ k. omega (arith, c.shared-slice-known4.given k) }
@@ -126,7 +126,7 @@ cut-bytes c = record { small = λ k. omega (arith, c.shared-slice-known4.given k
 -- ---- what the checks found, and what the arrays hold
 
 -- past 1 and 2
-right-lengths : (c : tie.Else1) → let s = from-right c in lengthsRefusal (byteLengthRefusal (handed s)) (length s.args.cuts.now) ≡ 0
+right-lengths : (c : tie.Else1) → let s = from-right c in lengths_refusal (byte_length_refusal (handed s)) (length s.args.cuts.now) ≡ 0
 right-lengths c = sym c.before.lengths-refusal.ensures ∙ c.if1.false
 
 sizes : (c : tie.Else1) → let s = from-right c in Sized (handed s) (length s.args.cuts.now)
@@ -144,7 +144,7 @@ steps : (c : tie.After-points3)
 steps c = held _ _ (omega (arith, (sizes (from-floors (from-ceilings (from-rises c)))).lists.few)) c.points3.ensures
 
 -- what is checked as opening does
-by-opening : (c : tie.After-early-refusal) → c.early-refusal.result ≡ earlyOpening (profileOf (handed (from-right (from-floors (from-ceilings (from-rises (from-profile c)))))))
+by-opening : (c : tie.After-early-refusal) → c.early-refusal.result ≡ early_opening (profile_of (handed (from-right (from-floors (from-ceilings (from-rises (from-profile c)))))))
 by-opening c =
     let r = from-profile c in
     let h = from-rises r in
@@ -178,15 +178,15 @@ stored c =
       floors-held = (low (the-floors e)).same;
       ceilings-held = (high (the-ceilings e)).same;
       rises-held = (steps (the-rises e)).same;
-      header-put = h.put-header.ensures;
-      days-put = d.put-days.ensures;
-      cuts-put = rw (at_offset (from-header h)).day-offset.ensures at c.put_rest.ensures;
+      header_put = h.put-header.ensures;
+      days_put = d.put-days.ensures;
+      cuts_put = rw (at_offset (from-header h)).day-offset.ensures at c.put_rest.ensures;
     }
 
 -- ---- the lengths refused
 
 returns : tie.Need-returns
-returns c = let t = c.before in bad-lengths _ _ _ t.if1.true c.refuse.ensures t.before.lengths-refusal.ensures
+returns c = let t = c.before in bad_lengths _ _ _ t.if1.true c.refuse.ensures t.before.lengths-refusal.ensures
 
 -- ---- the points
 
@@ -229,7 +229,7 @@ returns-2 : tie.Need-returns-2
 returns-2 c =
     let t = c.before in
     let p = t.before in
-    bad-profile _ _ _ t.if2.true c.refuse2.ensures (right-lengths (from-floors (from-ceilings (from-rises (from-profile p))))) (by-opening p)
+    bad_profile _ _ _ t.if2.true c.refuse2.ensures (right-lengths (from-floors (from-ceilings (from-rises (from-profile p))))) (by-opening p)
 
 cuts-refusal-requires : tie.Need-cuts-refusal-requires
 cuts-refusal-requires c κs = let s = sizes (from-floors (from-ceilings (from-rises (from-profile c.before)))) in (s.few, omega arith)
@@ -237,7 +237,7 @@ cuts-refusal-requires c κs = let s = sizes (from-floors (from-ceilings (from-ri
 returns-3 : tie.Need-returns-3
 returns-3 c =
     let t = c.before in
-    bad-cut _ _ _ t.if3.true c.refuse3.ensures (opens (at-opens t.before)) t.before.cuts-refusal.ensures
+    bad_cut_lem _ _ _ t.if3.true c.refuse3.ensures (opens (at-opens t.before)) t.before.cuts-refusal.ensures
 
 day-offset-requires : tie.Need-day-offset-requires
 day-offset-requires c κs = (sizes (the-lists c)).lists.few

@@ -4,14 +4,14 @@ use Prim.Native.Nat.{◌-◌}
 use mathlib.Core.Path.{◌∙◌}
 use mir.Facts.{to_z-of_z}
 use mir.Syntax.{w16}
-use Rattle.c_lists.specs.Lists.{pointAt}
+use Rattle.c_lists.specs.Lists.{point_at}
 use Rattle.theory_lists.specs.Filled.{Filled, filled_none, filled_more, filled-all}
 use borrow.Author.Rules.{rules, sfits_of}
 use Rattle.c_lists.proofs.points.Statement.{statement}
 use Rattle.c_lists.proofs.points.Tie as tie
 
 abbrev invariant-loop : tie.invariant-loop
-invariant-loop bytes n out₀ k₀ out k = Filled (pointAt bytes) n k out₀ out
+invariant-loop bytes n out₀ k₀ out k = Filled (point_at bytes) n k out₀ out
 
 abbrev decreases-loop : tie.decreases-loop
 decreases-loop bytes n out₀ k₀ out k = n - k

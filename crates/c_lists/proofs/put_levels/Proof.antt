@@ -4,20 +4,20 @@ use Prim.Native.Nat.{◌-◌, ◌*◌}
 use mathlib.Core.Path.{refl, ◌∙◌}
 use mir.Facts.{to_z-of_z}
 use mir.Syntax.{w16}
-use Rattle.limits.specs.Limits.{lowestPoint}
+use Rattle.limits.specs.Limits.{lowest_point}
 use Rattle.base_codes.specs.Code.{decoded}
-use Rattle.base_little_endian.specs.Fields.{i16Bytes}
-use Rattle.base_little_endian.proofs.Laws.{i16-length}
-use Rattle.c_lists.specs.Lists.{pointBytes}
+use Rattle.base_little_endian.specs.Fields.{i16_bytes}
+use Rattle.base_little_endian.proofs.Laws.{i16_length}
+use Rattle.c_lists.specs.Lists.{point_bytes}
 use Rattle.theory_lists.specs.Sum.{at}
-use Rattle.theory_lists.specs.Rows.{Stored, stored-none, stored_more, stored-all}
+use Rattle.theory_lists.specs.Rows.{Stored, stored_none, stored_more, stored_all}
 use borrow.Author.Rules.{rules, sfits_of}
 use native.Mathlib.Omega.{arith}
 use Rattle.c_lists.proofs.put_levels.Statement.{statement}
 use Rattle.c_lists.proofs.put_levels.Tie as tie
 
 abbrev invariant-loop : tie.invariant-loop
-invariant-loop levels n out₀ k₀ out k = Stored (λ j. i16Bytes (decoded lowestPoint (at levels j))) n 0 out₀ k (k * 2) out
+invariant-loop levels n out₀ k₀ out k = Stored (λ j. i16_bytes (decoded lowest_point (at levels j))) n 0 out₀ k (k * 2) out
 
 abbrev decreases-loop : tie.decreases-loop
 decreases-loop levels n out₀ k₀ out k = n - k
@@ -36,7 +36,7 @@ abbrev at-start : tie.At-loop invariant-loop decreases-loop → tie.Start invari
 at-start c = c.before.before
 
 loop-holds : tie.Need-loop-init invariant-loop decreases-loop
-loop-holds c = stored-none
+loop-holds c = stored_none
 
 decode-short-requires : tie.Need-decode-short-requires invariant-loop decreases-loop
 decode-short-requires c κs =
@@ -50,11 +50,11 @@ loop-again c =
     let t = at_turn d.before in
     let l = t.before in
     let point = to_z-of_z (sfits_of {w = w16} d.decode-short.ok) ∙ d.decode-short.ensures in
-    stored_more l.loop.inv t.loop-test.taken (rw point at p.put-i16.ensures, omega (arith, i16-length (decoded lowestPoint (at (at-start l).args.levels.now l.loop.k))))
+    stored_more l.loop.inv t.loop-test.taken (rw point at p.put-i16.ensures, omega (arith, i16_length (decoded lowest_point (at (at-start l).args.levels.now l.loop.k))))
 
 returns : tie.Need-returns invariant-loop decreases-loop
-unfolding pointBytes
-returns c = (stored-all c.before.loop.invariant c.loop-test.false).0
+unfolding point_bytes
+returns c = (stored_all c.before.loop.invariant c.loop-test.false).0
 
 pub put-levels-spec : {M : Type 1} → statement M
 put-levels-spec =

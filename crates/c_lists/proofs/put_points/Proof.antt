@@ -4,17 +4,17 @@ use Prim.Native.Nat.{◌-◌, ◌*◌}
 use mir.Facts.{to_z-of_z}
 use mir.Syntax.{w16}
 use Rattle.base_codes.specs.Code.{on}
-use Rattle.base_little_endian.specs.Fields.{i16Bytes}
-use Rattle.base_little_endian.proofs.Laws.{i16-length}
-use Rattle.c_lists.specs.Lists.{pointBytes}
-use Rattle.theory_lists.specs.Rows.{Stored, stored-none, stored_more, stored-all}
+use Rattle.base_little_endian.specs.Fields.{i16_bytes}
+use Rattle.base_little_endian.proofs.Laws.{i16_length}
+use Rattle.c_lists.specs.Lists.{point_bytes}
+use Rattle.theory_lists.specs.Rows.{Stored, stored_none, stored_more, stored_all}
 use borrow.Author.Rules.{rules, sfits_of}
 use native.Mathlib.Omega.{arith}
 use Rattle.c_lists.proofs.put_points.Statement.{statement}
 use Rattle.c_lists.proofs.put_points.Tie as tie
 
 abbrev invariant-loop : tie.invariant-loop
-invariant-loop points n out₀ k₀ out k = Stored (λ j. i16Bytes (on points j)) n 0 out₀ k (k * 2) out
+invariant-loop points n out₀ k₀ out k = Stored (λ j. i16_bytes (on points j)) n 0 out₀ k (k * 2) out
 
 abbrev decreases-loop : tie.decreases-loop
 decreases-loop points n out₀ k₀ out k = n - k
@@ -30,7 +30,7 @@ abbrev at-start : tie.At-loop invariant-loop decreases-loop → tie.Start invari
 at-start c = c.before.before
 
 loop-holds : tie.Need-loop-init invariant-loop decreases-loop
-loop-holds c = stored-none
+loop-holds c = stored_none
 
 loop-again : tie.Need-loop-preserved invariant-loop decreases-loop
 loop-again c =
@@ -38,11 +38,11 @@ loop-again c =
     let t = at_turn p in
     let l = t.before in
     let bytes = rw (to_z-of_z (sfits_of {w = w16} p.before.put-i16-arg2.given)) at p.put-i16.ensures in
-    stored_more l.loop.inv t.loop-test.taken (bytes, omega (arith, i16-length (on (at-start l).args.points.now l.loop.k)))
+    stored_more l.loop.inv t.loop-test.taken (bytes, omega (arith, i16_length (on (at-start l).args.points.now l.loop.k)))
 
 returns : tie.Need-returns invariant-loop decreases-loop
-unfolding pointBytes
-returns c = (stored-all c.before.loop.invariant c.loop-test.false).0
+unfolding point_bytes
+returns c = (stored_all c.before.loop.invariant c.loop-test.false).0
 
 pub put-points-spec : {M : Type 1} → statement M
 put-points-spec =

@@ -2,18 +2,18 @@
 use mathlib.Core.Path.{◌∙◌}
 use native.Mathlib.Omega.{arith}
 use borrow.Author.Rules.{rules}
-use Rattle.c_layout.proofs.Held.{days-few, ceiling-held}
+use Rattle.c_layout.proofs.Held.{days_few, ceiling-held}
 use Rattle.c_loading.proofs.ceiling_of.Statement.{statement}
 use Rattle.c_loading.proofs.ceiling_of.Tie as tie
 
 mul-level : tie.Need-overflow-mul-level
-mul-level c = record { fits = omega (arith, days-few c.before.args.bytes.now, c.before.requires.1) }
+mul-level c = record { fits = omega (arith, days_few c.before.args.bytes.now, c.before.requires.1) }
 
 add-level-2 : tie.Need-overflow-add-level-2
-add-level-2 c = record { fits = omega (arith, days-few c.before.args.bytes.now, c.before.requires.1) }
+add-level-2 c = record { fits = omega (arith, days_few c.before.args.bytes.now, c.before.requires.1) }
 
 level-requires : tie.Need-level-requires
-level-requires c κs = omega (arith, days-few c.before.args.bytes.now, c.before.requires.1, c.before.requires.0)
+level-requires c κs = omega (arith, days_few c.before.args.bytes.now, c.before.requires.1, c.before.requires.0)
 
 returns : tie.Need-returns
 returns c = c.level.ensures ∙ ceiling-held _ _ c.before.before.requires.1

@@ -1,14 +1,14 @@
 -- `cells` meets its contract: the first k places hold the first k cells, each at most `most` (`Filled`), and a turn fills the next one (`filled_more`).
 -- The measure is the cells left.
 use Prim.Native.Nat.{◌+◌, ◌-◌, ◌*◌, min}
-use Rattle.base_little_endian.specs.Fields.{u16At}
+use Rattle.base_little_endian.specs.Fields.{u16_at}
 use Rattle.theory_lists.specs.Filled.{Filled, filled_none, filled_more, filled-all}
 use borrow.Author.Rules.{rules}
 use Rattle.c_loading.proofs.cells.Statement.{statement}
 use Rattle.c_loading.proofs.cells.Tie as tie
 
 abbrev invariant-loop : tie.invariant-loop
-invariant-loop bytes place n most out₀ k₀ out k = Filled (λ j. min (u16At bytes (place + j * 2)) most) n k out₀ out
+invariant-loop bytes place n most out₀ k₀ out k = Filled (λ j. min (u16_at bytes (place + j * 2)) most) n k out₀ out
 
 abbrev decreases-loop : tie.decreases-loop
 decreases-loop bytes place n most out₀ k₀ out k = n - k

@@ -1,4 +1,4 @@
--- `days_of` meets its contract: the field is read, widened and bounded as `daysAt` says (`days-held`).
+-- `days_of` meets its contract: the field is read, widened and bounded as `days_at` says (`days-held`).
 use mathlib.Core.Path.{◌∙◌, ap}
 use Prim.Native.Nat.{min, max}
 use borrow.Author.Rules.{rules}

@@ -2,7 +2,7 @@
 use mathlib.Core.Path.{◌∙◌}
 use native.Mathlib.Omega.{arith}
 use borrow.Author.Rules.{rules}
-use Rattle.c_layout.proofs.Held.{days-few, loaded, rises-held, floors-held, ceilings-held}
+use Rattle.c_layout.proofs.Held.{days_few, loaded, rises-held, floors-held, ceilings-held}
 use Rattle.c_loading.proofs.load_present.Statement.{statement}
 use Rattle.c_loading.proofs.load_present.Tie as tie
 
@@ -19,19 +19,19 @@ at-rises c = c.before.before
 cells-requires : tie.Need-cells-requires
 cells-requires c κs =
     let d = c.before in
-    let few = days-few (at-start d).args.bytes.now in
+    let few = days_few (at-start d).args.bytes.now in
     (omega (arith, d.days-of.ensures, few), omega (arith, d.days-of.ensures, few, (at-start d).requires.0))
 
 cells-requires-2 : tie.Need-cells-requires-2
 cells-requires-2 c κs =
     let d = at-days c.before in
-    let few = days-few (at-start d).args.bytes.now in
+    let few = days_few (at-start d).args.bytes.now in
     (omega (arith, d.days-of.ensures, few), omega (arith, d.days-of.ensures, few, (at-start d).pre.0))
 
 cells-requires-3 : tie.Need-cells-requires-3
 cells-requires-3 c κs =
     let d = at-days (at-rises c.before) in
-    let few = days-few (at-start d).args.bytes.now in
+    let few = days_few (at-start d).args.bytes.now in
     (omega (arith, d.days-of.ensures, few), omega (arith, d.days-of.ensures, few, (at-start d).pre.0))
 
 returns : tie.Need-returns

@@ -3,14 +3,14 @@ use Prim.Native.Nat.{ℕ, ◌+◌, ◌*◌, min}
 use lib.IntN.{ℤ}
 use lib.Seq.{sets}
 use mathlib.Core.Path.{ap, ◌∙◌}
-use Rattle.limits.specs.Limits.{lowestPoint}
+use Rattle.limits.specs.Limits.{lowest_point}
 use Rattle.base_codes.specs.Code.{decoded}
-use Rattle.base_little_endian.specs.Fields.{u16At}
-use Rattle.session.specs.Showing.{floorOn, ceilingOn}
-use Rattle.c_lists.specs.Lists.{pointBytes}
-use Rattle.c_lists.proofs.Laws.{points-front}
+use Rattle.base_little_endian.specs.Fields.{u16_at}
+use Rattle.session.specs.Showing.{floor_on, ceiling_on}
+use Rattle.c_lists.specs.Lists.{point_bytes}
+use Rattle.c_lists.proofs.Laws.{points_front}
 use Rattle.c_layout.specs.Layout.{decoding}
-use Rattle.c_layout.proofs.Held.{days-few, floor-held, ceiling-held}
+use Rattle.c_layout.proofs.Held.{days_few, floor-held, ceiling-held}
 use borrow.Author.Rules.{rules}
 use native.Mathlib.Omega.{arith}
 use Rattle.c_loading.proofs.show_present.Statement.{statement}
@@ -33,7 +33,7 @@ show-levels-requires : tie.Need-show-levels-requires
 show-levels-requires c κs =
     let d = c.before in
     let s = at-start d in
-    let few = days-few s.args.bytes.now in
+    let few = days_few s.args.bytes.now in
     let e = d.days-of.ensures in
     (omega (arith, e), omega (arith, e, s.pre.0), omega (arith, e, s.pre.1))
 
@@ -41,7 +41,7 @@ show-levels-requires-2 : tie.Need-show-levels-requires-2
 show-levels-requires-2 c κs =
     let d = at-days c.before.before.before in
     let s = at-start d in
-    let few = days-few s.args.bytes.now in
+    let few = days_few s.args.bytes.now in
     let e = d.days-of.ensures in
     (omega (arith, e), omega (arith, e, s.pre.0), omega (arith, e, s.pre.2))
 
@@ -53,12 +53,12 @@ returns c =
     let s = at-start d in
     let b = s.args.bytes.now in
     let n = (decoding b).days in
-    let low : (ℕ → ℤ) = λ k. decoded lowestPoint (min (u16At b (3092 + k * 2)) 5000) in
-    let high : (ℕ → ℤ) = λ k. decoded lowestPoint (min (u16At b (4116 + k * 2)) 5000) in
-    let floors = l.show-levels.ensures ∙ ap (λ m. sets s.args.floors.now 0 (pointBytes low m)) d.days-of.ensures in
-    let ceilings = h.show-levels2.ensures ∙ ap (λ m. sets s.args.ceilings.now 0 (pointBytes high m)) d.days-of.ensures in (
-      points-front (floorOn (decoding b)) low n s.args.floors.now (λ k u. ap (decoded lowestPoint) (floor-held b k u)) s.pre.1 floors,
-      points-front (ceilingOn (decoding b)) high n s.args.ceilings.now (λ k u. ap (decoded lowestPoint) (ceiling-held b k u)) s.pre.2 ceilings,
+    let low : (ℕ → ℤ) = λ k. decoded lowest_point (min (u16_at b (3092 + k * 2)) 5000) in
+    let high : (ℕ → ℤ) = λ k. decoded lowest_point (min (u16_at b (4116 + k * 2)) 5000) in
+    let floors = l.show-levels.ensures ∙ ap (λ m. sets s.args.floors.now 0 (point_bytes low m)) d.days-of.ensures in
+    let ceilings = h.show-levels2.ensures ∙ ap (λ m. sets s.args.ceilings.now 0 (point_bytes high m)) d.days-of.ensures in (
+      points_front (floor_on (decoding b)) low n s.args.floors.now (λ k u. ap (decoded lowest_point) (floor-held b k u)) s.pre.1 floors,
+      points_front (ceiling_on (decoding b)) high n s.args.ceilings.now (λ k u. ap (decoded lowest_point) (ceiling-held b k u)) s.pre.2 ceilings,
     )
 
 pub show-present-spec : {M : Type 1} → statement M

@@ -5,8 +5,8 @@ use mathlib.Core.List.{List}
 use Prim.Native.Nat.{ℕ}
 use native.Mathlib.Omega.{arith}
 use borrow.Author.Rules.{rules}
-use Rattle.c_layout.proofs.Inverse.{decoding-in-bounds}
-use Rattle.c_schedules.proofs.Laws.{both, no-session, no-list, session-and-list, inspect-unread, inspect-spent, inspect-judged}
+use Rattle.c_layout.proofs.Inverse.{decoding_in_bounds}
+use Rattle.c_schedules.proofs.Laws.{both, no_session, no_list, session-and-list, inspect_unread, inspect_spent, inspect_judged}
 use Rattle.c_schedules.proofs.judge.Statement.{statement}
 use Rattle.c_schedules.proofs.judge.Tie as tie
 
@@ -36,16 +36,16 @@ right c = session-and-list _ _ (at-session c.before).if1.false c.before.days-of.
 -- ---- the answers
 
 returns : tie.Need-returns
-returns c = inspect-unread _ _ (no-session _ _ c.if1.true)
+returns c = inspect_unread _ _ (no_session _ _ c.if1.true)
 
 mul-if2 : tie.Need-overflow-mul-if2
-mul-if2 c = record { fits = omega (arith, c.days-of.ensures, (decoding-in-bounds (bytes c)).present.most) }
+mul-if2 c = record { fits = omega (arith, c.days-of.ensures, (decoding_in_bounds (bytes c)).present.most) }
 
 returns-2 : tie.Need-returns-2
-returns-2 c = let d = c.before in inspect-unread _ _ (no-list _ _ (at-session d).if1.false d.days-of.ensures c.if2.true)
+returns-2 c = let d = c.before in inspect_unread _ _ (no_list _ _ (at-session d).if1.false d.days-of.ensures c.if2.true)
 
 returns-3 : tie.Need-returns-3
-returns-3 c = let m = c.before in inspect-spent _ _ (right (at_right m)) m.is-spent.ensures c.if3.true
+returns-3 c = let m = c.before in inspect_spent _ _ (right (at_right m)) m.is_spent.ensures c.if3.true
 
 judge-points-requires : tie.Need-judge-points-requires
 judge-points-requires c κs = let r = at_right (at-marked c) in (search rules, omega (arith, r.before.days-of.ensures, r.if2.left))
@@ -54,7 +54,7 @@ returns-4 : tie.Need-returns-4
 returns-4 c =
     let f = c.before in
     let m = at-marked f in
-    inspect-judged _ _ (right (at_right m)) m.is-spent.ensures f.if3.false c.judge-points.ensures
+    inspect_judged _ _ (right (at_right m)) m.is_spent.ensures f.if3.false c.judge-points.ensures
 
 pub judge-spec : {M : Type 1} → statement M
 judge-spec =

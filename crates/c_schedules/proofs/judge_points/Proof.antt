@@ -1,8 +1,8 @@
--- `judge_points` meets its contract: what is loaded is the session's (`Loaded`), and the codes are those of the list's points (`points-judged`).
+-- `judge_points` meets its contract: what is loaded is the session's (`Loaded`), and the codes are those of the list's points (`points_judged`).
 use native.Mathlib.Omega.{arith}
 use borrow.Author.Rules.{rules}
 use Rattle.c_layout.specs.Layout.{decoding}
-use Rattle.c_schedules.proofs.Laws.{Loaded, loads, points-judged}
+use Rattle.c_schedules.proofs.Laws.{Loaded, loads, points_judged}
 use Rattle.c_schedules.proofs.judge_points.Statement.{statement}
 use Rattle.c_schedules.proofs.judge_points.Tie as tie
 
@@ -55,7 +55,7 @@ returns c =
     let t = at-total c.before in
     let k = at-coded t in
     let e = k.code-points.ensures.1 in
-    points-judged (loaded (at-loaded k)) t.total_of.ensures _ e.1 e.0 c.judge-codes.ensures
+    points_judged (loaded (at-loaded k)) t.total_of.ensures _ e.1 e.0 c.judge-codes.ensures
 
 pub judge-points-spec : {M : Type 1} → statement M
 judge-points-spec =

@@ -1,7 +1,7 @@
 -- `load_levels` meets its contract: what is loaded is the session's (`Loaded`), and each arm knows its subject.
 use borrow.Author.Rules.{rules}
 use Rattle.c_layout.specs.Layout.{decoding}
-use Rattle.c_schedules.proofs.Laws.{Loaded, loads, day-loaded, day-levels, total-loaded, total-levels}
+use Rattle.c_schedules.proofs.Laws.{Loaded, loads, day_loaded, day_levels_lem, total_loaded, total_levels_lem}
 use Rattle.c_schedules.proofs.load_levels.Statement.{statement}
 use Rattle.c_schedules.proofs.load_levels.Tie as tie
 
@@ -48,26 +48,26 @@ write-through-requires c κs =
     let t = at-lowest c in
     let s = at-day t in
     let l = at-loaded s in
-    day-loaded (loaded l) _ (from-loaded l).pre.1 _ s.subject.given.1 t.total_of.ensures.0
+    day_loaded (loaded l) _ (from-loaded l).pre.1 _ s.subject.given.1 t.total_of.ensures.0
 
 raise-to-requires : tie.Need-raise-to-requires
 raise-to-requires c κs =
     let t = at-total c in
     let l = at_told t in
-    total-loaded (loaded l) _ (from-loaded l).pre.1 t.enum_told.given.1
+    total_loaded (loaded l) _ (from-loaded l).pre.1 t.enum_told.given.1
 
 returns : tie.Need-returns
 returns c =
     let t = at-lowest c.before in
     let s = at-day t in
     let l = at-loaded s in
-    day-levels (loaded l) _ (from-loaded l).pre.1 _ s.subject.given.1 t.total_of.ensures.0 c.write-through.ensures.0
+    day_levels_lem (loaded l) _ (from-loaded l).pre.1 _ s.subject.given.1 t.total_of.ensures.0 c.write-through.ensures.0
 
 returns-2 : tie.Need-returns-2
 returns-2 c =
     let t = at-total c.before in
     let l = at_told t in
-    total-levels (loaded l) _ (from-loaded l).pre.1 t.enum_told.given.1 c.raise-to.ensures
+    total_levels_lem (loaded l) _ (from-loaded l).pre.1 t.enum_told.given.1 c.raise-to.ensures
 
 pub load-levels-spec : {M : Type 1} → statement M
 load-levels-spec =

@@ -8,16 +8,16 @@ use mir.Facts.{to_z-of_z}
 use native.Mathlib.Omega.{arith}
 use borrow.Author.Rules.{rules}
 use lib.Seq.{sets}
-use Rattle.limits.specs.Limits.{lowestPoint}
+use Rattle.limits.specs.Limits.{lowest_point}
 use Rattle.theory_lists.specs.Sum.{at}
 use Rattle.base_codes.specs.Code.{decoded}
 use Rattle.session.specs.declared.Session.{Session}
-use Rattle.c_lists.specs.Lists.{pointBytes}
+use Rattle.c_lists.specs.Lists.{point_bytes}
 use Rattle.c_layout.specs.Layout.{decoding}
-use Rattle.c_layout.proofs.Inverse.{decoding-in-bounds}
-use Rattle.c_schedules.specs.Schedules.{setpointFor}
-use Rattle.c_schedules.specs.Stages.{checkedFor}
-use Rattle.c_schedules.proofs.Laws.{both, no-session, no-list, session-and-list, Taken, code_fits, PointsStanding, points-standing, write-unread, write-refused, write-all}
+use Rattle.c_layout.proofs.Inverse.{decoding_in_bounds}
+use Rattle.c_schedules.specs.Schedules.{setpoint_for}
+use Rattle.c_schedules.specs.Stages.{checked_for}
+use Rattle.c_schedules.proofs.Laws.{both, no_session, no_list, session-and-list, Taken, code_fits, PointsStanding, points_standing, write_unread, write-refused, write-all}
 use Rattle.c_schedules.proofs.write.Statement.{statement}
 use Rattle.c_schedules.proofs.write.Tie as tie
 
@@ -67,39 +67,39 @@ held c = decoding (bytes c)
 -- ---- what was found, checked, loaded and stored
 
 few : (c : tie.After-days-of) → c.days-of.result ≤ 512
-few c = omega (arith, c.days-of.ensures, (decoding-in-bounds (bytes c)).present.most)
+few c = omega (arith, c.days-of.ensures, (decoding_in_bounds (bytes c)).present.most)
 
 right : (c : tie.Else2) → both (bytes c.before) (list c.before) ≡ true
 right c = session-and-list _ _ (at-session c.before).if1.false c.before.days-of.ensures c.if2.false
 
-checked : (c : tie.After-check) → let d = from-checked c in let a = (from-days d).args in c.check.result ≡ checkedFor (held d) a.subject a.value
+checked : (c : tie.After-check) → let d = from-checked c in let a = (from-days d).args in c.check.result ≡ checked_for (held d) a.subject a.value
 checked c = rw (to_z-of_z (from-days (from-checked c)).ranges.value) at c.check.ensures
 
 taken : (c : tie.Else3) → let k = at-checked c in let d = from-checked k in let a = (from-days d).args in Taken (held d) a.subject a.value k.check.result
-taken c = let k = at-checked c in record { bounds = decoding-in-bounds (bytes (from-checked k)); right = checked k; none = c.if3.false }
+taken c = let k = at-checked c in record { bounds = decoding_in_bounds (bytes (from-checked k)); right = checked k; none = c.if3.false }
 
 loaded : (c : tie.After-load-levels)
     → let d = from-checked (at-checked (from-loaded c)) in
     let a = (from-days d).args in
-    PointsStanding (setpointFor (held d) a.subject a.value) (held d).days c.load-levels.new.1.1.1.0
-loaded c = points-standing _ (taken (from-loaded c)) c.load-levels.ensures
+    PointsStanding (setpoint_for (held d) a.subject a.value) (held d).days c.load-levels.new.1.1.1.0
+loaded c = points_standing _ (taken (from-loaded c)) c.load-levels.ensures
 
 stored : (c : tie.After-put-levels)
     → let l = at-loaded c.before in
     let d = from-checked (at-checked (from-loaded l)) in
-    c.put-levels.new.1.1.0 ≡ sets (list d) 0 (pointBytes (λ k. decoded lowestPoint (at l.load-levels.last.1.1.1.0 k)) d.days-of.result)
+    c.put-levels.new.1.1.0 ≡ sets (list d) 0 (point_bytes (λ k. decoded lowest_point (at l.load-levels.last.1.1.1.0 k)) d.days-of.result)
 stored c = c.put-levels.ensures
 
 -- ---- the answers
 
 returns : tie.Need-returns
-returns c = write-unread _ _ _ _ (no-session _ _ c.if1.true)
+returns c = write_unread _ _ _ _ (no_session _ _ c.if1.true)
 
 mul-if2 : tie.Need-overflow-mul-if2
 mul-if2 c = record { fits = omega (arith, few c) }
 
 returns-2 : tie.Need-returns-2
-returns-2 c = let d = c.before in write-unread _ _ _ _ (no-list _ _ (at-session d).if1.false d.days-of.ensures c.if2.true)
+returns-2 c = let d = c.before in write_unread _ _ _ _ (no_list _ _ (at-session d).if1.false d.days-of.ensures c.if2.true)
 
 returns-3 : tie.Need-returns-3
 returns-3 c = let k = c.before.before in write-refused _ _ _ _ (right (at_right k)) (checked k) c.if3.true

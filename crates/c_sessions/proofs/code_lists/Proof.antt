@@ -1,11 +1,11 @@
 -- `code_lists` meets its contract: the calls say whether a point is outside its bounds, and whether a rise is, and the lengths are right, so the numbers decide
--- (`lists-told`).
+-- (`lists_told`).
 use native.Mathlib.Omega.{arith}
 use borrow.Author.Rules.{rules}
-use Rattle.session.proofs.Checks.{lists-told}
-use Rattle.c_lists.specs.Profiles.{ByteProfile, byteProfile, profileOf}
+use Rattle.session.proofs.Checks.{lists_told}
+use Rattle.c_lists.specs.Profiles.{ByteProfile, byte_profile, profile_of}
 use Rattle.c_lists.proofs.Laws.{Long, long}
-use Rattle.c_sessions.proofs.Opening.{lengths-right}
+use Rattle.c_sessions.proofs.Opening.{lengths_right}
 use Rattle.c_sessions.proofs.code_lists.Statement.{statement}
 use Rattle.c_sessions.proofs.code_lists.Tie as tie
 
@@ -22,7 +22,7 @@ at-ranges c = c.before.before
 
 -- what is coded, and its lengths
 abbrev handed : tie.Start → ByteProfile
-handed s = let a = s.args in byteProfile a.numbers a.floors.now a.ceilings.now a.rises.now
+handed s = let a = s.args in byte_profile a.numbers a.floors.now a.ceilings.now a.rises.now
 
 sizes : (s : tie.Start) → Long (handed s)
 sizes s = long (handed s) s.requires
@@ -44,7 +44,7 @@ returns c =
     let f = at-ranges r in
     let s = from-ranges f in
     let e = f.code-ranges.ensures in
-    let told = lists-told (profileOf (handed s)) (lengths-right (handed s) s.pre) c.code-numbers.ensures e.0 r.code-points.ensures.0 in
+    let told = lists_told (profile_of (handed s)) (lengths_right (handed s) s.pre) c.code-numbers.ensures e.0 r.code-points.ensures.0 in
     (told, (e.1.0, (e.1.1.0, (e.1.1.1, r.code-points.ensures.1.0))))
 
 pub code-lists-spec : {M : Type 1} → statement M

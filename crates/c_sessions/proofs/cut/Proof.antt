@@ -4,8 +4,8 @@ use Rattle.session_cuts.specs.Numbered.{numbered}
 use native.Mathlib.Omega.{arith}
 use mir.Facts.{to_z-of_z}
 use borrow.Author.Rules.{rules}
-use Rattle.session_cutting.proofs.Stages.{numbered-known, numbered-unknown}
-use Rattle.c_sessions.proofs.Cutting.{cuts-same, cuts-refused, cut-unread, cut-read}
+use Rattle.session_cutting.proofs.Stages.{numbered-known, numbered_unknown}
+use Rattle.c_sessions.proofs.Cutting.{cuts-same, cuts-refused, cut_unread, cut-read}
 use Rattle.c_sessions.proofs.cut.Statement.{statement}
 use Rattle.c_sessions.proofs.cut.Tie as tie
 
@@ -27,7 +27,7 @@ abbrev at_cut : tie.After-slice-known4 → tie.After-cut-known
 at_cut c = c.before.before.before.before
 
 returns : tie.Need-returns
-returns c = cut-unread _ _ _ c.before.if1.true c.refuse.ensures
+returns c = cut_unread _ _ _ c.before.if1.true c.refuse.ensures
 
 tells : (c : tie.After-numbered) → let a = (at-start (at-session c)).args in c.numbered.result ≡ numbered a.kind a.day a.value
 tells c = rw (to_z-of_z (at-start (at-session c)).ranges.value) at c.numbered.ensures
@@ -37,7 +37,7 @@ returns-2 c =
     let t = c.before in
     let n = t.before.before in
     cut-read _ _ _ (at-session n).if1.false
-    (cuts-same _ _ (numbered-unknown _ _ (tells n) t.enum_told.given.1) (cuts-refused _ _ _ (λ z. absurd (omega arith)) (λ z. absurd (omega arith)) c.refuse2.ensures))
+    (cuts-same _ _ (numbered_unknown _ _ (tells n) t.enum_told.given.1) (cuts-refused _ _ _ (λ z. absurd (omega arith)) (λ z. absurd (omega arith)) c.refuse2.ensures))
 
 returns-3 : tie.Need-returns-3
 returns-3 c =

@@ -9,7 +9,7 @@ use borrow.Author.Rules.{rules}
 use Rattle.session_cutting.specs.Cutting.{malformed}
 use Rattle.session_cutting.proofs.Stages.{checked-refusal, checked-clips, cut-malformed, cut_short, cut-spent, cut-taken}
 use Rattle.c_layout.specs.Layout.{decoding}
-use Rattle.c_layout.proofs.Held.{days-few}
+use Rattle.c_layout.proofs.Held.{days_few}
 use Rattle.c_sessions.specs.Stages.{made_of}
 use Rattle.c_sessions.proofs.Cutting.{cuts-same, cuts-refused, malformed-not-eight}
 use Rattle.c_sessions.proofs.cut_known.Statement.{statement}
@@ -79,11 +79,11 @@ returns-3 : tie.Need-returns-3
 returns-3 c =
     let t = c.before in
     let r = at-roomy t.before in
-    cuts-same _ _ (cut-spent _ _ _ (formed (at-formed r)) (roomy r) (sym t.before.is-spent.ensures ∙ t.if3.true))
+    cuts-same _ _ (cut-spent _ _ _ (formed (at-formed r)) (roomy r) (sym t.before.is_spent.ensures ∙ t.if3.true))
     (cuts-refused _ _ _ (λ z. absurd (omega arith)) (λ z. absurd (omega arith)) c.refuse3.ensures)
 
 unspent : (c : tie.Else3) → (decoding (bytes (from-formed (at-formed (at-roomy c.before))))).spent ≡ false
-unspent c = sym c.before.is-spent.ensures ∙ c.if3.false
+unspent c = sym c.before.is_spent.ensures ∙ c.if3.false
 
 cut-present-requires : tie.Need-cut-present-requires
 cut-present-requires c κs =
@@ -95,7 +95,7 @@ cut-present-requires c κs =
     record {
       whole = (at-start d).pre;
       formed = formed f;
-      clips = checked-clips _ _ k.check.ensures (omega (arith, d.days-of.ensures, days-few (bytes k))) f.if1.left;
+      clips = checked-clips _ _ k.check.ensures (omega (arith, d.days-of.ensures, days_few (bytes k))) f.if1.left;
       roomy = omega (arith, roomy r);
       unspent = unspent u;
     }

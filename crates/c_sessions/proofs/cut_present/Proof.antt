@@ -12,7 +12,7 @@ use Rattle.theory_method.specs.Filter.{Tight}
 use Rattle.session_cuts.specs.declared.Cut.{Cut}
 use Rattle.session_cutting.specs.Cutting.{clipped, retightened}
 use Rattle.c_layout.specs.Layout.{decoding}
-use Rattle.c_sessions.proofs.Cutting.{Loaded, loaded-bounds, loaded-tight, made_none, made_found, made-bounds}
+use Rattle.c_sessions.proofs.Cutting.{Loaded, loaded_bounds, loaded_tight, made_none, made_found, made-bounds}
 use Rattle.c_sessions.proofs.cut_present.Statement.{statement}
 use Rattle.c_sessions.proofs.cut_present.Tie as tie
 
@@ -88,13 +88,13 @@ abbrev tight : tie.After-cut-ranges → Tight
 tight c = let t = c.cut-ranges in record { found = t.result.found; floors = t.new.0; ceilings = t.new.1.0; lowest = t.result.lowest; highest = t.result.highest }
 
 is-tight : (c : tie.After-cut-ranges) → let l = at-loaded c.before in tight c ≡ retightened (decoding (bytes l)) (clipped (decoding (bytes l)).present (the-cut l))
-is-tight c = let l = at-loaded c.before in loaded-tight (loaded l) (the-cut l) c.cut-ranges.ensures
+is-tight c = let l = at-loaded c.before in loaded_tight (loaded l) (the-cut l) c.cut-ranges.ensures
 
 cut-ranges-requires : tie.Need-cut-ranges-requires
 cut-ranges-requires c κs =
     let l = at-loaded c in
     let p = (from-loaded l).pre in
-    (loaded-bounds (loaded l), rw (loaded l).days p.formed, p.clips)
+    (loaded_bounds (loaded l), rw (loaded l).days p.formed, p.clips)
 
 returns : tie.Need-returns
 returns c =

@@ -4,12 +4,12 @@ use mathlib.Core.List.{List}
 use Prim.Native.Nat.{ℕ}
 use native.Mathlib.Omega.{arith}
 use borrow.Author.Rules.{rules}
-use Rattle.limits.specs.Limits.{lowestTotal}
+use Rattle.limits.specs.Limits.{lowest_total}
 use Rattle.base_codes.specs.Code.{decoded}
-use Rattle.session.proofs.Shows.{total-seen}
+use Rattle.session.proofs.Shows.{total_seen}
 use Rattle.c_layout.specs.Layout.{decoding}
-use Rattle.c_layout.proofs.Inverse.{decoding-in-bounds}
-use Rattle.c_sessions.proofs.Showing.{show-unread, show-first, show-second, show-all}
+use Rattle.c_layout.proofs.Inverse.{decoding_in_bounds}
+use Rattle.c_sessions.proofs.Showing.{show_unread, show_first, show_second, show_all}
 use Rattle.c_sessions.proofs.show.Statement.{statement}
 use Rattle.c_sessions.proofs.show.Tie as tie
 
@@ -48,17 +48,17 @@ bytes c = (from-days (from-total c)).args.session.now
 -- ---- the needs
 
 returns : tie.Need-returns
-returns c = show-unread _ _ _ c.before.if1.true c.too_short.ensures
+returns c = show_unread _ _ _ c.before.if1.true c.too_short.ensures
 
 returns-2 : tie.Need-returns-2
 returns-2 c =
     let d = c.before.before in
-    show-first _ _ _ (at-session d).if1.false (omega (arith, c.before.if2.true, d.days-of.ensures)) c.too-short2.ensures
+    show_first _ _ _ (at-session d).if1.false (omega (arith, c.before.if2.true, d.days-of.ensures)) c.too-short2.ensures
 
 returns-3 : tie.Need-returns-3
 returns-3 c =
     let d = at-days c.before.before in
-    show-second _ _ _ (at-session d).if1.left (omega (arith, c.before.if3.true, d.days-of.ensures)) c.too-short3.ensures
+    show_second _ _ _ (at-session d).if1.left (omega (arith, c.before.if3.true, d.days-of.ensures)) c.too-short3.ensures
 
 show-present-requires : tie.Need-show-present-requires
 show-present-requires c κs =
@@ -76,10 +76,10 @@ highest : (c : tie.After-total-of) → c.total_of.result.highest ≡ (decoding (
 highest c = c.total_of.ensures.1
 
 decode-requires : tie.Need-decode-requires
-decode-requires c κs = (search rules, omega (arith, lowest c, (decoding-in-bounds (bytes c)).present.lowest))
+decode-requires c κs = (search rules, omega (arith, lowest c, (decoding_in_bounds (bytes c)).present.lowest))
 
 decode-requires-2 : tie.Need-decode-requires-2
-decode-requires-2 c κs = let t = c.before in (search rules, omega (arith, highest t, (decoding-in-bounds (bytes t)).present.highest))
+decode-requires-2 c κs = let t = c.before in (search rules, omega (arith, highest t, (decoding_in_bounds (bytes t)).present.highest))
 
 returns-4 : tie.Need-returns-4
 returns-4 c =
@@ -88,12 +88,12 @@ returns-4 c =
     let f = at-filled t in
     let v = at_second f in
     let d = from-total t in
-    let p = (decoding-in-bounds (bytes t)).present in
+    let p = (decoding_in_bounds (bytes t)).present in
     let e = d.days-of.ensures in
-    let low = total-seen (u.before.decode.ensures ∙ ap (decoded lowestTotal) (lowest t)) p.lowest in
-    let high = total-seen (u.decode2.ensures ∙ ap (decoded lowestTotal) (highest t)) p.highest in
-    show-all (bytes t) _ _ (at-session d).if1.left (omega (arith, e, (at_first v).if2.left)) (omega (arith, e, v.if3.left))
-    (λ i. record { refusal = 0; lowest = low i; highest = high i; spent = c.is-spent.ensures i })
+    let low = total_seen (u.before.decode.ensures ∙ ap (decoded lowest_total) (lowest t)) p.lowest in
+    let high = total_seen (u.decode2.ensures ∙ ap (decoded lowest_total) (highest t)) p.highest in
+    show_all (bytes t) _ _ (at-session d).if1.left (omega (arith, e, (at_first v).if2.left)) (omega (arith, e, v.if3.left))
+    (λ i. record { refusal = 0; lowest = low i; highest = high i; spent = c.is_spent.ensures i })
     f.show-present.ensures.0 f.show-present.ensures.1
 
 pub show-spec : {M : Type 1} → statement M

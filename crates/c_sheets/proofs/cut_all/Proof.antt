@@ -1,7 +1,7 @@
 -- `cut_all` meets its contract: the first j cuts are made, from whatever session was held (`Making` of Laws). The measure is the cuts left.
 use Prim.Native.Nat.{◌-◌}
 use borrow.Author.Rules.{rules}
-use Rattle.c_sheets.proofs.Laws.{Making, making-none, making-holds, making-room, making-more, making-all}
+use Rattle.c_sheets.proofs.Laws.{Making, making_none, making_holds, making_room, making_more, making_all}
 use Rattle.c_sheets.proofs.cut_all.Statement.{statement}
 use Rattle.c_sheets.proofs.cut_all.Tie as tie
 
@@ -28,16 +28,16 @@ cut-listed-requires c κs =
     let t = at_turn c in
     let i = t.before.loop.inv in
     let p = (before-loop t.before).pre in
-    (making-holds i p.0, making-room i p.1 t.loop-test.taken)
+    (making_holds i p.0, making_room i p.1 t.loop-test.taken)
 
 loop-again : tie.Need-loop-preserved invariant-loop decreases-loop
 loop-again c =
     let k = at_cut c in
     let t = at_turn k.before in
-    making-more t.before.loop.inv t.loop-test.taken k.cut-listed.ensures
+    making_more t.before.loop.inv t.loop-test.taken k.cut-listed.ensures
 
 returns : tie.Need-returns invariant-loop decreases-loop
-returns c = making-all c.before.loop.invariant c.loop-test.false
+returns c = making_all c.before.loop.invariant c.loop-test.false
 
 pub cut-all-spec : {M : Type 1} → statement M
 cut-all-spec =
@@ -45,7 +45,7 @@ cut-all-spec =
     (tie.spec
     invariant-loop
     decreases-loop
-    (λ c. making-none)
+    (λ c. making_none)
     cut-listed-requires
     (λ c. search rules)
     (λ c. search rules)

@@ -1,7 +1,7 @@
 -- `cut_listed` meets its contract: the cut is read from the list, made (`Stepped`), and its answer stored.
 use native.Mathlib.Omega.{arith}
 use borrow.Author.Rules.{rules}
-use Rattle.c_sheets.proofs.Laws.{stepped-few, stepped_same}
+use Rattle.c_sheets.proofs.Laws.{stepped_few, stepped_same}
 use Rattle.c_sheets.proofs.cut_listed.Statement.{statement}
 use Rattle.c_sheets.proofs.cut_listed.Tie as tie
 
@@ -24,7 +24,7 @@ put-answer-requires c κs =
     let k = at-made c in
     let s = at-start (at-asked k) in
     let h = s.pre.0 in
-    (stepped-few _ h.bounds (k.cut-next.ensures h.session h.bounds h.holds), omega (arith, s.pre.1.answered))
+    (stepped_few _ h.bounds (k.cut-next.ensures h.session h.bounds h.holds), omega (arith, s.pre.1.answered))
 
 returns : tie.Need-returns
 returns c =

@@ -3,9 +3,9 @@ use mathlib.Core.Path.{◌≡◌, ap, sym, ◌∙◌}
 use Prim.Native.Nat.{◌/◌}
 use lib.ListN.{length}
 use borrow.Author.Rules.{rules}
-use Rattle.session_sheets.specs.Sheets.{sheetRefusal}
-use Rattle.c_sheets.specs.Sheets.{askedIn}
-use Rattle.c_sheets.proofs.Laws.{early, sheet-unread, sheet-early, sheet-odd, sheet-room, sheet-all}
+use Rattle.session_sheets.specs.Sheets.{sheet_refusal}
+use Rattle.c_sheets.specs.Sheets.{asked_in}
+use Rattle.c_sheets.proofs.Laws.{early, sheet_unread, sheet_early, sheet_odd, sheet_room, sheet_all}
 use Rattle.c_sheets.proofs.cut_sheet.Statement.{statement}
 use Rattle.c_sheets.proofs.cut_sheet.Tie as tie
 
@@ -34,7 +34,7 @@ refusal : (c : tie.After-sheet-refusal)
 refusal c =
     let a = (at-start (at-session c)).args in
     c.sheet-refusal.ensures
-    ∙ ap (λ n. sheetRefusal n (askedIn (length a.cuts.now)) (length a.answers.now / 4) (length a.changed.now / 2)) c.before.days-of.ensures
+    ∙ ap (λ n. sheet_refusal n (asked_in (length a.cuts.now)) (length a.answers.now / 4) (length a.changed.now / 2)) c.before.days-of.ensures
 
 passed : (c : tie.Else2)
     → let a = (at-start (at-session c.before)).args in
@@ -42,31 +42,31 @@ passed : (c : tie.Else2)
 passed c = sym (refusal c.before) ∙ c.if2.false
 
 returns : tie.Need-returns
-returns c = sheet-unread _ _ _ _ c.before.if1.true c.refuse.ensures
+returns c = sheet_unread _ _ _ _ c.before.if1.true c.refuse.ensures
 
 returns-2 : tie.Need-returns-2
 returns-2 c =
     let t = c.before in
     let r = t.before in
-    sheet-early _ _ _ _ (at-session r).if1.false (refusal r) t.if2.true c.refuse2.ensures
+    sheet_early _ _ _ _ (at-session r).if1.false (refusal r) t.if2.true c.refuse2.ensures
 
 returns-3 : tie.Need-returns-3
 returns-3 c =
     let t = c.before in
     let e = t.before in
-    sheet-odd _ _ _ _ (at-session e.before).if1.false (passed e) t.if3.true c.refuse3.ensures
+    sheet_odd _ _ _ _ (at-session e.before).if1.false (passed e) t.if3.true c.refuse3.ensures
 
 make-cuts-requires : tie.Need-make-cuts-requires
 make-cuts-requires c κs =
     let e = at-passed (at-even c) in
-    sheet-room _ _ _ _ (at-session e.before).if1.false (passed e)
+    sheet_room _ _ _ _ (at-session e.before).if1.false (passed e)
 
 returns-4 : tie.Need-returns-4
 returns-4 c =
     let k = at-made c in
     let o = at-even k.before in
     let e = at-passed o in
-    sheet-all _ _ _ _ (at-session e.before).if1.false (passed e) o.if3.left k.make-cuts.ensures
+    sheet_all _ _ _ _ (at-session e.before).if1.false (passed e) o.if3.left k.make-cuts.ensures
 
 pub cut-sheet-spec : {M : Type 1} → statement M
 cut-sheet-spec =

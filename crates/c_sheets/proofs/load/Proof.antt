@@ -1,8 +1,8 @@
 -- `load` meets its contract: the arrays hold what the bytes hold, and all widths are left over zeros.
 use native.Mathlib.Omega.{arith}
 use borrow.Author.Rules.{rules}
-use Rattle.c_layout.proofs.Held.{days-few}
-use Rattle.c_sheets.proofs.Laws.{loaded-holds}
+use Rattle.c_layout.proofs.Held.{days_few}
+use Rattle.c_sheets.proofs.Laws.{loaded_holds}
 use Rattle.c_sheets.proofs.load.Statement.{statement}
 use Rattle.c_sheets.proofs.load.Tie as tie
 
@@ -21,7 +21,7 @@ abbrev at_mark : tie.After-count-narrowed-arg3 → tie.After-is-spent
 at_mark c = c.before.before.before
 
 count-narrowed-requires : tie.Need-count-narrowed-requires
-count-narrowed-requires c κs = let d = at-days (at_mark c) in omega (arith, d.days-of.ensures, days-few (at-start (at-ranges d)).args.session.now)
+count-narrowed-requires c κs = let d = at-days (at_mark c) in omega (arith, d.days-of.ensures, days_few (at-start (at-ranges d)).args.session.now)
 
 returns : tie.Need-returns
 returns c =
@@ -31,9 +31,9 @@ returns c =
     let d = at-days m in
     let r = at-ranges d in
     let e = r.load-present.ensures in
-    loaded-holds
+    loaded_holds
     (record { rises = e.0; floors = e.1.0; ceilings = e.1.1; days = d.days-of.ensures; first = f.first_of.ensures; lowest = t.total_of.ensures.0; highest = t.total_of.ensures.1 })
-    m.is-spent.ensures
+    m.is_spent.ensures
     (at-start r).pre.4
     c.count-narrowed.ensures.1
 

@@ -5,9 +5,9 @@ use Prim.Native.Nat.{ℕ}
 use native.Mathlib.Omega.{arith}
 use borrow.Author.Rules.{rules}
 use Rattle.c_layout.specs.Layout.{decoding}
-use Rattle.c_layout.proofs.Inverse.{decoding-in-bounds}
+use Rattle.c_layout.proofs.Inverse.{decoding_in_bounds}
 use Rattle.c_sheets.specs.Stages.{Made}
-use Rattle.c_sheets.proofs.Laws.{was-spent, is-spent, is_open, left-bounds, left-days}
+use Rattle.c_sheets.proofs.Laws.{was_spent, is_spent, is_open, left-bounds, left-days}
 use Rattle.c_sheets.proofs.make_cuts.Statement.{statement}
 use Rattle.c_sheets.proofs.make_cuts.Tie as tie
 
@@ -43,14 +43,14 @@ abbrev bytes : tie.After-load → List ℕ
 bytes c = (at-start c).args.session.now
 
 cut-all-requires : tie.Need-cut-all-requires
-cut-all-requires c κs = let l = c.before.before.before.before.before in (record { session = decoding (bytes l); bounds = decoding-in-bounds (bytes l); holds = l.load.ensures }, (at-start l).requires.roomy)
+cut-all-requires c κs = let l = c.before.before.before.before.before in (record { session = decoding (bytes l); bounds = decoding_in_bounds (bytes l); holds = l.load.ensures }, (at-start l).requires.roomy)
 
 made : (c : tie.After-cut-all)
     → let l = at_load c in
     let a = (at-start l).args in
     let k = c.Cut-all.new.1.1.1.1 in
     Made (decoding (bytes l)) a.cuts.now a.count a.answers.now c.Cut-all.result l.load.last.1.0 k.0 k.1.0 k.1.1.0 k.1.1.1.0
-made c = let l = at_load c in c.Cut-all.ensures (decoding (bytes l)) (decoding-in-bounds (bytes l)) l.load.ensures
+made c = let l = at_load c in c.Cut-all.ensures (decoding (bytes l)) (decoding_in_bounds (bytes l)) l.load.ensures
 
 -- it was spent, or not
 marked : (c : tie.After-load) → c.load.result.spent ≡ (decoding (bytes c)).spent
@@ -60,7 +60,7 @@ returns : tie.Need-returns
 returns c =
     let k = at-cuts c.before in
     let l = at_load k in
-    was-spent (bytes l) (made k) _ (at-start l).pre.roomy (sym (marked l) ∙ c.if1.true)
+    was_spent (bytes l) (made k) _ (at-start l).pre.roomy (sym (marked l) ∙ c.if1.true)
 
 spend-requires : tie.Need-spend-requires
 spend-requires c κs = (at-start (at_load (at-cuts c.before.before.before))).requires.whole
@@ -72,7 +72,7 @@ returns-2 c =
     let u = t.before in
     let k = at-cuts u.before in
     let l = at_load k in
-    is-spent (bytes l) (made k) (sym (marked l) ∙ u.if1.left) _ (at-start l).pre.roomy t.if2.taken p.spend.ensures
+    is_spent (bytes l) (made k) (sym (marked l) ∙ u.if1.left) _ (at-start l).pre.roomy t.if2.taken p.spend.ensures
 
 store-cut-requires : tie.Need-store-cut-requires
 store-cut-requires c κs =

@@ -1,5 +1,5 @@
 -- `put_answer` meets its contract: the number of changed days is stored behind the refusal.
-use Rattle.c_sheets.proofs.Laws.{answer-stored}
+use Rattle.c_sheets.proofs.Laws.{answer_stored}
 use borrow.Author.Rules.{rules}
 use Rattle.c_sheets.proofs.put_answer.Statement.{statement}
 use Rattle.c_sheets.proofs.put_answer.Tie as tie
@@ -20,7 +20,7 @@ returns c =
     let n = at-number c in
     let r = at-refusal n.before in
     let a = (at-start r).args in
-    answer-stored a.answer a.out.now a.place n.before.narrow.ensures r.put-u16.ensures n.put-u162.ensures
+    answer_stored a.answer a.out.now a.place n.before.narrow.ensures r.put-u16.ensures n.put-u162.ensures
 
 pub put-answer-spec : {M : Type 1} → statement M
 put-answer-spec =

@@ -1,7 +1,7 @@
--- `put_ranges` meets its contract: the floors' block is stored, and the ceilings' block after it (`laid-last`).
-use Rattle.c_layout.specs.Layout.{blockBytes}
-use Rattle.c_layout.proofs.Lengths.{block-length}
-use Rattle.c_storing.proofs.Laws.{laid, laid-last}
+-- `put_ranges` meets its contract: the floors' block is stored, and the ceilings' block after it (`laid_last`).
+use Rattle.c_layout.specs.Layout.{block_bytes}
+use Rattle.c_layout.proofs.Lengths.{block_length_lem}
+use Rattle.c_storing.proofs.Laws.{laid, laid_last}
 use borrow.Author.Rules.{rules}
 use Rattle.c_storing.proofs.put_ranges.Statement.{statement}
 use Rattle.c_storing.proofs.put_ranges.Tie as tie
@@ -22,8 +22,8 @@ returns c =
     let l = at-floors h in
     let start = at-start l in
     let a = start.args in
-    laid-last (laid a.out.now a.place (blockBytes a.floors.now a.n) l.put-block.ensures (block-length _ a.n start.pre.0))
-    (blockBytes a.ceilings.now a.n) h.put-block2.ensures
+    laid_last (laid a.out.now a.place (block_bytes a.floors.now a.n) l.put-block.ensures (block_length_lem _ a.n start.pre.0))
+    (block_bytes a.ceilings.now a.n) h.put-block2.ensures
 
 pub put-ranges-spec : {M : Type 1} → statement M
 put-ranges-spec =

@@ -2,7 +2,7 @@
 use Prim.Native.Nat.{◌+◌, ◌-◌}
 use mathlib.Core.Path.{◌≡◌, refl}
 use mathlib.Core.List.{[], ◌∷◌}
-use Rattle.theory_lists.specs.Rows.{Stored, stored-none, stored_more, stored-all}
+use Rattle.theory_lists.specs.Rows.{Stored, stored_none, stored_more, stored_all}
 use Rattle.c_storing.proofs.Laws.{rows-replicate}
 use borrow.Author.Rules.{rules}
 use native.Mathlib.Omega.{arith}
@@ -16,7 +16,7 @@ abbrev decreases-loop : tie.decreases-loop
 decreases-loop out₀ from to i₀ out i = to - i
 
 loop-holds : tie.Need-loop-init invariant-loop decreases-loop
-loop-holds c = let z : c.args.from - c.args.from ≡ 0 = omega arith in rw z stored-none
+loop-holds c = let z : c.args.from - c.args.from ≡ 0 = omega arith in rw z stored_none
 
 loop-again : tie.Need-loop-preserved invariant-loop decreases-loop
 loop-again c =
@@ -27,7 +27,7 @@ loop-again c =
     rw q (stored_more h (omega (arith, h.ends)) (refl, omega arith))
 
 returns : tie.Need-returns invariant-loop decreases-loop
-returns c = rw (← rows-replicate) (stored-all c.before.loop.invariant (omega arith)).0
+returns c = rw (← rows-replicate) (stored_all c.before.loop.invariant (omega arith)).0
 
 pub put-zeros-spec : {M : Type 1} → statement M
 put-zeros-spec =

@@ -5,12 +5,12 @@ use mathlib.Core.List.{List}
 use Prim.Native.Nat.{ℕ, ◌+◌, ◌*◌, min}
 use native.Mathlib.Omega.{arith}
 use lib.Seq.{sets}
-use Rattle.base_little_endian.specs.Fields.{u16At, u16Bytes}
-use Rattle.c_lists.specs.Lists.{cellBytes}
-use Rattle.c_layout.specs.Layout.{totalBytes, decoding}
-use Rattle.c_layout.proofs.Held.{days-few, opened-held}
-use Rattle.c_layout.proofs.Inverse.{decoding-in-bounds}
-use Rattle.c_storing.proofs.Patch.{Summed, Restored, restored-patched}
+use Rattle.base_little_endian.specs.Fields.{u16_at, u16_bytes}
+use Rattle.c_lists.specs.Lists.{cell_bytes}
+use Rattle.c_layout.specs.Layout.{total_bytes, decoding}
+use Rattle.c_layout.proofs.Held.{days_few, opened-held}
+use Rattle.c_layout.proofs.Inverse.{decoding_in_bounds}
+use Rattle.c_storing.proofs.Patch.{Summed, Restored, restored_patched}
 use borrow.Author.Rules.{rules}
 use Rattle.c_storing.proofs.spend.Statement.{statement}
 use Rattle.c_storing.proofs.spend.Tie as tie
@@ -63,8 +63,8 @@ summed c =
     let o = from-mark m in
     record {
       first = m.put-u16.last.0;
-      marked = m.put-u16.ensures ∙ ap (λ x. sets (bytes o) 2 (u16Bytes x)) m.before.mark.ensures;
-      summed = c.put-totals.ensures ∙ (λ i. sets m.put-u16.last.0 12 (totalBytes (lowest o i) (highest o i)));
+      marked = m.put-u16.ensures ∙ ap (λ x. sets (bytes o) 2 (u16_bytes x)) m.before.mark.ensures;
+      summed = c.put-totals.ensures ∙ (λ i. sets m.put-u16.last.0 12 (total_bytes (lowest o i) (highest o i)));
     }
 
 restored : (c : tie.After-copy-levels2) → Restored (bytes (from-mark (at_mark (at_totals (at-floors c))))) c.copy-levels2.new.0
@@ -78,30 +78,30 @@ restored c =
       second = second;
       third = third;
       before = summed t;
-      floors = f.copy-levels.ensures ∙ ap (λ n. sets second 3092 (cellBytes (λ k. min (u16At second (1044 + k * 2)) 5000) n)) (days o);
-      ceilings = c.copy-levels2.ensures ∙ ap (λ n. sets third 4116 (cellBytes (λ k. min (u16At third (2068 + k * 2)) 5000) n)) (days o);
+      floors = f.copy-levels.ensures ∙ ap (λ n. sets second 3092 (cell_bytes (λ k. min (u16_at second (1044 + k * 2)) 5000) n)) (days o);
+      ceilings = c.copy-levels2.ensures ∙ ap (λ n. sets third 4116 (cell_bytes (λ k. min (u16_at third (2068 + k * 2)) 5000) n)) (days o);
     }
 
 put-totals-requires : tie.Need-put-totals-requires
 put-totals-requires c κs =
     let o = from-mark c.before.before.before in
-    let b = (decoding-in-bounds (bytes o)).opened in
+    let b = (decoding_in_bounds (bytes o)).opened in
     (omega (arith, lowest o, b.lowest), omega (arith, highest o, b.highest), search rules)
 
 copy-levels-requires : tie.Need-copy-levels-requires
 copy-levels-requires c κs =
     let o = from-mark (at_mark c.before.before.before) in
-    let few = days-few (bytes o) in
+    let few = days_few (bytes o) in
     (omega (arith, days o, few), omega (arith, days o, few), omega (arith, days o, few, (at-start (at-days o)).requires))
 
 copy-levels-requires-2 : tie.Need-copy-levels-requires-2
 copy-levels-requires-2 c κs =
     let o = from-mark (at_mark (at_totals c.before.before.before)) in
-    let few = days-few (bytes o) in
+    let few = days_few (bytes o) in
     (omega (arith, days o, few), omega (arith, days o, few), omega (arith, days o, few, (at-start (at-days o)).requires))
 
 returns : tie.Need-returns
-returns c = restored-patched (restored (at-ceilings c))
+returns c = restored_patched (restored (at-ceilings c))
 
 pub spend_spec : {M : Type 1} → statement M
 spend_spec =

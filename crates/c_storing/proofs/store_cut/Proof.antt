@@ -7,12 +7,12 @@ use native.Mathlib.Omega.{arith}
 use lib.ListN.{length}
 use lib.Seq.{sets}
 use Rattle.theory_lists.specs.Sum.{at}
-use Rattle.theory_lists.specs.Front.{inFront}
-use Rattle.base_little_endian.specs.Fields.{u16Bytes}
-use Rattle.session_order.specs.Order.{dayCells}
-use Rattle.c_lists.specs.Lists.{cellBytes}
-use Rattle.c_layout.proofs.Held.{days-few}
-use Rattle.c_storing.proofs.Patch.{Summed, Celled, celled-patched, losses-most, losers-held}
+use Rattle.theory_lists.specs.Front.{in_front}
+use Rattle.base_little_endian.specs.Fields.{u16_bytes}
+use Rattle.session_order.specs.Order.{day_cells}
+use Rattle.c_lists.specs.Lists.{cell_bytes}
+use Rattle.c_layout.proofs.Held.{days_few}
+use Rattle.c_storing.proofs.Patch.{Summed, Celled, celled_patched, losses_most, losers-held}
 use borrow.Author.Rules.{rules}
 use Rattle.c_storing.proofs.store_cut.Statement.{statement}
 use Rattle.c_storing.proofs.store_cut.Tie as tie
@@ -46,7 +46,7 @@ from-totals c = at-start (at_mark c)
 summed : (c : tie.After-put-totals) → let a = (from-totals c).args in Summed a.out.now false a.numbers.lowest a.numbers.highest c.put-totals.new.1.1.1.0
 summed c =
     let m = at_mark c in
-    record { first = m.put-u16.last.0; marked = m.put-u16.ensures ∙ ap (λ x. sets (at-start m).args.out.now 2 (u16Bytes x)) m.before.mark.ensures; summed = c.put-totals.ensures }
+    record { first = m.put-u16.last.0; marked = m.put-u16.ensures ∙ ap (λ x. sets (at-start m).args.out.now 2 (u16_bytes x)) m.before.mark.ensures; summed = c.put-totals.ensures }
 
 celled : (c : tie.After-store-days)
     → let a = (from-totals (at_totals c)).args in
@@ -55,10 +55,10 @@ celled c =
     let t = at_totals c in
     let a = (from-totals t).args in
     let second = t.put-totals.last.1.1.1.0 in
-    record { second = second; third = sets second 3092 (cellBytes (at a.floors.now) a.numbers.days); before = summed t; floors = refl; ceilings = c.store-days.ensures.1 }
+    record { second = second; third = sets second 3092 (cell_bytes (at a.floors.now) a.numbers.days); before = summed t; floors = refl; ceilings = c.store-days.ensures.1 }
 
 few : (c : tie.Start) → c.args.numbers.days ≤ 512
-few c = omega (arith, c.requires.1.3, days-few c.args.out.now)
+few c = omega (arith, c.requires.1.3, days_few c.args.out.now)
 
 room : (c : tie.Start) → c.args.numbers.days ≤ length c.args.losses.now
 room c = omega (arith, few c, c.requires.0.0)
@@ -74,7 +74,7 @@ list-losers-requires c κs =
     let t = at_totals d in
     let s = from-totals t in
     let a = s.args in
-    (few s, losses-most (summed t) a.floors.now a.ceilings.now a.losses.now d.store-days.ensures.0 (room s), s.pre.0.1, s.pre.0.2, s.pre.1.4)
+    (few s, losses_most (summed t) a.floors.now a.ceilings.now a.losses.now d.store-days.ensures.0 (room s), s.pre.0.1, s.pre.0.2, s.pre.1.4)
 
 returns : tie.Need-returns
 returns c =
@@ -85,7 +85,7 @@ returns c =
     let a = s.args in
     let e = l.list-losers.ensures in
     let days = losers-held (summed t) a.floors.now a.ceilings.now a.losses.now d.store-days.ensures.0 (room s) s.pre.1.3 in
-    (e.0 ∙ ap length days, (e.1 ∙ ap (λ ds. inFront (dayCells ds) a.changed.now) days, celled-patched _ (celled d) (λ k u. refl) (λ k u. refl)))
+    (e.0 ∙ ap length days, (e.1 ∙ ap (λ ds. in_front (day_cells ds) a.changed.now) days, celled_patched _ (celled d) (λ k u. refl) (λ k u. refl)))
 
 pub store-cut-spec : {M : Type 1} → statement M
 store-cut-spec =

@@ -5,8 +5,8 @@ use mathlib.Core.Path.{◌≡◌, ap, ◌∙◌}
 use lib.ListN.{set}
 use lib.Seq.{sets}
 use Rattle.theory_lists.specs.Sum.{at}
-use Rattle.base_little_endian.specs.Fields.{u16Bytes}
-use Rattle.c_storing.proofs.Days.{lossOf, Ranged, ranged-none, ranged-more, ranged-all}
+use Rattle.base_little_endian.specs.Fields.{u16_bytes}
+use Rattle.c_storing.proofs.Days.{loss_of, Ranged, ranged-none, ranged-more, ranged-all}
 use borrow.Author.Rules.{rules}
 use Rattle.c_storing.proofs.store_days.Statement.{statement}
 use Rattle.c_storing.proofs.store_days.Tie as tie
@@ -47,7 +47,7 @@ from-lost c = c.before.before.before
 loses : (c : tie.After-less3 invariant-loop decreases-loop)
     → let h = (from-read (from-lost c)).before in
     let a = (before-loop h).args in
-    c.less3.result ≡ lossOf h.loop.out (at a.floors.now) (at a.ceilings.now) h.loop.j
+    c.less3.result ≡ loss_of h.loop.out (at a.floors.now) (at a.ceilings.now) h.loop.j
 loses c =
     let w = c.before in
     let v = w.before in
@@ -68,7 +68,7 @@ loop-again c =
       head = h.loop.inv;
       more = t.loop-test.taken;
       most = (before-loop h).pre.1;
-      put = p.put-u162.ensures ∙ ap (λ m. sets m (4116 + h.loop.j * 2) (u16Bytes (at a.ceilings.now h.loop.j))) f.put-u16.ensures;
+      put = p.put-u162.ensures ∙ ap (λ m. sets m (4116 + h.loop.j * 2) (u16_bytes (at a.ceilings.now h.loop.j))) f.put-u16.ensures;
       lost = ap (set h.loop.losses h.loop.j) (loses s);
     })
 

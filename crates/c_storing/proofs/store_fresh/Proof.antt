@@ -5,13 +5,13 @@ use mathlib.Core.Path.{◌≡◌, ap, sym, ◌∙◌}
 use Prim.Native.Nat.{ℕ}
 use lib.ListN.{length, length-append}
 use lib.Seq.{sets}
-use Rattle.base_little_endian.specs.Fields.{u16Bytes}
+use Rattle.base_little_endian.specs.Fields.{u16_bytes}
 use Rattle.base_little_endian.proofs.Laws.{u16-length}
 use Rattle.session.specs.Opening.{fresh}
 use Rattle.session.specs.declared.Session.{Session}
-use Rattle.c_layout.specs.Layout.{totalBytes, blockBytes, encoding}
-use Rattle.c_layout.proofs.Lengths.{totals-length, block-length, encoding-length}
-use Rattle.c_storing.proofs.Laws.{laid, laid_more, laid-last, sets-whole}
+use Rattle.c_layout.specs.Layout.{total_bytes, block_bytes, encoding}
+use Rattle.c_layout.proofs.Lengths.{totals-length, block_length_lem, encoding-length}
+use Rattle.c_storing.proofs.Laws.{laid, laid_more, laid_last, sets-whole}
 use borrow.Author.Rules.{rules}
 use native.Mathlib.Omega.{arith}
 use Rattle.c_storing.proofs.store_fresh.Statement.{statement}
@@ -61,16 +61,16 @@ stored s =
 
 -- ---- what was stored first
 
-count : (c : tie.After-put-u16) → let a = (at-start c.before).args in c.put-u16.new.0 ≡ sets a.out.now 0 (u16Bytes a.numbers.days)
+count : (c : tie.After-put-u16) → let a = (at-start c.before).args in c.put-u16.new.0 ≡ sets a.out.now 0 (u16_bytes a.numbers.days)
 count c = rw c.before.narrow.ensures at c.put-u16.ensures
 
-mark : (c : tie.After-put-u162) → c.put-u162.new.0 ≡ sets (at_count c.before).put-u16.new.0 2 (u16Bytes 0)
+mark : (c : tie.After-put-u162) → c.put-u162.new.0 ≡ sets (at_count c.before).put-u16.new.0 2 (u16_bytes 0)
 mark c = rw c.before.mark.ensures at c.put-u162.ensures
 
 -- and last
 counted : (c : tie.After-put-u163)
     → let p = c.before.before in
-    c.put-u163.new.0 ≡ sets (at-present p).put-ranges2.new.1.1.1.1.0 5140 (u16Bytes (from-present p).args.numbers.first)
+    c.put-u163.new.0 ≡ sets (at-present p).put-ranges2.new.1.1.1.1.0 5140 (u16_bytes (from-present p).args.numbers.first)
 counted c = rw c.before.narrow2.ensures at c.put-u163.ensures
 
 -- ---- the answers
@@ -99,17 +99,17 @@ whole c =
     let l = start.args.out.now in
     let s = stored start in
     let few = start.pre.0.most in
-    let block : (List ℕ → List ℕ) = λ xs. blockBytes xs s.days in
-    let total : List ℕ = totalBytes s.present.lowest s.present.highest in
+    let block : (List ℕ → List ℕ) = λ xs. block_bytes xs s.days in
+    let total : List ℕ = total_bytes s.present.lowest s.present.highest in
     let ranges : List ℕ = block s.present.floors ++ block s.present.ceilings in
-    let days = laid l 0 (u16Bytes s.days) (count d) (u16-length _) in
-    let spent = laid_more days (u16Bytes 0) (mark m) (u16-length _) in
+    let days = laid l 0 (u16_bytes s.days) (count d) (u16-length _) in
+    let spent = laid_more days (u16_bytes 0) (mark m) (u16-length _) in
     let opened = laid_more spent total u.put-totals.ensures (totals-length _ _) in
     let present = laid_more opened total t.put-totals2.ensures (totals-length _ _) in
-    let rises = laid_more present (block s.rises) r.put-block.ensures (block-length _ _ few) in
-    let earlier = laid_more rises ranges o.put-ranges.ensures {v = 2048} (simp (length-append, block-length)) in
-    let later = laid_more earlier ranges p.put-ranges2.ensures {v = 2048} (simp (length-append, block-length)) in
-    laid-last later (u16Bytes s.first) (counted c) ∙ sets-whole (encoding s) l (encoding-length s few ∙ sym start.pre.1)
+    let rises = laid_more present (block s.rises) r.put-block.ensures (block_length_lem _ _ few) in
+    let earlier = laid_more rises ranges o.put-ranges.ensures {v = 2048} (simp (length-append, block_length_lem)) in
+    let later = laid_more earlier ranges p.put-ranges2.ensures {v = 2048} (simp (length-append, block_length_lem)) in
+    laid_last later (u16_bytes s.first) (counted c) ∙ sets-whole (encoding s) l (encoding-length s few ∙ sym start.pre.1)
 
 same_length : tie.Need-same-length
 same_length c =

@@ -1,6 +1,6 @@
 -- `fields_refusal` meets its contract: a law of Laws for each return, by the last rise (`Risen`) and the first bad cut.
 use borrow.Author.Rules.{rules}
-use Rattle.file_checks.proofs.Laws.{Risen, rise-left, cut-bad, fields-taken}
+use Rattle.file_checks.proofs.Laws.{Risen, rise-left, cut_bad, fields_taken}
 use Rattle.file_checks.proofs.fields_refusal.Statement.{statement}
 use Rattle.file_checks.proofs.fields_refusal.Tie as tie
 
@@ -27,14 +27,14 @@ returns-2 : tie.Need-returns-2
 returns-2 c =
     let f = c.before in
     let u = (at-rise f).before in
-    cut-bad _ (risen u).said (rw (at_from u).day-offset.ensures at f.first-bad.ensures) c.if2.true
+    cut_bad _ (risen u).said (rw (at_from u).day-offset.ensures at f.first-bad.ensures) c.if2.true
 
 returns-3 : tie.Need-returns-3
 returns-3 c =
     let f = c.before in
     let r = at-rise f in
     let u = r.before in
-    fields-taken _ (risen u) r.if1.left (rw (at_from u).day-offset.ensures at f.first-bad.ensures) c.if2.false
+    fields_taken _ (risen u) r.if1.left (rw (at_from u).day-offset.ensures at f.first-bad.ensures) c.if2.false
 
 pub fields-refusal-spec : {M : Type 1} → statement M
 fields-refusal-spec =

@@ -4,7 +4,7 @@ use mathlib.Core.Path.{sym, ◌∙◌}
 use mathlib.Core.List.{List}
 use native.Mathlib.Omega.{arith}
 use borrow.Author.Rules.{rules}
-use Rattle.file_checks.proofs.Laws.{Header, Counted, Laid, no_header, counts-refused, counted-here, layout-refused, whole_here, fields-last}
+use Rattle.file_checks.proofs.Laws.{Header, Counted, Laid, no_header, counts-refused, counted-here, layout_refused, whole_here, fields_last}
 use Rattle.file_checks.proofs.file_refusal.Statement.{statement}
 use Rattle.file_checks.proofs.file_refusal.Tie as tie
 
@@ -77,7 +77,7 @@ layout-refusal-requires c κs =
     (k.header.long, s.days, s.cuts, omega (arith, s.days), omega (arith, s.cuts))
 
 returns-3 : tie.Need-returns-3
-returns-3 c = let l = test-layout c.before in layout-refused _ (counted (at-counted l)) l.layout-refusal.ensures c.if3.true
+returns-3 c = let l = test-layout c.before in layout_refused _ (counted (at-counted l)) l.layout-refusal.ensures c.if3.true
 
 fields-refusal-requires : tie.Need-fields-refusal-requires
 fields-refusal-requires c κs =
@@ -87,7 +87,7 @@ fields-refusal-requires c κs =
     (whole_here _ k, s.days, s.cuts, omega (arith, s.days), omega (arith, s.days), omega (arith, s.cuts))
 
 returns-4 : tie.Need-returns-4
-returns-4 c = fields-last _ (laid (at-laid c)) c.fields-refusal.ensures
+returns-4 c = fields_last _ (laid (at-laid c)) c.fields-refusal.ensures
 
 pub file-refusal-spec : {M : Type 1} → statement M
 file-refusal-spec =

@@ -3,20 +3,20 @@ use Prim.Native.Nat.{◌+◌, ◌-◌, ◌*◌}
 use mathlib.Core.Path.{◌≡◌, sym, ap, ◌∙◌}
 use native.Mathlib.Omega.{arith}
 use borrow.Author.Rules.{rules}
-use Rattle.theory_lists.specs.First.{Nowhere, nowhere-none, nowhere-more, nowhere-here, nowhere-all}
-use Rattle.file_format.specs.Format.{numberedAt}
-use Rattle.file_format.specs.Reading.{badCut}
+use Rattle.theory_lists.specs.First.{Nowhere, nowhere_none, nowhere_more, nowhere_here, nowhere_all}
+use Rattle.file_format.specs.Format.{numbered_at}
+use Rattle.file_format.specs.Reading.{bad_cut}
 use Rattle.file_checks.proofs.first_bad.Statement.{statement}
 use Rattle.file_checks.proofs.first_bad.Tie as tie
 
 abbrev invariant-loop : tie.invariant-loop
-invariant-loop bytes from count j₀ j = Nowhere (λ i. badCut (numberedAt bytes (from + i * 8))) count j
+invariant-loop bytes from count j₀ j = Nowhere (λ i. bad_cut (numbered_at bytes (from + i * 8))) count j
 
 abbrev decreases-loop : tie.decreases-loop
 decreases-loop bytes from count j₀ j = count - j
 
 loop-holds : tie.Need-loop-init invariant-loop decreases-loop
-loop-holds c = nowhere-none
+loop-holds c = nowhere_none
 
 -- the places on the way: a turn begins, its cut is told and judged
 abbrev at-start : tie.In-loop invariant-loop decreases-loop → tie.Start invariant-loop decreases-loop
@@ -28,23 +28,23 @@ at_turn c = c.before.before
 judged : (c : tie.After-is-bad invariant-loop decreases-loop)
     → let t = at_turn c in
     let a = (at-start t).args in
-    c.is-bad.result ≡ badCut (numberedAt a.bytes.now (a.from + t.before.loop.j * 8))
-judged c = c.is-bad.ensures ∙ ap badCut c.before.numbered-at.ensures
+    c.is-bad.result ≡ bad_cut (numbered_at a.bytes.now (a.from + t.before.loop.j * 8))
+judged c = c.is-bad.ensures ∙ ap bad_cut c.before.numbered-at.ensures
 
 returns : tie.Need-returns invariant-loop decreases-loop
 returns c =
     let j = c.before in
     let t = at_turn j in
-    nowhere-here t.before.loop.inv t.loop-test.taken (sym (judged j) ∙ c.if1.true)
+    nowhere_here t.before.loop.inv t.loop-test.taken (sym (judged j) ∙ c.if1.true)
 
 loop-again : tie.Need-loop-preserved invariant-loop decreases-loop
 loop-again c =
     let j = c.before in
     let t = at_turn j in
-    nowhere-more t.before.loop.inv t.loop-test.taken (sym (judged j) ∙ c.if1.false)
+    nowhere_more t.before.loop.inv t.loop-test.taken (sym (judged j) ∙ c.if1.false)
 
 returns-2 : tie.Need-returns-2 invariant-loop decreases-loop
-returns-2 c = let e : c.before.loop.j ≡ c.before.before.before.args.count = omega (arith, c.before.loop.invariant.most) in e ∙ nowhere-all c.before.loop.invariant c.loop-test.false
+returns-2 c = let e : c.before.loop.j ≡ c.before.before.before.args.count = omega (arith, c.before.loop.invariant.most) in e ∙ nowhere_all c.before.loop.invariant c.loop-test.false
 
 pub first-bad-spec : {M : Type 1} → statement M
 first-bad-spec =

@@ -2,7 +2,7 @@
 use mathlib.Core.Path.{◌∙◌}
 use native.Mathlib.Omega.{arith}
 use borrow.Author.Rules.{rules}
-use Rattle.file_checks.proofs.Laws.{Said, days-elsewhere, cuts-elsewhere, wrong-length, layout-taken}
+use Rattle.file_checks.proofs.Laws.{Said, days_elsewhere, cuts_elsewhere, wrong_length, layout_taken}
 use Rattle.file_checks.proofs.layout_refusal.Statement.{statement}
 use Rattle.file_checks.proofs.layout_refusal.Tie as tie
 
@@ -26,16 +26,16 @@ said : (s : tie.Start) → Said s.args.bytes.now s.args.days s.args.cuts
 said s = record { days = s.requires.1; cuts = s.requires.2 }
 
 returns : tie.Need-returns
-returns c = let d = c.before in days-elsewhere _ (d.wide.ensures.0 ∙ d.before.u16-at.ensures) (λ z. omega arith)
+returns c = let d = c.before in days_elsewhere _ (d.wide.ensures.0 ∙ d.before.u16-at.ensures) (λ z. omega arith)
 
 returns-2 : tie.Need-returns-2
-returns-2 c = let o = c.before in cuts-elsewhere _ (said (from-cuts o)) (o.wide2.ensures.0 ∙ o.before.u16-at2.ensures) (λ z. omega arith)
+returns-2 c = let o = c.before in cuts_elsewhere _ (said (from-cuts o)) (o.wide2.ensures.0 ∙ o.before.u16-at2.ensures) (λ z. omega arith)
 
 returns-3 : tie.Need-returns-3
-returns-3 c = wrong-length _ (said (from-cuts (at-cuts c.before))) (λ z. omega arith)
+returns-3 c = wrong_length _ (said (from-cuts (at-cuts c.before))) (λ z. omega arith)
 
 returns-4 : tie.Need-returns-4
-returns-4 c = layout-taken _ (said (from-cuts (at-cuts c.before))) (omega arith) (omega arith) (omega arith)
+returns-4 c = layout_taken _ (said (from-cuts (at-cuts c.before))) (omega arith) (omega arith) (omega arith)
 
 pub layout-refusal-spec : {M : Type 1} → statement M
 layout-refusal-spec =

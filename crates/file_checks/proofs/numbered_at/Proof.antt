@@ -17,15 +17,15 @@ at-kind c = c.before.before
 abbrev at-day : tie.After-i32-at → tie.After-wide2
 at-day c = c.before
 
-numbered-as : {t : Numbered} {k k' d d' : ℕ} {v v' : ℤ} → k ≡ k' → d ≡ d' → v ≡ v' → t ≡ numbered k d v → t ≡ numbered k' d' v'
-numbered-as ek ed ev p = p ∙ (λ i. numbered (ek i) (ed i) (ev i))
+numbered_as : {t : Numbered} {k k' d d' : ℕ} {v v' : ℤ} → k ≡ k' → d ≡ d' → v ≡ v' → t ≡ numbered k d v → t ≡ numbered k' d' v'
+numbered_as ek ed ev p = p ∙ (λ i. numbered (ek i) (ed i) (ev i))
 
 returns : tie.Need-returns
 returns c =
     let v = c.before in
     let d = at-day v in
     let k = at-kind d in
-    numbered-as (k.wide.ensures.0 ∙ k.before.u16-at.ensures) (d.wide2.ensures.0 ∙ d.before.u16-at2.ensures)
+    numbered_as (k.wide.ensures.0 ∙ k.before.u16-at.ensures) (d.wide2.ensures.0 ∙ d.before.u16-at2.ensures)
     (to_z-of_z {w = w32} (sfits_of v.i32-at.type-inv) ∙ v.i32-at.ensures) c.numbered.ensures
 
 pub numbered-at-spec : {M : Type 1} → statement M

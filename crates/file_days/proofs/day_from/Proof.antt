@@ -41,7 +41,7 @@ use denote.Triple.Table.{entered, cited}
 use denote.Triple.Walked.{says, needs, Stays, stay_none, stay_none_slice, walk_of, Goes-none, Goes-none_slice, Walks, ends_at, walked, walk_Meets}
 use denote.Exit.{yes}
 use denote.Triple.Clauses.{ensured, lasts}
-use Rattle.file_days.specs.Days.{step_of, takenAt}
+use Rattle.file_days.specs.Days.{step_of, taken_at}
 use Rattle.file_days.specs.declared.DayReader.{DayReader}
 use Rattle.file_days.specs.declared.Day.{Day}
 use Rattle.file_days.specs.declared.DayStep.{DayStep}
@@ -132,16 +132,16 @@ module _ {M : Type 1} {𝓤 : Ura M} (𝓛 : Logic 𝓤) (mem : Memory → SProp
   said t = ex_e 𝓤 _ (λ ws. snd∗ 𝓤 (sem 𝓛 (lasts callee.ended (κ, tt) (d, tt) ws)) (fact 𝓤 (t ≡ step_of d)))
 
   -- what the result of the callee shows of its day, of its reader's number, and so of the result
-  day-is : (t : DayStep) (u : Val) → Is (P.the_row α) t (u ∷ []) → Is R.the_row t.day (dval t.day ∷ [])
-  day-is t u is = (LL.owed (P.the_type α) (P'.the_laws α) t _ is).0
+  day_is : (t : DayStep) (u : Val) → Is (P.the_row α) t (u ∷ []) → Is R.the_row t.day (dval t.day ∷ [])
+  day_is t u is = (LL.owed (P.the_type α) (P'.the_laws α) t _ is).0
 
   next_fits : (t : DayStep) (u : Val) → Is (P.the_row α) t (u ∷ []) → t.next.at < 2 ^ 64
   next_fits t u is = (LL.owed (T.the_type α) (T'.the_laws α) t.next _ (LL.owed (P.the_type α) (P'.the_laws α) t _ is).1.0).1.0.1
 
   taken_is : (t : DayStep) (u : Val) → Is (P.the_row α) t (u ∷ []) → Is Q.the_row (taken t) (rval (taken t) ∷ [])
-  taken_is t u is = LL.owes Q.the_type Q'.the_laws (taken t) (day-is t u is, ((refl, next_fits t u is), tt))
+  taken_is t u is = LL.owes Q.the_type Q'.the_laws (taken t) (day_is t u is, ((refl, next_fits t u is), tt))
 
-  exits : (r : Taken) → r ≡ takenAt s.now n → Is Q.the_row r (rval r ∷ []) → ent 𝓤 (⋆ 𝓛 ((‵ (flft κ q) ⊛ ‵ ftrue) ∷ ‵ Own ∷ [])) (Post (rval r))
+  exits : (r : Taken) → r ≡ taken_at s.now n → Is Q.the_row r (rval r ∷ []) → ent 𝓤 (⋆ 𝓛 ((‵ (flft κ q) ⊛ ‵ ftrue) ∷ ‵ Own ∷ [])) (Post (rval r))
   exits r e gr =
       qed 𝓛 ((‵ (flft κ q) ⊛ ‵ ftrue) ∷ ‵ Own ∷ []) ∵
       suffices ! _ (ends_at 𝓛 self.ended stayed (self.clauses 𝓛 mem run) (((κ, tt), (q, tt), tt, (s, (n, tt)), at), tt) (rval r) r (tt, (tt, tt)) (tt, (tt, tt))) $ says ! e $
@@ -165,7 +165,7 @@ module _ {M : Type 1} {𝓤 : Ura M} (𝓛 : Logic 𝓤) (mem : Memory → SProp
         -- [the token; what bytes owns; _6; …; _5; …; _4; …; _3; …; _2; …; _1; …; room for _0; …]
         land ! (from ! (stop !)) (init ! 8 refl ((LL.lawful (P.the_type αᵉ) (P'.the_laws αᵉ) 𝓛).typed t _ is).0) $
         rewrite ! 8 (λ (w : Val). ‵ (fat full_share (P'.mir erased) l₃ 0 w)) (ap only (LL.tells (P.the_type α) (P'.the_laws α) t _ is)) refl $
-        assigns ! (of_opd ! (load ! (from ! (fld ! refl (stop !))) (look_in ! 8 (sub ! 0 refl (whole !))))) (from ! (stop !)) (init ! 4 refl ((LL.lawful R.the_type R'.the_laws 𝓛).typed t.day _ (day-is t u is)).0) $
+        assigns ! (of_opd ! (load ! (from ! (fld ! refl (stop !))) (look_in ! 8 (sub ! 0 refl (whole !))))) (from ! (stop !)) (init ! 4 refl ((LL.lawful R.the_type R'.the_laws 𝓛).typed t.day _ (day_is t u is)).0) $
         assigns ! (of_opd ! (load ! (from ! (fld ! refl (fld ! refl (stop !)))) (look_in ! 8 (sub ! 1 refl (sub ! 1 refl (whole !)))))) (from ! (stop !)) (init ! 2 refl (tt, record { fits = next_fits t u is })) $
         assigns ! (agg ! (and_then ! (load ! (from ! (stop !)) (look ! 4 refl)) (and_then ! (load ! (from ! (stop !)) (look ! 2 refl)) (no_more !)))) (from ! (stop !))
         (init ! 14 refl ((LL.lawful Q.the_type Q'.the_laws 𝓛).typed (taken t) _ (taken_is t u is)).0) $

@@ -48,7 +48,7 @@ use denote.Triple.Table.{entered, cited}
 use denote.Triple.Walked.{says, needs, Stays, stay_none, walk_of, Goes-none, Walks, ends_at, walked, walk_Meets}
 use denote.Exit.{yes}
 use denote.Triple.Clauses.{ensured, lasts}
-use Rattle.file_days.specs.Days.{dayAt}
+use Rattle.file_days.specs.Days.{day_at}
 use Rattle.file_days.specs.declared.DayReader.{DayReader}
 use Rattle.file_days.specs.declared.Day.{Day}
 use Rattle.file_days.specs.declared.DayStep.{DayStep}
@@ -78,8 +78,8 @@ stayed = (stay_none B yes, tt)
 abbrev rval : Day → Val
 rval r = LL.val R.the_type R'.the_laws r
 
-day-is : (r : Day) (u : Val) → Is R.the_row r (u ∷ []) → Is R.the_row r (rval r ∷ [])
-day-is r u is = LL.owes R.the_type R'.the_laws r (LL.owed R.the_type R'.the_laws r _ is)
+day_is : (r : Day) (u : Val) → Is R.the_row r (u ∷ []) → Is R.the_row r (rval r ∷ [])
+day_is r u is = LL.owes R.the_type R'.the_laws r (LL.owed R.the_type R'.the_laws r _ is)
 
 module _ {M : Type 1} {𝓤 : Ura M} (𝓛 : Logic 𝓤) (mem : Memory → SProp 𝓤) (run : Routine → Fun 𝓤) where
   -- the contract that the proof cites
@@ -100,7 +100,7 @@ module _ {M : Type 1} {𝓤 : Ura M} (𝓛 : Logic 𝓤) (mem : Memory → SProp
   v = slice_val d.bytes.ref_ptr (length d.bytes.now)
 
   abbrev found : Day
-  found = dayAt d.bytes.now d.at
+  found = day_at d.bytes.now d.at
 
   -- the reader moved on to m, and the result with the day r
   abbrev moved : ℕ → DayReader
@@ -181,11 +181,11 @@ module _ {M : Type 1} {𝓤 : Ura M} (𝓛 : Logic 𝓤) (mem : Memory → SProp
         assigns ! (bin ! (load ! (from ! (stop !)) (look ! 9 refl)) (lit ! tt) (record { fits = omega arith })) (from ! (stop !)) (init ! 5 refl (tt, record { fits = omega arith })) $
         assigns ! (agg ! (and_then ! (load ! (from ! (stop !)) (look ! 11 refl)) (and_then ! (load ! (from ! (stop !)) (look ! 5 refl)) (no_more !)))) (from ! (stop !)) (init ! 3 refl (tt, (wt.1.0, (record { fits = omega arith }, tt)))) $
         assigns ! (agg ! (and_then ! (load ! (from ! (stop !)) (look ! 7 refl)) (and_then ! (load ! (from ! (stop !)) (look ! 3 refl)) (no_more !)))) (from ! (stop !))
-        (init ! 15 refl (tt, (((LL.lawful R.the_type R'.the_laws 𝓛).typed r _ (day-is r u is)).0.1, ((wt.1.0, (record { fits = omega arith }, tt)), tt)))) $
+        (init ! 15 refl (tt, (((LL.lawful R.the_type R'.the_laws 𝓛).typed r _ (day_is r u is)).0.1, ((wt.1.0, (record { fits = omega arith }, tt)), tt)))) $
         returns ! (look ! 15 refl) $ forget ! 3 refl $ forget ! 5 refl $ forget ! 7 refl $ forget ! 9 refl $ forget ! 11 refl $ forget ! 13 refl $ forget ! 15 refl $
         move ! (15 ∷ 16 ∷ []) $ free1 ! $ move ! (13 ∷ 14 ∷ []) $ free1 ! $ move ! (11 ∷ 12 ∷ []) $ free1 ! $ move ! (9 ∷ 10 ∷ []) $ free1 ! $ move ! (7 ∷ 8 ∷ []) $ free1 ! $ move ! (5 ∷ 6 ∷ []) $
         free1 ! $ move ! (3 ∷ 4 ∷ []) $ free1 ! $ free0 ! $
-        by ! (exits r _ e (omega arith) (omega arith) (day-is r u is)))))))))))))
+        by ! (exits r _ e (omega arith) (omega arith) (day_is r u is)))))))))))))
 
 module _ {M : Type 1} {𝓤 : Ura M} (𝓛 : Logic 𝓤) (mem : Memory → SProp 𝓤) (run : Routine → Fun 𝓤) where
   open 𝓛 use {H}

@@ -5,8 +5,8 @@ use mathlib.Core.Path.{◌≡◌, refl, ap}
 use native.Mathlib.Omega.{arith}
 use borrow.Author.Rules.{rules}
 use Rattle.theory_lists.specs.Filled.{Filled, filled_none, filled_more, filled-all}
-use Rattle.file_format.specs.Format.{dayOffset, floorAt, ceilingAt, riseAt}
-use Rattle.file_days.specs.Days.{takenAt}
+use Rattle.file_format.specs.Format.{day_offset, floor_at, ceiling_at, rise_at}
+use Rattle.file_days.specs.Days.{taken_at}
 use Rattle.file_days.specs.declared.Taken.{Taken}
 use Rattle.file_days.proofs.Laws.{last_stored}
 use Rattle.file_days.proofs.store_days.Statement.{statement}
@@ -14,10 +14,10 @@ use Rattle.file_days.proofs.store_days.Tie as tie
 
 abbrev invariant-loop : tie.invariant-loop
 invariant-loop bytes days floors₀ ceilings₀ rises₀ last at₀ k₀ floors ceilings rises at k =
-    (at ≡ dayOffset k)
-    × Filled (floorAt bytes) last k floors₀ floors
-    × Filled (ceilingAt bytes) last k ceilings₀ ceilings
-    × Filled (riseAt bytes) last k rises₀ rises
+    (at ≡ day_offset k)
+    × Filled (floor_at bytes) last k floors₀ floors
+    × Filled (ceiling_at bytes) last k ceilings₀ ceilings
+    × Filled (rise_at bytes) last k rises₀ rises
 
 abbrev decreases-loop : tie.decreases-loop
 decreases-loop bytes days floors₀ ceilings₀ rises₀ last at₀ k₀ floors ceilings rises at k = last - k
@@ -52,11 +52,11 @@ at_last c = c.before.before.before.before
 -- the last day
 taken : (c : tie.After-day-from invariant-loop decreases-loop)
     → let a = (at-start (at_left c)).args in
-    c.day-from.result ≡ takenAt a.bytes.now (dayOffset (a.days - 1))
+    c.day-from.result ≡ taken_at a.bytes.now (day_offset (a.days - 1))
 taken c =
     let l = at_left c in
     let inv = l.before.loop.inv in
-    let begins : l.before.loop.at ≡ dayOffset ((at-start l).args.days - 1) = omega (arith, inv.0, inv.1.most, l.loop-test.left) in
+    let begins : l.before.loop.at ≡ day_offset ((at-start l).args.days - 1) = omega (arith, inv.0, inv.1.most, l.loop-test.left) in
     rw begins at c.day-from.ensures
 
 returns : tie.Need-returns invariant-loop decreases-loop

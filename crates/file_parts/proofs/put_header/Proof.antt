@@ -1,13 +1,13 @@
--- `put_header` meets its contract: seven fields stored one after another (`stored-after`).
+-- `put_header` meets its contract: seven fields stored one after another (`stored_after`).
 use mathlib.Core.List.{◌++◌}
 use mathlib.Core.Path.{◌≡◌, refl, ap, ◌∙◌}
 use lib.Seq.{sets}
 use mir.Facts.{to_z-of_z}
 use mir.Syntax.{w32}
 use mir.Val.{SFits}
-use Rattle.base_little_endian.specs.Fields.{u16Bytes, u32Bytes, i32Bytes}
-use Rattle.file_format.specs.Format.{header, dayOffset}
-use Rattle.theory_lists.specs.Rows.{stored-after}
+use Rattle.base_little_endian.specs.Fields.{u16_bytes, u32_bytes, i32_bytes}
+use Rattle.file_format.specs.Format.{header, day_offset}
+use Rattle.theory_lists.specs.Rows.{stored_after}
 use borrow.Author.Rules.{rules, sfits_of}
 use Rattle.file_parts.proofs.put_header.Statement.{statement}
 use Rattle.file_parts.proofs.put_header.Tie as tie
@@ -51,7 +51,7 @@ highest-fits : (c : tie.After-struct-told2) → SFits w32 (at-start c).args.numb
 highest-fits c = sfits_of {w = w32} c.struct-told2.given.1.1.1.0.1
 
 returns : tie.Need-returns
-unfolding header u16Bytes u32Bytes i32Bytes
+unfolding header u16_bytes u32_bytes i32_bytes
 returns c =
     let seventh = at_first c in
     let sixth = at-highest seventh in
@@ -64,21 +64,21 @@ returns c =
     let t = at_told one in
     let s = (at-start t).args in
     let l = s.out.now in
-    let n = u16Bytes s.numbers.days in
-    let m = u16Bytes s.cuts in
-    let a = u16Bytes 18 in
-    let b = u16Bytes (dayOffset s.numbers.days) in
-    let low = i32Bytes s.numbers.lowest in
-    let high = i32Bytes s.numbers.highest in
-    let first : seventh.put-u165.last.0 ≡ sets sixth.put-i322.last.0 16 (u16Bytes s.numbers.first) = seventh.put-u165.ensures in
-    stored-after l 0 16 (n ++ m ++ a ++ b ++ low ++ high) (u16Bytes s.numbers.first) refl
-    (stored-after l 0 12 (n ++ m ++ a ++ b ++ low) high refl
-    (stored-after l 0 8 (n ++ m ++ a ++ b) low refl
-    (stored-after l 0 6 (n ++ m ++ a) b refl
-    (stored-after l 0 4 (n ++ m) a refl (stored-after l 0 2 n m refl one.put-u16.ensures second.put-u162.ensures) third.put-u163.ensures)
-    (fourth.put-u164.ensures ∙ ap (λ z. sets third.put-u163.last.0 6 (u16Bytes z)) place.day-offset.ensures))
+    let n = u16_bytes s.numbers.days in
+    let m = u16_bytes s.cuts in
+    let a = u16_bytes 18 in
+    let b = u16_bytes (day_offset s.numbers.days) in
+    let low = i32_bytes s.numbers.lowest in
+    let high = i32_bytes s.numbers.highest in
+    let first : seventh.put-u165.last.0 ≡ sets sixth.put-i322.last.0 16 (u16_bytes s.numbers.first) = seventh.put-u165.ensures in
+    stored_after l 0 16 (n ++ m ++ a ++ b ++ low ++ high) (u16_bytes s.numbers.first) refl
+    (stored_after l 0 12 (n ++ m ++ a ++ b ++ low) high refl
+    (stored_after l 0 8 (n ++ m ++ a ++ b) low refl
+    (stored_after l 0 6 (n ++ m ++ a) b refl
+    (stored_after l 0 4 (n ++ m) a refl (stored_after l 0 2 n m refl one.put-u16.ensures second.put-u162.ensures) third.put-u163.ensures)
+    (fourth.put-u164.ensures ∙ ap (λ z. sets third.put-u163.last.0 6 (u16_bytes z)) place.day-offset.ensures))
     (rw (to_z-of_z (lowest-fits t)) at fifth.put-i32.ensures))
-    (sixth.put-i322.ensures ∙ ap (λ z. sets fifth.put-i32.last.0 12 (i32Bytes z)) (to_z-of_z (highest-fits t))))
+    (sixth.put-i322.ensures ∙ ap (λ z. sets fifth.put-i32.last.0 12 (i32_bytes z)) (to_z-of_z (highest-fits t))))
     first
 
 pub put-header-spec : {M : Type 1} → statement M

@@ -2,7 +2,7 @@
 use Prim.Native.Nat.{◌-◌}
 use lib.ListN.{get_or}
 use Rattle.session_cuts.specs.Sheet.{blank}
-use Rattle.file_printing.proofs.Laws.{Applied, applied-none, applied-more, applied-all}
+use Rattle.file_printing.proofs.Laws.{Applied, applied_none, applied_more, applied_all}
 use borrow.Author.Rules.{rules}
 use Rattle.file_printing.proofs.cut_all.Statement.{statement}
 use Rattle.file_printing.proofs.cut_all.Tie as tie
@@ -14,16 +14,16 @@ abbrev decreases-loop : tie.decreases-loop
 decreases-loop count entries after₀ j₀ after j = count - j
 
 loop-holds : tie.Need-loop-init invariant-loop decreases-loop
-loop-holds c = applied-none c.requires.0
+loop-holds c = applied_none c.requires.0
 
 cut-once-requires : tie.Need-cut-once-requires invariant-loop decreases-loop
 cut-once-requires c κs = c.before.before.loop.invariant.bounds
 
 loop-again : tie.Need-loop-preserved invariant-loop decreases-loop
-loop-again c = applied-more c.before.before.before.loop.invariant c.before.before.loop-test.true c.cut-once.ensures
+loop-again c = applied_more c.before.before.before.loop.invariant c.before.before.loop-test.true c.cut-once.ensures
 
 returns : tie.Need-returns invariant-loop decreases-loop
-returns c = applied-all c.before.loop.invariant c.loop-test.false
+returns c = applied_all c.before.loop.invariant c.loop-test.false
 
 pub cut-all-spec : {M : Type 1} → statement M
 cut-all-spec =

@@ -5,12 +5,12 @@ use mathlib.Core.List.{List}
 use native.Mathlib.Omega.{arith}
 use Rattle.session.specs.Opening.{opened}
 use Rattle.session.specs.declared.Opened.{Opened}
-use Rattle.session.proofs.SessionBounds.{opened-in-bounds}
-use Rattle.file_format.specs.Format.{profileIn}
+use Rattle.session.proofs.SessionBounds.{opened_in_bounds}
+use Rattle.file_format.specs.Format.{profile_in}
 use Rattle.file_reading.proofs.Laws.{read_number}
-use Rattle.file_printing.specs.Printing.{printed, answerText, refusedLine}
-use Rattle.file_printing.proofs.Lines.{answer-refused, answer-ranges, read-refused, open-refused, sheet-applied}
-use Rattle.file_printing.proofs.Laws.{stage-passed, stage-refused, stage-number}
+use Rattle.file_printing.specs.Printing.{printed, answer_text, refused_line}
+use Rattle.file_printing.proofs.Lines.{answer-refused, answer-ranges, read-refused, open_refused, sheet_applied}
+use Rattle.file_printing.proofs.Laws.{stage_passed, stage_refused, stage_number}
 use Rattle.file_printing.proofs.Reading.{Got, got}
 use borrow.Author.Rules.{rules}
 use Rattle.file_printing.proofs.print_ranges.Statement.{statement}
@@ -68,18 +68,18 @@ got-file c =
     let s = at-reading c in
     let r = at_read s in
     let e = r.read.ensures in
-    let none = stage-passed r.read.result.refusal s.stage-of.ensures c.enum_told.given.1 in
+    let none = stage_passed r.read.result.refusal s.stage-of.ensures c.enum_told.given.1 in
     got (bytes r) (record { answer = e.0; passed = none; floors = e.1.0; ceilings = e.1.1.0; rises = e.1.1.1 })
 
-opens : (c : tie.After-open-read) → c.open-read.result ≡ opened (profileIn (opened-bytes c))
+opens : (c : tie.After-open-read) → c.open-read.result ≡ opened (profile_in (opened-bytes c))
 opens c = c.open-read.ensures ∙ ap opened (got-file (from-opened c)).entered
 
-cuts : (c : tie.After-cut-all) → printed (opened-bytes (at-opened c.before)) ≡ answerText c.Cut-all.result
+cuts : (c : tie.After-cut-all) → printed (opened-bytes (at-opened c.before)) ≡ answer_text c.Cut-all.result
 cuts c =
     let o = at-opened c.before in
     let g = got-file (from-opened o) in
-    sheet-applied (opened-bytes o) g.none (at_read (at-reading (from-opened o))).read.result.sheet g.cuts
-    ∙ ap answerText (sym (rw (opens o) at c.Cut-all.ensures.0))
+    sheet_applied (opened-bytes o) g.none (at_read (at-reading (from-opened o))).read.result.sheet g.cuts
+    ∙ ap answer_text (sym (rw (opens o) at c.Cut-all.ensures.0))
 
 -- ---- reading refused
 
@@ -89,9 +89,9 @@ returns c =
     let s = test-reading n.before.before.before in
     let r = at_read s in
     let number = ap (λ a. a.refusal) r.read.ensures.0 ∙ read_number (bytes r) 512 512 511 (omega arith) (omega arith) (omega arith) in
-    let shown = n.number_of_lem.ensures ∙ stage-number r.read.result.refusal s.stage-of.ensures in
-    let some = stage-refused r.read.result.refusal s.stage-of.ensures n.before.enum-told2.given.1 in
-    rw (read-refused (bytes r) (λ z. some (number ∙ z)) ∙ ap refusedLine (sym (shown ∙ number))) c.put-refusal.ensures
+    let shown = n.number_of_lem.ensures ∙ stage_number r.read.result.refusal s.stage-of.ensures in
+    let some = stage_refused r.read.result.refusal s.stage-of.ensures n.before.enum-told2.given.1 in
+    rw (read-refused (bytes r) (λ z. some (number ∙ z)) ∙ ap refused_line (sym (shown ∙ number))) c.put-refusal.ensures
 
 -- ---- opening refused
 
@@ -104,32 +104,32 @@ returns-2 c =
     let s = test-opening n.before.before.before in
     let o = at-opening s in
     let e = opens o in
-    let shown = n.number-of2.ensures ∙ stage-number o.open-read.result.refusal s.stage-of2.ensures in
-    let some = stage-refused o.open-read.result.refusal s.stage-of2.ensures n.before.enum-told4.given.1 in
-    rw (open-refused (opened-bytes o) (got-file (from-opened o)).none (rw e at some) ∙ ap refusedLine (sym (shown ∙ ap (λ (a : Opened). a.refusal) e))) c.put-refusal2.ensures
+    let shown = n.number-of2.ensures ∙ stage_number o.open-read.result.refusal s.stage-of2.ensures in
+    let some = stage_refused o.open-read.result.refusal s.stage-of2.ensures n.before.enum-told4.given.1 in
+    rw (open_refused (opened-bytes o) (got-file (from-opened o)).none (rw e at some) ∙ ap refused_line (sym (shown ∙ ap (λ (a : Opened). a.refusal) e))) c.put-refusal2.ensures
 
 -- ---- a cut refused, or none
 
 cut-all-requires : tie.Need-cut-all-requires
 cut-all-requires c κs =
     let o = at-opened c in
-    (rw (opens o) (opened-in-bounds (profileIn (opened-bytes o))), (got-file (from-opened o)).fewCuts)
+    (rw (opens o) (opened_in_bounds (profile_in (opened-bytes o))), (got-file (from-opened o)).few_cuts)
 
 returns-3 : tie.Need-returns-3
 returns-3 c =
     let n = c.before.before in
     let s = test-cutting n.before.before.before in
     let a = at-cutting s in
-    let shown = n.number-of3.ensures ∙ stage-number a.Cut-all.result.refusal s.stage-of3.ensures in
-    let some = stage-refused a.Cut-all.result.refusal s.stage-of3.ensures n.before.enum-told6.given.1 in
-    rw (cuts a ∙ answer-refused a.Cut-all.result some ∙ ap refusedLine (sym shown)) c.put-refusal3.ensures
+    let shown = n.number-of3.ensures ∙ stage_number a.Cut-all.result.refusal s.stage-of3.ensures in
+    let some = stage_refused a.Cut-all.result.refusal s.stage-of3.ensures n.before.enum-told6.given.1 in
+    rw (cuts a ∙ answer-refused a.Cut-all.result some ∙ ap refused_line (sym shown)) c.put-refusal3.ensures
 
 returns-4 : tie.Need-returns-4
 returns-4 c =
     let p = c.before.before.before in
     let s = test-cutting p.before.before in
     let a = at-cutting s in
-    rw (cuts a ∙ answer-ranges a.Cut-all.result (stage-passed a.Cut-all.result.refusal s.stage-of3.ensures p.enum-told5.given.1)) c.put-ranges.ensures
+    rw (cuts a ∙ answer-ranges a.Cut-all.result (stage_passed a.Cut-all.result.refusal s.stage-of3.ensures p.enum-told5.given.1)) c.put-ranges.ensures
 
 pub print-ranges-spec : {M : Type 1} → statement M
 print-ranges-spec =

@@ -9,8 +9,8 @@ use mir.Val.{SFits, to_z, of_z}
 use mir.Facts.{sfits_widen}
 use Rattle.base_codes.proofs.Casts.{recast, recast_fits}
 use Rattle.base_text.specs.Numbers.{decimal}
-use Rattle.file_printing.specs.Printing.{range, dayLine}
-use Rattle.file_printing.proofs.Lines.{day-parts}
+use Rattle.file_printing.specs.Printing.{range, day_line}
+use Rattle.file_printing.proofs.Lines.{day_parts}
 use Rattle.file_printing.proofs.Laws.{Left, left-all, left-more, left-none, left-room, last-room}
 use native.Mathlib.Omega.{arith}
 use borrow.Author.Rules.{rules}
@@ -41,13 +41,13 @@ from-range c = from-number (at-number c).before
 -- ---- what is left to store after each call but the last
 
 abbrev Rest : tie.Start → List ℕ → ℕ → List ℕ → Type 0
-Rest s = Left s.args.out.now s.args.at (dayLine s.args.day s.args.low s.args.high)
+Rest s = Left s.args.out.now s.args.at (day_line s.args.day s.args.low s.args.high)
 
 abbrev rangePart : tie.Start → List ℕ
 rangePart s = range s.args.low s.args.high
 
-parts : (s : tie.Start) → dayLine s.args.day s.args.low s.args.high ≡ (100 ∷ 97 ∷ 121 ∷ 32 ∷ []) ++ (decimal s.args.day ++ rangePart s)
-parts s = day-parts s.args.day s.args.low s.args.high
+parts : (s : tie.Start) → day_line s.args.day s.args.low s.args.high ≡ (100 ∷ 97 ∷ 121 ∷ 32 ∷ []) ++ (decimal s.args.day ++ rangePart s)
+parts s = day_parts s.args.day s.args.low s.args.high
 
 one : (c : tie.After-put)
     → let s = at-start c.before in

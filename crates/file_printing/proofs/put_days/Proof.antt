@@ -6,20 +6,20 @@ use mathlib.Core.Path.{◌≡◌}
 use borrow.Author.Rules.{sfits_of}
 use Prim.Native.Nat.{◌-◌}
 use Rattle.base_codes.specs.Code.{on}
-use Rattle.file_printing.specs.Printing.{dayLine}
-use Rattle.theory_lists.specs.Rows.{Stored, stored-none, stored_more, stored-all, stored-room}
+use Rattle.file_printing.specs.Printing.{day_line}
+use Rattle.theory_lists.specs.Rows.{Stored, stored_none, stored_more, stored_all, stored_room}
 use borrow.Author.Rules.{rules}
 use Rattle.file_printing.proofs.put_days.Statement.{statement}
 use Rattle.file_printing.proofs.put_days.Tie as tie
 
 abbrev invariant-loop : tie.invariant-loop
-invariant-loop out₀ at days floors ceilings next₀ k₀ out next k = Stored (λ j. dayLine j (on floors j) (on ceilings j)) days at out₀ k next out
+invariant-loop out₀ at days floors ceilings next₀ k₀ out next k = Stored (λ j. day_line j (on floors j) (on ceilings j)) days at out₀ k next out
 
 abbrev decreases-loop : tie.decreases-loop
 decreases-loop out₀ at days floors ceilings next₀ k₀ out next k = days - k
 
 loop-holds : tie.Need-loop-init invariant-loop decreases-loop
-loop-holds c = stored-none
+loop-holds c = stored_none
 
 -- ---- the places on the way: a turn begins, a day's numbers are ready, its line is stored
 
@@ -50,7 +50,7 @@ put-day-requires : tie.Need-put-day-requires invariant-loop decreases-loop
 put-day-requires c κs =
     let t = at_turn c in
     let pre = (at-start t).pre in
-    rw (floor c, ceiling c) (stored-room 20 t.before.loop.inv t.loop-test.taken pre.1 pre.2)
+    rw (floor c, ceiling c) (stored_room 20 t.before.loop.inv t.loop-test.taken pre.1 pre.2)
 
 loop-again : tie.Need-loop-preserved invariant-loop decreases-loop
 loop-again c =
@@ -59,7 +59,7 @@ loop-again c =
     stored_more t.before.loop.inv t.loop-test.taken (rw (floor l.before, ceiling l.before) at l.put-day.ensures)
 
 returns : tie.Need-returns invariant-loop decreases-loop
-returns c = stored-all c.before.loop.invariant c.loop-test.false
+returns c = stored_all c.before.loop.invariant c.loop-test.false
 
 pub put-days-spec : {M : Type 1} → statement M
 put-days-spec =

@@ -4,7 +4,7 @@ use mathlib.Core.List.{List, [], ◌∷◌, ◌++◌}
 use mir.Facts.{to_z-of_z}
 use Rattle.base_text.specs.Numbers.{number}
 use Rattle.file_printing.specs.Printing.{range}
-use Rattle.file_printing.proofs.Lines.{range-parts}
+use Rattle.file_printing.proofs.Lines.{range_parts}
 use Rattle.file_printing.proofs.Laws.{Left, left-all, left-more, left-number, left-none, left-room, last-room}
 use borrow.Author.Rules.{rules}
 use Rattle.file_printing.proofs.put_range.Statement.{statement}
@@ -55,7 +55,7 @@ abbrev lowPart : tie.Start → List ℕ
 lowPart s = number s.args.low ++ ((32 ∷ []) ++ highPart s)
 
 one : (c : tie.After-put) → Rest (at-start c.before) c.put.new.0 c.put.result (lowPart (at-start c.before))
-one c = let s = at-start c.before in left-more (32 ∷ []) (left-all (range-parts s.args.low s.args.high)) c.put.ensures
+one c = let s = at-start c.before in left-more (32 ∷ []) (left-all (range_parts s.args.low s.args.high)) c.put.ensures
 
 two : (c : tie.After-put-number) → Rest (from_low c.before) c.put-number.new.0 c.put-number.result ((32 ∷ []) ++ highPart (from_low c.before))
 two c = left-number (to_z-of_z (from_low c.before).ranges.low) (one (at-space c.before)) c.put-number.ensures

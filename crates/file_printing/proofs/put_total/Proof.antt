@@ -3,8 +3,8 @@ use mathlib.Core.Path.{ap}
 use mathlib.Core.List.{[], ◌∷◌}
 use lib.ListN.{length}
 use mir.Facts.{to_z-of_z}
-use Rattle.file_printing.specs.Printing.{range, totalLine}
-use Rattle.file_printing.proofs.Lines.{total-parts}
+use Rattle.file_printing.specs.Printing.{range, total_line}
+use Rattle.file_printing.proofs.Lines.{total_parts}
 use Rattle.file_printing.proofs.Laws.{Left, left-all, left-more, left-none, last-room}
 use native.Mathlib.Omega.{arith}
 use borrow.Author.Rules.{rules}
@@ -29,13 +29,13 @@ from-range c = at-start (at-word c).before
 -- what is left to store after the first call
 one : (c : tie.After-put)
     → let a = (at-start c.before).args in
-    Left a.out.now 0 (totalLine a.low a.high) c.put.new.0 c.put.result (range a.low a.high)
+    Left a.out.now 0 (total_line a.low a.high) c.put.new.0 c.put.result (range a.low a.high)
 one c =
     let a = (at-start c.before).args in
-    left-more (116 ∷ 111 ∷ 116 ∷ 97 ∷ 108 ∷ []) (left-all (total-parts a.low a.high)) c.put.ensures
+    left-more (116 ∷ 111 ∷ 116 ∷ 97 ∷ 108 ∷ []) (left-all (total_parts a.low a.high)) c.put.ensures
 
 put-requires : tie.Need-put-requires
-put-requires c κs = let s = at-start c in omega (arith, ap length (total-parts s.args.low s.args.high), s.pre)
+put-requires c κs = let s = at-start c in omega (arith, ap length (total_parts s.args.low s.args.high), s.pre)
 
 put-range-requires : tie.Need-put-range-requires
 put-range-requires c κs =

@@ -2,9 +2,9 @@
 use mathlib.Core.Path.{◌≡◌, sym, ◌∙◌}
 use native.Mathlib.Omega.{arith}
 use borrow.Author.Rules.{rules}
-use Rattle.file_format.specs.Reading.{earlyReading}
+use Rattle.file_format.specs.Reading.{early_reading}
 use Rattle.file_format.proofs.Taken.{Taken, taken}
-use Rattle.file_reading.proofs.Stages.{ReadCall, Counted, file-refused, no-floors, no-ceilings, no-rises, refused-by, taken-whole}
+use Rattle.file_reading.proofs.Stages.{ReadCall, Counted, file-refused, no_floors, no_ceilings, no_rises, refused_by, taken-whole}
 use Rattle.file_reading.proofs.read.Statement.{statement}
 use Rattle.file_reading.proofs.read.Tie as tie
 
@@ -43,7 +43,7 @@ handed c = let a = (at-start c).args in record { bytes = a.bytes.now; floors = a
 abbrev read-from : tie.After-wide → ReadCall
 read-from c = handed (test-file (at-passed c).before)
 
-passed : (c : tie.Else1) → earlyReading (handed (test-file c.before)).bytes ≡ 0
+passed : (c : tie.Else1) → early_reading (handed (test-file c.before)).bytes ≡ 0
 passed c = sym (test-file c.before).file-refusal.ensures ∙ c.if1.false
 
 counted : (c : tie.After-wide) → Counted (read-from c).bytes c.wide.result
@@ -58,7 +58,7 @@ returns : tie.Need-returns
 returns c =
     let f = test-file c.before.before in
     let some = c.before.if1.true in
-    refused-by (handed f) c.refused.ensures (file-refused (handed f) f.file-refusal.ensures some) some
+    refused_by (handed f) c.refused.ensures (file-refused (handed f) f.file-refusal.ensures some) some
 
 u16-at-requires : tie.Need-u16-at-requires
 u16-at-requires c κs = omega (arith, (taken _ (passed c)).whole)
@@ -68,12 +68,12 @@ u16-at-requires c κs = omega (arith, (taken _ (passed c)).whole)
 returns-2 : tie.Need-returns-2
 returns-2 c =
     let n = test-floors c.before.before in
-    refused-by (read-from n) c.refused2.ensures (no-floors (read-from n) (counted n) (omega arith)) (λ z. omega arith)
+    refused_by (read-from n) c.refused2.ensures (no_floors (read-from n) (counted n) (omega arith)) (λ z. omega arith)
 
 returns-3 : tie.Need-returns-3
 returns-3 c =
     let n = test-ceilings c.before.before in
-    refused-by (read-from n) c.refused3.ensures (no-ceilings (read-from n) (counted n) (omega arith)) (λ z. omega arith)
+    refused_by (read-from n) c.refused3.ensures (no_ceilings (read-from n) (counted n) (omega arith)) (λ z. omega arith)
 
 sub-if4 : tie.Need-overflow-sub-if4
 sub-if4 c = let n = test-rises c in omega (arith, (whole n).some, (counted n).days)
@@ -81,7 +81,7 @@ sub-if4 c = let n = test-rises c in omega (arith, (whole n).some, (counted n).da
 returns-4 : tie.Need-returns-4
 returns-4 c =
     let n = test-rises c.before.before in
-    refused-by (read-from n) c.refused4.ensures (no-rises (read-from n) (counted n) (omega arith)) (λ z. omega arith)
+    refused_by (read-from n) c.refused4.ensures (no_rises (read-from n) (counted n) (omega arith)) (λ z. omega arith)
 
 -- ---- the file is taken
 
@@ -97,7 +97,7 @@ read-contents-requires c κs =
     let n = at-storing (at_stored c).before in
     let w = whole n in
     let e = (counted n).days in
-    (e, omega arith, omega arith, w.fewCuts)
+    (e, omega arith, omega arith, w.few_cuts)
 
 returns-5 : tie.Need-returns-5
 returns-5 c =
@@ -105,7 +105,7 @@ returns-5 c =
     let n = at-storing d.before in
     let e = d.store-days.ensures in
     taken-whole (read-from n) c.read-contents.ensures (counted n)
-    (record { floors-long = omega arith; ceilings-long = omega arith; rises-long = omega arith; floors-stored = e.0; ceilings-stored = e.1.0; rises-stored = e.1.1 })
+    (record { floors-long = omega arith; ceilings-long = omega arith; rises-long = omega arith; floors_stored = e.0; ceilings_stored = e.1.0; rises_stored = e.1.1 })
 
 pub read_spec : {M : Type 1} → statement M
 read_spec =

@@ -1,10 +1,10 @@
--- `read_contents` meets its contract: each call gave a field of the contents (`contents-as`); the total's bounds are read back from machine words.
+-- `read_contents` meets its contract: each call gave a field of the contents (`contents_as`); the total's bounds are read back from machine words.
 use mathlib.Core.Path.{◌∙◌}
 use mir.Syntax.{w32}
 use mir.Facts.{to_z-of_z}
 use borrow.Author.Rules.{sfits_of, rules}
-use Rattle.session.specs.Opening.{numbersWith}
-use Rattle.file_reading.proofs.Stages.{contents-as}
+use Rattle.session.specs.Opening.{numbers_with}
+use Rattle.file_reading.proofs.Stages.{contents_as}
 use Rattle.file_reading.proofs.read_contents.Statement.{statement}
 use Rattle.file_reading.proofs.read_contents.Tie as tie
 
@@ -38,9 +38,9 @@ returns c =
     let first = f.wide.ensures.0 ∙ f.before.u16-at.ensures in
     let lowest = to_z-of_z {w = w32} (sfits_of l.i32-at.ok) ∙ l.i32-at.ensures in
     let highest = to_z-of_z {w = w32} (sfits_of h.i32-at2.ok) ∙ h.i32-at2.ensures in
-    contents-as
+    contents_as
     (record {
-      found = λ i. numbersWith (days i) (first i) (lowest i) (highest i);
+      found = λ i. numbers_with (days i) (first i) (lowest i) (highest i);
       cuts = n.wide2.ensures.0 ∙ n.before.u16-at2.ensures;
       sheet = rw from.day-offset.ensures at c.read-sheet.ensures;
     })

@@ -2,7 +2,7 @@
 use Prim.Native.Nat.{◌-◌}
 use mathlib.Core.Path.{sym, ◌∙◌}
 use lib.ListN.{get_or}
-use Rattle.theory_lists.specs.First.{nonzero, zero-fails, nonzero-here, nonzero-all, Nowhere, nowhere-none, nowhere-more}
+use Rattle.theory_lists.specs.First.{nonzero, zero_fails, nonzero-here, nonzero-all, Nowhere, nowhere_none, nowhere_more}
 use Rattle.session_cuts.specs.Sheet.{blank}
 use Rattle.session_cutting.specs.Cutting.{malformed}
 use borrow.Author.Rules.{rules}
@@ -16,7 +16,7 @@ abbrev decreases-loop : tie.decreases-loop
 decreases-loop count days entries j₀ j = count - j
 
 loop-holds : tie.Need-loop-init invariant-loop decreases-loop
-loop-holds c = nowhere-none
+loop-holds c = nowhere_none
 
 -- the places on the way: entry j is judged, and there is one
 abbrev at_entry : tie.After-entry-refusal invariant-loop decreases-loop → tie.In-loop invariant-loop decreases-loop
@@ -33,7 +33,7 @@ loop-again : tie.Need-loop-preserved invariant-loop decreases-loop
 loop-again c =
     let r = c.before in
     let l = at_entry r in
-    nowhere-more l.before.loop.inv l.loop-test.taken (zero-fails _ (sym r.entry-refusal.ensures ∙ c.if1.false))
+    nowhere_more l.before.loop.inv l.loop-test.taken (zero_fails _ (sym r.entry-refusal.ensures ∙ c.if1.false))
 
 returns-2 : tie.Need-returns-2 invariant-loop decreases-loop
 returns-2 c = nonzero-all _ c.before.loop.invariant c.loop-test.false

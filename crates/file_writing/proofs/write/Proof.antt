@@ -2,9 +2,9 @@
 use mathlib.Core.Path.{◌≡◌, sym, ◌∙◌}
 use native.Mathlib.Omega.{arith}
 use Rattle.session.specs.Profile.{Profile}
-use Rattle.session.specs.Opening.{profile, earlyOpening}
+use Rattle.session.specs.Opening.{profile, early_opening}
 use Rattle.session.proofs.Entered.{Entered, Sized, entered}
-use Rattle.file_writing.proofs.Answers.{Opens, Checked, too_many, bad-profile, bad-cut, too_short, entry-day, written}
+use Rattle.file_writing.proofs.Answers.{Opens, Checked, too_many, bad_profile, bad_cut_lem, too_short, entry_day, written}
 use borrow.Author.Rules.{rules}
 use Rattle.file_writing.proofs.write.Statement.{statement}
 use Rattle.file_writing.proofs.write.Tie as tie
@@ -58,7 +58,7 @@ abbrev given : tie.Start → Profile
 given c = let a = c.args in profile a.numbers a.floors.now a.ceilings.now a.rises.now
 
 -- what is checked as opening does
-by-opening : (c : tie.After-early-refusal) → c.early-refusal.result ≡ earlyOpening (given (handed c))
+by-opening : (c : tie.After-early-refusal) → c.early-refusal.result ≡ early_opening (given (handed c))
 by-opening c = c.early-refusal.ensures
 
 opens : (c : tie.Else2) → Opens (given (from-opens c)) (from-opens c).args.sheet
@@ -82,12 +82,12 @@ returns c = too_many _ _ _ c.before.if1.true c.refuse.ensures
 returns-2 : tie.Need-returns-2
 returns-2 c =
     let p = at-profile (test-profile c.before.before) in
-    bad-profile _ _ _ c.before.if2.true c.refuse2.ensures (at-few p).if1.left (by-opening p)
+    bad_profile _ _ _ c.before.if2.true c.refuse2.ensures (at-few p).if1.left (by-opening p)
 
 returns-3 : tie.Need-returns-3
 returns-3 c =
     let o = test-cuts c.before.before in
-    bad-cut _ _ _ c.before.if3.true c.refuse3.ensures (opens o) (test-profile o.before).entries-refusal.ensures
+    bad_cut_lem _ _ _ c.before.if3.true c.refuse3.ensures (opens o) (test-profile o.before).entries-refusal.ensures
 
 day-offset-requires : tie.Need-day-offset-requires
 day-offset-requires c κs = (sizes c).few
@@ -119,7 +119,7 @@ put-entries-requires c κs =
     let h = at-header d.before in
     let r = at_room h.before in
     let k = checked (test-room r.before) in
-    (k.opens.few, omega (arith, d.put-days.kept, h.put-header.kept, r.if4.left), entry-day _ _ k)
+    (k.opens.few, omega (arith, d.put-days.kept, h.put-header.kept, r.if4.left), entry_day _ _ k)
 
 returns-5 : tie.Need-returns-5
 returns-5 c =
@@ -129,7 +129,7 @@ returns-5 c =
     let r = at_room h.before in
     let k = test-room r.before in
     written _ _ (checked k)
-    (record { place = r.before.day-offset.ensures; room = r.if4.left; header-stored = h.put-header.ensures; days-stored = d.put-days.ensures; cuts-stored = e.put_entries.ensures })
+    (record { place = r.before.day-offset.ensures; room = r.if4.left; header_stored = h.put-header.ensures; days_stored = d.put-days.ensures; cuts_stored = e.put_entries.ensures })
 
 pub write_spec : {M : Type 1} → statement M
 write_spec =

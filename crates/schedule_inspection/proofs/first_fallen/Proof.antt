@@ -1,7 +1,7 @@
 -- `first_fallen` meets its contract: no rise below k is broken. The measure is the days left.
 use Prim.Native.Nat.{◌-◌}
 use mathlib.Core.Path.{sym, ◌∙◌}
-use Rattle.theory_lists.specs.First.{Nowhere, nowhere-none, nowhere-more, nowhere-here, nowhere-all}
+use Rattle.theory_lists.specs.First.{Nowhere, nowhere_none, nowhere_more, nowhere_here, nowhere_all}
 use Rattle.schedule_inspection.specs.Stages.{fallen}
 use borrow.Author.Rules.{rules}
 use Rattle.schedule_inspection.proofs.first_fallen.Statement.{statement}
@@ -14,20 +14,20 @@ abbrev decreases-loop : tie.decreases-loop
 decreases-loop setpoints rises n last k₀ k = n - k
 
 loop-holds : tie.Need-loop-init invariant-loop decreases-loop
-loop-holds c = nowhere-none
+loop-holds c = nowhere_none
 
 -- a turn begins
 abbrev at_turn : tie.After-is-fallen invariant-loop decreases-loop → tie.In-loop invariant-loop decreases-loop
 at_turn c = c.before.before.before.before
 
 returns : tie.Need-returns invariant-loop decreases-loop
-returns c = let t = at_turn c.before in nowhere-here t.before.loop.inv t.loop-test.taken (sym c.before.is-fallen.ensures ∙ c.if1.true)
+returns c = let t = at_turn c.before in nowhere_here t.before.loop.inv t.loop-test.taken (sym c.before.is-fallen.ensures ∙ c.if1.true)
 
 loop-again : tie.Need-loop-preserved invariant-loop decreases-loop
-loop-again c = let t = at_turn c.before in nowhere-more t.before.loop.inv t.loop-test.taken (sym c.before.is-fallen.ensures ∙ c.if1.false)
+loop-again c = let t = at_turn c.before in nowhere_more t.before.loop.inv t.loop-test.taken (sym c.before.is-fallen.ensures ∙ c.if1.false)
 
 returns-2 : tie.Need-returns-2 invariant-loop decreases-loop
-returns-2 c = nowhere-all c.before.loop.invariant c.loop-test.false
+returns-2 c = nowhere_all c.before.loop.invariant c.loop-test.false
 
 pub first-fallen-spec : {M : Type 1} → statement M
 first-fallen-spec =

@@ -1,4 +1,4 @@
--- `is_total_outside` meets its contract: what its calls give are the arguments of `totalOutside`, the sum by `total-outside`.
+-- `is_total_outside` meets its contract: what its calls give are the arguments of `total_outside`, the sum by `total-outside`.
 use mathlib.Core.Path.{◌∙◌}
 use borrow.Author.Rules.{rules}
 use Rattle.schedule_inspection.proofs.Stages.{total-outside}

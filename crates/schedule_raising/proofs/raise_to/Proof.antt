@@ -3,7 +3,7 @@ use Prim.Native.Nat.{◌-◌, ◌≤◌}
 use native.Mathlib.Omega.{arith}
 use Rattle.theory_lists.specs.Sum.{at}
 use Rattle.theory_method.specs.Filter.{held}
-use Rattle.schedule_raising.proofs.Laws.{Raising, Reading, raising-start, raising-asks, raising-level, raising-turn, raising-end}
+use Rattle.schedule_raising.proofs.Laws.{Raising, Reading, raising_start, raising_asks, raising_level, raising_turn, raising_end}
 use borrow.Author.Rules.{rules}
 use Rattle.schedule_raising.proofs.raise_to.Statement.{statement}
 use Rattle.schedule_raising.proofs.raise_to.Tie as tie
@@ -15,7 +15,7 @@ abbrev decreases-loop : tie.decreases-loop
 decreases-loop floors₀ ceilings rises n first total day₀ k₀ floors day k = k
 
 loop-holds : tie.Need-loop-init invariant-loop decreases-loop
-loop-holds c = (raising-start c.lack.ensures.0 (omega arith), omega (arith, c.before.before.requires.counts))
+loop-holds c = (raising_start c.lack.ensures.0 (omega arith), omega (arith, c.before.before.requires.counts))
 
 -- ---- the places of a turn: it begins, the day's floor, ceiling and rise are read
 
@@ -46,16 +46,16 @@ read c =
     }
 
 raise-day-requires : tie.Need-raise-day-requires invariant-loop decreases-loop
-raise-day-requires c κs = raising-asks (read c)
+raise-day-requires c κs = raising_asks (read c)
 
 level-of-requires : tie.Need-level-of-requires invariant-loop decreases-loop
-level-of-requires c κs = raising-level (read c.before) c.raise-day.ensures
+level-of-requires c κs = raising_level (read c.before) c.raise-day.ensures
 
 loop-again : tie.Need-loop-preserved invariant-loop decreases-loop
-loop-again c = (raising-turn (read c.before.before) c.before.raise-day.ensures c.level-of.ensures, omega (arith, (read c.before.before).more))
+loop-again c = (raising_turn (read c.before.before) c.before.raise-day.ensures c.level-of.ensures, omega (arith, (read c.before.before).more))
 
 returns : tie.Need-returns invariant-loop decreases-loop
-returns c = let h = c.before in raising-end (at-start h).args.first h.loop.invariant.0 h.loop.invariant.1 c.loop-test.false
+returns c = let h = c.before in raising_end (at-start h).args.first h.loop.invariant.0 h.loop.invariant.1 c.loop-test.false
 
 pub raise-to-spec : {M : Type 1} → statement M
 raise-to-spec =

@@ -2,10 +2,10 @@
 use mathlib.Core.Path.{◌≡◌, refl}
 use mir.Facts.{to_z-of_z}
 use native.Mathlib.Omega.{arith}
-use Rattle.schedule_writing.specs.Writing.{dayLevels}
-use Rattle.schedule_writing.specs.Stages.{dayChecked}
+use Rattle.schedule_writing.specs.Writing.{day_levels}
+use Rattle.schedule_writing.specs.Stages.{day_checked}
 use Rattle.schedule_writing.proofs.Levels.{Standing}
-use Rattle.schedule_writing.proofs.Stages.{DayTaken, day-asks, day-standing, day-length, day-unknown, day-refused, day-written}
+use Rattle.schedule_writing.proofs.Stages.{DayTaken, day_asks, day_standing, day-length, day_unknown, day-refused, day-written}
 use borrow.Author.Rules.{rules}
 use Rattle.schedule_writing.proofs.write_day.Statement.{statement}
 use Rattle.schedule_writing.proofs.write_day.Tie as tie
@@ -36,7 +36,7 @@ at-written c = c.before
 abbrev from-checked : tie.After-check-day → tie.Start
 from-checked c = at-start (at_room (at-known c.before))
 
-checked : (c : tie.After-check-day) → let a = (from-checked c).args in c.check-day.result ≡ dayChecked a.session a.day a.value
+checked : (c : tie.After-check-day) → let a = (from-checked c).args in c.check-day.result ≡ day_checked a.session a.day a.value
 checked c = rw (to_z-of_z (from-checked c).ranges.value) at c.check-day.ensures
 
 taken : (c : tie.Else3) → let k = at-checked c in let a = (from-checked k).args in DayTaken a.session a.day a.value k.check-day.result
@@ -44,14 +44,14 @@ taken c = let k = at-checked c in record { bounds = (from-checked k).pre; known 
 
 levels : (c : tie.After-write-through)
     → let a = (from-checked (at-checked (at-taken c.before))).args in
-    Standing (dayLevels a.session a.day a.value) a.session.days c.write-through.new.0
-levels c = day-standing (taken (at-taken c.before)) c.write-through.ensures.0
+    Standing (day_levels a.session a.day a.value) a.session.days c.write-through.new.0
+levels c = day_standing (taken (at-taken c.before)) c.write-through.ensures.0
 
 returns : tie.Need-returns
 returns c = day-length _ _ _ _ c.if1.true
 
 returns-2 : tie.Need-returns-2
-returns-2 c = day-unknown _ _ _ _ c.before.if1.false c.if2.true
+returns-2 c = day_unknown _ _ _ _ c.before.if1.false c.if2.true
 
 check-day-requires : tie.Need-check-day-requires
 check-day-requires c κs = let k = at-known c in (at-start (at_room k)).requires.present.ceiling _ k.if2.left
@@ -63,7 +63,7 @@ returns-3 c =
     day-refused _ _ _ _ (at_room d).if1.left d.if2.left (checked k) c.if3.true
 
 write-through-requires : tie.Need-write-through-requires
-write-through-requires c κs = day-asks (taken (at-taken c))
+write-through-requires c κs = day_asks (taken (at-taken c))
 
 decode-all-requires : tie.Need-decode-all-requires
 decode-all-requires c κs = (refl, search rules, search rules, λ k h. omega (arith, (levels (at-levels c)).small k h))

@@ -2,7 +2,7 @@
 -- What is set, carried and raised is said once, by records and laws of Levels.
 use mathlib.Core.Path.{◌≡◌}
 use Rattle.theory_lists.specs.Written.{written}
-use Rattle.schedule_writing.specs.Writing.{levelsThrough}
+use Rattle.schedule_writing.specs.Writing.{levels_through}
 use Rattle.schedule_writing.proofs.Levels.{LevelSet, LevelCarried, through-bounds, through-raised}
 use borrow.Author.Rules.{rules}
 use Rattle.schedule_writing.proofs.write_through.Statement.{statement}
@@ -38,7 +38,7 @@ level-carried c = record { before = level-set (at-ceiling c.before); stop = c.ca
 
 levels : (c : tie.After-raise-to)
     → let a = (at-start (at-floor (at-ceiling (at_carried c.before).before))).args in
-    c.raise-to.new.0 ≡ written (levelsThrough a.floors.now a.ceilings.now a.rises.now a.n a.first a.lowest a.day a.level) a.n a.floors.now
+    c.raise-to.new.0 ≡ written (levels_through a.floors.now a.ceilings.now a.rises.now a.n a.first a.lowest a.day a.level) a.n a.floors.now
 levels c = through-raised (level-carried (at_carried c.before)) c.raise-to.ensures
 
 carry-requires : tie.Need-carry-requires

@@ -2,10 +2,10 @@
 use mathlib.Core.Path.{◌≡◌, refl}
 use mir.Facts.{to_z-of_z}
 use native.Mathlib.Omega.{arith}
-use Rattle.schedule_writing.specs.Writing.{totalLevels}
-use Rattle.schedule_writing.specs.Stages.{totalChecked}
+use Rattle.schedule_writing.specs.Writing.{total_levels}
+use Rattle.schedule_writing.specs.Stages.{total_checked}
 use Rattle.schedule_writing.proofs.Levels.{Standing}
-use Rattle.schedule_writing.proofs.Stages.{TotalTaken, total-asks, total-standing, total-length, total-refused, total-written}
+use Rattle.schedule_writing.proofs.Stages.{TotalTaken, total_asks, total_standing, total-length, total-refused, total-written}
 use borrow.Author.Rules.{rules}
 use Rattle.schedule_writing.proofs.write_total.Statement.{statement}
 use Rattle.schedule_writing.proofs.write_total.Tie as tie
@@ -30,7 +30,7 @@ at-raised c = c.before.before
 abbrev at-written : tie.After-list → tie.After-decode-all
 at-written c = c.before
 
-checked : (c : tie.After-check-total) → let a = (at-start (at_room c)).args in c.check-total.result ≡ totalChecked a.session a.value
+checked : (c : tie.After-check-total) → let a = (at-start (at_room c)).args in c.check-total.result ≡ total_checked a.session a.value
 checked c = rw (to_z-of_z (at-start (at_room c)).ranges.value) at c.check-total.ensures
 
 taken : (c : tie.Else2) → let k = at-checked c in let a = (at-start (at_room k)).args in TotalTaken a.session a.value k.check-total.result
@@ -38,8 +38,8 @@ taken c = let k = at-checked c in record { bounds = (at-start (at_room k)).requi
 
 raised : (c : tie.After-raise-to)
     → let a = (at-start (at_room (at-checked (at-taken c.before)))).args in
-    Standing (totalLevels a.session a.value) a.session.days c.raise-to.new.0
-raised c = total-standing (taken (at-taken c.before)) c.raise-to.ensures
+    Standing (total_levels a.session a.value) a.session.days c.raise-to.new.0
+raised c = total_standing (taken (at-taken c.before)) c.raise-to.ensures
 
 returns : tie.Need-returns
 returns c = total-length _ _ _ c.if1.true
@@ -51,7 +51,7 @@ returns-2 : tie.Need-returns-2
 returns-2 c = let k = c.before.before in total-refused _ _ _ (at_room k).if1.false (checked k) c.if2.true
 
 raise-to-requires : tie.Need-raise-to-requires
-raise-to-requires c κs = total-asks (taken (at-taken c))
+raise-to-requires c κs = total_asks (taken (at-taken c))
 
 decode-all-requires : tie.Need-decode-all-requires
 decode-all-requires c κs = (refl, search rules, search rules, λ k h. omega (arith, (raised (at-raised c)).small k h))

@@ -3,7 +3,7 @@ use mathlib.Core.Path.{◌∙◌}
 use mir.Syntax.{w32}
 use borrow.Author.Rules.{rules, sfits_of}
 use Rattle.session.specs.declared.Numbers.{Numbers}
-use Rattle.session.proofs.Stages.{Called, Inside, point-refused, rise-refused, lowest-refused, highest-refused, numbers-coded}
+use Rattle.session.proofs.Stages.{Called, Inside, point_refused, rise-refused, lowest-refused, highest-refused, numbers-coded}
 use Rattle.session.proofs.code_numbers.Statement.{statement}
 use Rattle.session.proofs.code_numbers.Tie as tie
 
@@ -39,7 +39,7 @@ highest-called c = record { fits = sfits_of {w = w32} c.before.struct-told2.give
 -- ---- the needs
 
 returns : tie.Need-returns
-returns c = c.not-coded.ensures ∙ point-refused _ _ c.before.if1.true
+returns c = c.not-coded.ensures ∙ point_refused _ _ c.before.if1.true
 
 returns-2 : tie.Need-returns-2
 returns-2 c = c.not-coded2.ensures ∙ rise-refused _ _ c.before.before.if1.false c.before.if2.true

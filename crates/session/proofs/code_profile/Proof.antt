@@ -2,12 +2,12 @@
 use mathlib.Core.Path.{◌≡◌, sym, ◌∙◌}
 use borrow.Author.Rules.{rules}
 use native.Mathlib.Omega.{arith}
-use Rattle.limits.specs.Limits.{lowestPoint, highestPoint, lowestRise, highestRise}
+use Rattle.limits.specs.Limits.{lowest_point, highest_point, lowest_rise, highest_rise}
 use Rattle.session.specs.Profile.{Profile}
 use Rattle.session.specs.Opening.{profile}
-use Rattle.session.specs.Stages.{lengthsOf}
+use Rattle.session.specs.Stages.{lengths_of}
 use Rattle.session.proofs.Entered.{Sized}
-use Rattle.session.proofs.Checks.{list-kept, lengths-refused, list-coded, lists-told, sizes}
+use Rattle.session.proofs.Checks.{list-kept, lengths_refused, list-coded, lists_told, sizes}
 use Rattle.session.proofs.code_profile.Statement.{statement}
 use Rattle.session.proofs.code_profile.Tie as tie
 
@@ -29,7 +29,7 @@ at-rises c = c.before.before
 abbrev handed : tie.After-length-refusal → Profile
 handed c = let a = (at-start c).args in profile a.numbers a.floors.now a.ceilings.now a.rises.now
 
-right : (c : tie.Else1) → lengthsOf (handed c.before) ≡ 0
+right : (c : tie.Else1) → lengths_of (handed c.before) ≡ 0
 right c = sym c.before.length-refusal.ensures ∙ c.if1.false
 
 sized : (c : tie.Else1) → Sized (handed c.before)
@@ -43,10 +43,10 @@ returns c =
     let a = (at-start l).args in
     let e = l.length-refusal.ensures in
     let t = c.before.if1.true in
-    let floors = list-kept (handed l) lowestPoint highestPoint a.floors.now a.low.now e t in
-    let ceilings = list-kept (handed l) lowestPoint highestPoint a.ceilings.now a.high.now e t in
-    let rises = list-kept (handed l) lowestRise highestRise a.rises.now a.steps.now e t in
-    (c.not-coded.ensures ∙ lengths-refused (handed l) _ e t, (floors, (ceilings, rises)))
+    let floors = list-kept (handed l) lowest_point highest_point a.floors.now a.low.now e t in
+    let ceilings = list-kept (handed l) lowest_point highest_point a.ceilings.now a.high.now e t in
+    let rises = list-kept (handed l) lowest_rise highest_rise a.rises.now a.steps.now e t in
+    (c.not-coded.ensures ∙ lengths_refused (handed l) _ e t, (floors, (ceilings, rises)))
 
 code-all-requires : tie.Need-code-all-requires
 code-all-requires c κs = let w = sized c.before in (search rules, omega (arith, w.floors, w.few))
@@ -65,10 +65,10 @@ returns-2 c =
     let d = at-floors f in
     let p = handed d.before in
     let a = (at-start d.before).args in
-    let floors = list-coded p (right d) lowestPoint highestPoint p.floors a.low.now f.code-all.ensures.1.0 in
-    let ceilings = list-coded p (right d) lowestPoint highestPoint p.ceilings a.high.now h.code-all2.ensures.1.0 in
-    let rises = list-coded p (right d) lowestRise highestRise p.rises a.steps.now r.code-all3.ensures.1.0 in
-    (lists-told p (right d) c.code-numbers.ensures (cc (f.code-all.ensures.0, h.code-all2.ensures.0)) r.code-all3.ensures.0, (floors, (ceilings, rises)))
+    let floors = list-coded p (right d) lowest_point highest_point p.floors a.low.now f.code-all.ensures.1.0 in
+    let ceilings = list-coded p (right d) lowest_point highest_point p.ceilings a.high.now h.code-all2.ensures.1.0 in
+    let rises = list-coded p (right d) lowest_rise highest_rise p.rises a.steps.now r.code-all3.ensures.1.0 in
+    (lists_told p (right d) c.code-numbers.ensures (cc (f.code-all.ensures.0, h.code-all2.ensures.0)) r.code-all3.ensures.0, (floors, (ceilings, rises)))
 
 pub code-profile-spec : {M : Type 1} → statement M
 code-profile-spec =

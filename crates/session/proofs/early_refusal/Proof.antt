@@ -2,7 +2,7 @@
 use borrow.Author.Rules.{rules}
 use Rattle.session.specs.Profile.{Profile}
 use Rattle.session.specs.Opening.{profile}
-use Rattle.session.proofs.Checks.{CodedArrays, early-refused, early-range, in_bounds}
+use Rattle.session.proofs.Checks.{CodedArrays, early_refused, early_range, in_bounds}
 use Rattle.session.proofs.early_refusal.Statement.{statement}
 use Rattle.session.proofs.early_refusal.Tie as tie
 
@@ -30,7 +30,7 @@ at-coded c = c.before.before
 -- ---- the needs
 
 returns : tie.Need-returns
-returns c = early-refused (coded c.before.before) c.if1.true
+returns c = early_refused (coded c.before.before) c.if1.true
 
 is-crossed-requires : tie.Need-is-crossed-requires
 is-crossed-requires c κs = let e = c.before.before in (in_bounds (coded (at-coded e)) e.if1.false).most
@@ -39,7 +39,7 @@ returns-2 : tie.Need-returns-2
 returns-2 c =
     let k = c.before in
     let e = at-passed k in
-    early-range (coded (at-coded e)) e.if1.left k.is-crossed.ensures c.range-refusal.ensures
+    early_range (coded (at-coded e)) e.if1.left k.is-crossed.ensures c.range-refusal.ensures
 
 pub early-refusal-spec : {M : Type 1} → statement M
 early-refusal-spec = tie.close (tie.spec (λ c. search rules) returns is-crossed-requires (λ c. search rules) returns-2)

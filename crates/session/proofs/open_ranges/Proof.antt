@@ -1,6 +1,6 @@
 -- `open_ranges` meets its contract: a law of Stages for each return.
 use Rattle.theory_method.specs.Filter.{Tight}
-use Rattle.session.proofs.Stages.{ranges-refused, first-in-bounds, ranges-found, ranges-none}
+use Rattle.session.proofs.Stages.{ranges-refused, first_in_bounds, ranges-found, ranges-none}
 use borrow.Author.Rules.{rules}
 use Rattle.session.proofs.open_ranges.Statement.{statement}
 use Rattle.session.proofs.open_ranges.Tie as tie
@@ -19,7 +19,7 @@ gave c =
     record { found = t.result.found; floors = t.new.0; ceilings = t.new.1.0; lowest = t.result.lowest; highest = t.result.highest }
 
 returns : tie.Need-returns
-returns c = let q = c.before.before in ranges-refused _ _ _ _ (at-start q).requires.1 q.range-refusal.ensures c.before.if1.true c.no-ranges.ensures
+returns c = let q = c.before.before in ranges-refused _ _ _ _ (at-start q).requires.1 q.range-refusal.ensures c.before.if1.true c.no_ranges_lem.ensures
 
 tighten-requires : tie.Need-tighten-requires
 tighten-requires c κs =
@@ -27,7 +27,7 @@ tighten-requires c κs =
     let q = e.before in
     let s = at-start q in
     let a = s.args in
-    first-in-bounds a.floors.now a.ceilings.now a.rises.now a.numbers s.pre.1 q.range-refusal.ensures e.if1.false s.pre.0
+    first_in_bounds a.floors.now a.ceilings.now a.rises.now a.numbers s.pre.1 q.range-refusal.ensures e.if1.false s.pre.0
 
 returns-2 : tie.Need-returns-2
 returns-2 c =

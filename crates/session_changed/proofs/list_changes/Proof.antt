@@ -1,10 +1,10 @@
--- `list_changes` meets its contract: no loss is more than there are levels (`losses-most`), and the days that are read are those that differ (`listing` of Laws).
+-- `list_changes` meets its contract: no loss is more than there are levels (`losses_most`), and the days that are read are those that differ (`listing` of Laws).
 use mathlib.Core.Path.{refl}
 use Prim.Native.Nat.{◌≤◌}
 use native.Mathlib.Omega.{arith}
 use Rattle.theory_lists.specs.Sum.{at}
-use Rattle.session_order.proofs.Losers.{settled-few}
-use Rattle.session_changed.proofs.Laws.{losses-most, listing}
+use Rattle.session_order.proofs.Losers.{settled_few}
+use Rattle.session_changed.proofs.Laws.{losses_most, listing}
 use borrow.Author.Rules.{rules}
 use Rattle.session_changed.proofs.list_changes.Statement.{statement}
 use Rattle.session_changed.proofs.list_changes.Tie as tie
@@ -27,13 +27,13 @@ list-losers-requires : tie.Need-list-losers-requires
 list-losers-requires c κs =
     let p = at-lost c in
     let h = (at-start p).pre in
-    (h.0, losses-most h.2 _ (search rules) p.write-losses.ensures, refl, refl, omega (arith, h.0))
+    (h.0, losses_most h.2 _ (search rules) p.write-losses.ensures, refl, refl, omega (arith, h.0))
 
 -- no more days are listed than there are
 few : (c : tie.After-list-losers) → c.list-losers.result ≤ (at-start (at-lost c.before)).args.n
 few c =
     let p = at-lost c.before in
-    omega (arith, c.list-losers.ensures.0, settled-few (at p.write-losses.last.1.1.1.1.1.0) (at-start p).args.n)
+    omega (arith, c.list-losers.ensures.0, settled_few (at p.write-losses.last.1.1.1.1.1.0) (at-start p).args.n)
 
 read-days-requires : tie.Need-read-days-requires
 read-days-requires c κs =

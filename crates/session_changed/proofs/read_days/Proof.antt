@@ -1,13 +1,13 @@
 -- `read_days` meets its contract: the first k days are read (`Filled`). The measure is the days left.
 use Prim.Native.Nat.{◌-◌, ◌*◌}
 use Rattle.theory_lists.specs.Filled.{Filled, filled_none, filled_more, filled-all}
-use Rattle.base_little_endian.specs.Fields.{u16At}
+use Rattle.base_little_endian.specs.Fields.{u16_at}
 use borrow.Author.Rules.{rules}
 use Rattle.session_changed.proofs.read_days.Statement.{statement}
 use Rattle.session_changed.proofs.read_days.Tie as tie
 
 abbrev invariant-loop : tie.invariant-loop
-invariant-loop cells count days₀ k₀ days k = Filled (λ j. u16At cells (j * 2)) count k days₀ days
+invariant-loop cells count days₀ k₀ days k = Filled (λ j. u16_at cells (j * 2)) count k days₀ days
 
 abbrev decreases-loop : tie.decreases-loop
 decreases-loop cells count days₀ k₀ days k = count - k

@@ -2,7 +2,7 @@
 use Prim.Native.Nat.{◌-◌}
 use Rattle.theory_lists.specs.Filled.{Filled, filled_none, filled_more, filled-all}
 use Rattle.session_changed.specs.Changes.{lost}
-use Rattle.session_changed.proofs.Laws.{widths-lost}
+use Rattle.session_changed.proofs.Laws.{widths_lost}
 use borrow.Author.Rules.{rules}
 use Rattle.session_changed.proofs.write_losses.Statement.{statement}
 use Rattle.session_changed.proofs.write_losses.Tie as tie
@@ -29,7 +29,7 @@ loop-again c =
     let after = c.before in
     let width = at_width after in
     let t = at_turn width in
-    filled_more t.before.loop.inv t.loop-test.taken (widths-lost _ _ _ _ width.less.ensures after.less2.ensures c.less3.ensures)
+    filled_more t.before.loop.inv t.loop-test.taken (widths_lost _ _ _ _ width.less.ensures after.less2.ensures c.less3.ensures)
 
 returns : tie.Need-returns invariant-loop decreases-loop
 returns c = filled-all c.before.loop.invariant c.loop-test.false

@@ -3,7 +3,7 @@ use mathlib.Core.Path.{◌≡◌, sym, ◌∙◌}
 use lib.ListN.{length}
 use native.Mathlib.Omega.{arith}
 use borrow.Author.Rules.{rules}
-use Rattle.session_cutting.specs.Cutting.{malformed, clipped, retightened, tightenedTo, afterCut}
+use Rattle.session_cutting.specs.Cutting.{malformed, clipped, retightened, tightened_to, after_cut}
 use Rattle.session_cutting.proofs.Stages.{checked-refusal, checked-clips, cut-malformed, cut_short, cut-spent, cut-taken, list_left}
 use Rattle.session_cutting.proofs.cut.Statement.{statement}
 use Rattle.session_cutting.proofs.cut.Tie as tie
@@ -36,7 +36,7 @@ formed c = sym (refusal (at-checked c.before)) ∙ c.if1.false
 
 taken : (c : tie.Else3)
     → let a = (at-start (at-checked (at-formed (at-roomy c)).before)).args in
-    tightenedTo a.session (retightened a.session (clipped a.session.present a.cut)) ≡ afterCut a.session a.cut (length a.changed.now)
+    tightened_to a.session (retightened a.session (clipped a.session.present a.cut)) ≡ after_cut a.session a.cut (length a.changed.now)
 taken c = let r = at-roomy c in cut-taken _ _ _ (formed (at-formed r)) r.if2.left c.if3.false
 
 returns : tie.Need-returns

@@ -2,7 +2,7 @@
 use mathlib.Core.Path.{refl, ◌∙◌}
 use native.Mathlib.Omega.{arith}
 use borrow.Author.Rules.{rules}
-use Rattle.session_cutting.proofs.Stages.{numbered-unknown, numbered-known, list_left}
+use Rattle.session_cutting.proofs.Stages.{numbered_unknown, numbered-known, list_left}
 use Rattle.session_cutting.proofs.cut_asked.Statement.{statement}
 use Rattle.session_cutting.proofs.cut_asked.Tie as tie
 
@@ -17,7 +17,7 @@ at_cut c = c.before.before
 returns : tie.Need-returns
 returns c =
     let e = c.refuse.ensures in
-    (e ∙ numbered-unknown _ _ refl c.before.enum_told.given.1, list_left _ _ _ e (λ z. absurd (omega arith)))
+    (e ∙ numbered_unknown _ _ refl c.before.enum_told.given.1, list_left _ _ _ e (λ z. absurd (omega arith)))
 
 returns-2 : tie.Need-returns-2
 returns-2 c =

@@ -4,7 +4,7 @@ use lib.ListN.{length}
 use borrow.Author.Rules.{rules}
 use mir.Facts.{to_z-of_z}
 use Rattle.session_cuts.specs.Numbered.{numbered}
-use Rattle.session_cutting.specs.Cutting.{afterNumbered}
+use Rattle.session_cutting.specs.Cutting.{after_numbered}
 use Rattle.session_cutting.proofs.cut_numbered.Statement.{statement}
 use Rattle.session_cutting.proofs.cut_numbered.Tie as tie
 
@@ -28,7 +28,7 @@ returns c =
     let t = at_told k in
     let a = (at-start t).args in
     let e = k.cut-asked.ensures in
-    (e.0 ∙ ap (λ u. afterNumbered a.session u (length a.changed.now)) (tells t), e.1)
+    (e.0 ∙ ap (λ u. after_numbered a.session u (length a.changed.now)) (tells t), e.1)
 
 pub cut-numbered-spec : {M : Type 1} → statement M
 cut-numbered-spec = tie.close (tie.spec (λ c. search rules) (λ c. search rules) (λ c. search rules) returns)

@@ -2,7 +2,7 @@
 use mathlib.Core.Path.{◌≡◌, ap, ◌∙◌}
 use borrow.Author.Rules.{rules}
 use Rattle.theory_method.specs.Filter.{Tight, tightened}
-use Rattle.session.specs.Showing.{boxOf}
+use Rattle.session.specs.Showing.{box_of}
 use Rattle.session.specs.declared.Ranges.{Ranges}
 use Rattle.session_cutting.specs.Cutting.{clipped}
 use Rattle.session_cutting.proofs.Stages.{clips-bounds}
@@ -36,7 +36,7 @@ returns : tie.Need-returns
 returns c =
     let k = at-clipped c.before in
     let a = (at-start k).args in
-    let tight : Ranges → Tight = λ r. tightened (boxOf a.rises.now a.numbers.days a.numbers.first r) in
+    let tight : Ranges → Tight = λ r. tightened (box_of a.rises.now a.numbers.days a.numbers.first r) in
     ◌∙◌ {b = tight (clips k)} c.tighten.ensures (ap tight (is-clipped k))
 
 pub cut-ranges-spec : {M : Type 1} → statement M

@@ -8,8 +8,8 @@ use Rattle.session.specs.declared.Session.{Session}
 use Rattle.session_cuts.specs.declared.Cut.{Cut}
 use Rattle.session_changed.specs.Changes.{Narrowed}
 use Rattle.session_cutting.specs.Cutting.{clipped, retightened}
-use Rattle.session_cutting.proofs.Laws.{tightened-narrows}
-use Rattle.session_cutting.proofs.Stages.{again-found, again-none, list_left, list_written}
+use Rattle.session_cutting.proofs.Laws.{tightened_narrows}
+use Rattle.session_cutting.proofs.Stages.{again-found, again-none, list_left, list_written_lem}
 use Rattle.session_cutting.proofs.tighten_again.Statement.{statement}
 use Rattle.session_cutting.proofs.tighten_again.Tie as tie
 
@@ -64,7 +64,7 @@ returns-2 c = (
   let f = at-found (at_listed c) in
       let k = at_cut f.before in
       c.accept.ensures ∙ again-found (the-session k) (the-cut k) (is-tight k) (not-false _ f.if1.left) (at_listed c).list-changes.ensures.0,
-  (at_listed c).list-changes.ensures.1 ∙ list_written _ _ _ c.accept.ensures,
+  (at_listed c).list-changes.ensures.1 ∙ list_written_lem _ _ _ c.accept.ensures,
 )
 
 -- the ranges before and the tightened ones
@@ -74,7 +74,7 @@ narrows : (c : tie.Else1)
 narrows c =
     let k = at_cut c.before in
     let p = (from_cut k).pre in
-    tightened-narrows (the-session k) (the-cut k) p.0 p.1 (is-tight k) (not-false _ c.if1.false)
+    tightened_narrows (the-session k) (the-cut k) p.0 p.1 (is-tight k) (not-false _ c.if1.false)
 
 list-changes-requires : tie.Need-list-changes-requires
 list-changes-requires c κs =

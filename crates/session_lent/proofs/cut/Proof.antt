@@ -48,7 +48,7 @@ use Rattle.session.proofs.Session.TheLaws as S'
 use Rattle.session_cuts.specs.declared.Cut.{Cut}
 use Rattle.session_cuts.specs.contracts.Cut as C
 use Rattle.session_cuts.proofs.Cut.TheLaws as C'
-use Rattle.session_cutting.specs.Cutting.{afterCut, listAfter}
+use Rattle.session_cutting.specs.Cutting.{after_cut, list_after}
 use Rattle.session_cutting.specs.declared.AfterCut.{AfterCut}
 use Rattle.session_cutting.specs.declared.CutAnswer.{CutAnswer}
 use Rattle.session_cutting.specs.contracts.AfterCut as O
@@ -73,11 +73,11 @@ abbrev nval : CutAnswer → Val
 nval a = LL.val N.the_type N'.the_laws a
 
 -- what the callee's result shows of its fields
-session-is : (r : AfterCut) (u : Val) → Is O.the_row r (u ∷ []) → Is S.the_row r.session (sval r.session ∷ [])
-session-is r u g = (LL.owed O.the_type O'.the_laws r _ g).1.0
+session_is : (r : AfterCut) (u : Val) → Is O.the_row r (u ∷ []) → Is S.the_row r.session (sval r.session ∷ [])
+session_is r u g = (LL.owed O.the_type O'.the_laws r _ g).1.0
 
-answer-is : (r : AfterCut) (u : Val) → Is O.the_row r (u ∷ []) → Is N.the_row r.answer (nval r.answer ∷ [])
-answer-is r u g = (LL.owed O.the_type O'.the_laws r _ g).0
+answer_is : (r : AfterCut) (u : Val) → Is O.the_row r (u ∷ []) → Is N.the_row r.answer (nval r.answer ∷ [])
+answer_is r u g = (LL.owed O.the_type O'.the_laws r _ g).0
 
 -- the contract that the proof cites
 abbrev Callee : {M : Type 1} {𝓤 : Ura M} (𝓛 : Logic 𝓤) (mem : Memory → SProp 𝓤) (run : Routine → Fun 𝓤) → Contract 𝓤
@@ -120,14 +120,14 @@ module _ {M : Type 1} {𝓤 : Ura M} (𝓛 : Logic 𝓤) (at_mem : Memory → SP
 
   -- what the cut gives
   abbrev after : AfterCut
-  after = afterCut h c (length ys)
+  after = after_cut h c (length ys)
 
-  exits : (r : AfterCut) (zs : List ℕ) → r ≡ after → zs ≡ listAfter h r ys → length zs ≡ length ys → Is N.the_row r.answer (nval r.answer ∷ [])
+  exits : (r : AfterCut) (zs : List ℕ) → r ≡ after → zs ≡ list_after h r ys → length zs ≡ length ys → Is N.the_row r.answer (nval r.answer ∷ [])
       → ent 𝓤 (⋆ 𝓛 (‵ (fobs γ ((S.the_row).coded.code r.session)) ∷ ‵ (fbor κ (Body (mem S.the_row) b o γ)) ∷ ‵ (flft κ q) ∷ (‵ (flft κ' q') ⊛ ‵ ftrue) ∷ ‵ (finally u16 γ' zs) ∷ [])) (Post (nval r.answer))
   exits r zs er el l gn =
       qed 𝓛 (‵ (fobs γ ((S.the_row).coded.code r.session)) ∷ ‵ (fbor κ (Body (mem S.the_row) b o γ)) ∷ ‵ (flft κ q) ∷ (‵ (flft κ' q') ⊛ ‵ ftrue) ∷ ‵ (finally u16 γ' zs) ∷ []) ∵
       suffices ! _ (ends_at 𝓛 self.ended stayed (self.clauses 𝓛 at_mem run) (((κ, (κ', tt)), (q, (q', tt)), tt, x, at), tt) (nval r.answer) r.answer (r.session, (tt, (zs, tt))) (tt, (tt, (l, tt)))) $
-      says3 ! (ap (λ (s : AfterCut). s.session) er) (el ∙ ap (λ (s : AfterCut). listAfter h s ys) er) (ap (λ (s : AfterCut). s.answer) er) $ move ! (2 ∷ 3 ∷ []) $ join ! $
+      says3 ! (ap (λ (s : AfterCut). s.session) er) (el ∙ ap (λ (s : AfterCut). list_after h s ys) er) (ap (λ (s : AfterCut). s.answer) er) $ move ! (2 ∷ 3 ∷ []) $ join ! $
       frame ! $ feq_i ! (List Val) (vptr b o ∷ []) (vptr b o ∷ []) refl $ fjoin3 ! $ nothing ! $ move ! (2 ∷ 0 ∷ []) $ fjoin ! $ owned ! C.the_row (Is C.the_row) (EL.makes C.the_type C'.the_plain 𝓛) c _ gc $ fjoin ! $
       move ! (1 ∷ 0 ∷ []) $ fjoin ! $
       owned ! N.the_row (Is N.the_row) (LL.makes N.the_type N'.the_plain 𝓛) r.answer _ gn $ move ! (1 ∷ 0 ∷ []) $ done !
@@ -154,21 +154,21 @@ module _ {M : Type 1} {𝓤 : Ura M} (𝓛 : Logic 𝓤) (at_mem : Memory → SP
         use1 𝓛 (later (some (λ (r : AfterCut). ((‵ (flft κ' q') ⊛ ‵ ftrue) ⊛ ‵ ((O.the_row).own_val r (u ∷ []))) ⊛ raw (ensured 𝓛 callee.ended (callee.clauses 𝓛 at_mem run) (κ', tt) (h, (c, (y, tt))) tt r)))) (id⊢ 𝓤 _) $
         await ! tt $ pick ! (λ r.
         -- what the callee ensures, at some last list
-        split ! $ move ! (1 ∷ []) $ use1 𝓛 (some (λ (zs : Unit {0} × (Unit {0} × (List ℕ × Unit {0}))). ‵ (lasts callee.ended (κ', tt) (h, (c, (y, tt))) zs) ⊛ raw (fact 𝓤 (r ≡ after)) ⊛ raw (fact 𝓤 (zs.1.1.0 ≡ listAfter h r ys))))
+        split ! $ move ! (1 ∷ []) $ use1 𝓛 (some (λ (zs : Unit {0} × (Unit {0} × (List ℕ × Unit {0}))). ‵ (lasts callee.ended (κ', tt) (h, (c, (y, tt))) zs) ⊛ raw (fact 𝓤 (r ≡ after)) ⊛ raw (fact 𝓤 (zs.1.1.0 ≡ list_after h r ys))))
         (id⊢ 𝓤 _) $ pick ! (λ zs.
-        split3 ! $ move ! (1 ∷ 2 ∷ []) $ heard ! (r ≡ after) (λ er. heard ! (zs.1.1.0 ≡ listAfter h r ys) (λ el. fsplit ! $ drop ! $ fsplit ! $ drop ! $ fsplit ! $ fsplit ! $ move ! (1 ∷ []) $ feq_l ! (λ l.
+        split3 ! $ move ! (1 ∷ 2 ∷ []) $ heard ! (r ≡ after) (λ er. heard ! (zs.1.1.0 ≡ list_after h r ys) (λ el. fsplit ! $ drop ! $ fsplit ! $ drop ! $ fsplit ! $ fsplit ! $ move ! (1 ∷ []) $ feq_l ! (λ l.
         move ! (2 ∷ []) $ split ! $ move ! (1 ∷ []) $ peeks ! O.the_row (Is O.the_row) (shows 𝓛 O.the_row) r (u ∷ []) (λ is. drop ! $ move ! (3 ∷ 4 ∷ 5 ∷ 6 ∷ 7 ∷ []) $
         -- [the struct's cell; what a Session owns; the open borrow; obs; auth; the list's token; its last value; true; _7; …; _6; …; _5; …; _4; …; _3; …; _2; …; _1; …; room for _0; …]
         land ! (from ! (stop !)) (init ! 14 refl ((LL.lawful O.the_type O'.the_laws 𝓛).typed r _ is).0) $ rewrite ! 14 (λ (w : Val). ‵ (fat full_share O'.mir l₄ 0 w)) (ap only (LL.tells O.the_type O'.the_laws r _ is)) refl $
         assigns ! (of_opd ! (load ! (from ! (fld ! refl (stop !))) (look_in ! 14 (sub ! 1 refl (whole !))))) (from ! (hop ! (look ! 20 refl) (stop !)))
-        (store_raw ! 0 refl ((LL.lawful S.the_type S'.the_laws 𝓛).typed r.session _ (session-is r u is)).0) $
-        assigns ! (of_opd ! (load ! (from ! (fld ! refl (stop !))) (look_in ! 14 (sub ! 0 refl (whole !))))) (from ! (stop !)) (init ! 22 refl ((LL.lawful N.the_type N'.the_laws 𝓛).typed r.answer _ (answer-is r u is)).0) $
-        move ! (1 ∷ []) $ drop ! $ owned ! S.the_row (Is S.the_row) (LL.makes S.the_type S'.the_plain 𝓛) r.session _ (session-is r u is) $ move ! (1 ∷ 0 ∷ []) $ closes ! tt S.the_row r.session (sval r.session ∷ []) b o $
+        (store_raw ! 0 refl ((LL.lawful S.the_type S'.the_laws 𝓛).typed r.session _ (session_is r u is)).0) $
+        assigns ! (of_opd ! (load ! (from ! (fld ! refl (stop !))) (look_in ! 14 (sub ! 0 refl (whole !))))) (from ! (stop !)) (init ! 22 refl ((LL.lawful N.the_type N'.the_laws 𝓛).typed r.answer _ (answer_is r u is)).0) $
+        move ! (1 ∷ []) $ drop ! $ owned ! S.the_row (Is S.the_row) (LL.makes S.the_type S'.the_plain 𝓛) r.session _ (session_is r u is) $ move ! (1 ∷ 0 ∷ []) $ closes ! tt S.the_row r.session (sval r.session ∷ []) b o $
         -- [obs; the borrow; its token; the list's token; its last value; true; _7; …; _6; …; _5; …; _4; …; _3; …; _2; …; _1; …; _0; …]
         returns ! (look ! 20 refl) $ forget ! 6 refl $ forget ! 8 refl $ forget ! 10 refl $ forget ! 12 refl $ forget ! 14 refl $ forget ! 16 refl $ forget ! 18 refl $ forget ! 20 refl $
         move ! (20 ∷ 21 ∷ []) $ free1 ! $ move ! (18 ∷ 19 ∷ []) $ free1 ! $ move ! (16 ∷ 17 ∷ []) $ free1 ! $ move ! (14 ∷ 15 ∷ []) $ free1 ! $ move ! (12 ∷ 13 ∷ []) $ free1 ! $ move ! (10 ∷ 11 ∷ []) $ free1 ! $ move ! (8 ∷ 9 ∷ []) $
         free1 ! $ move ! (6 ∷ 7 ∷ []) $ free1 ! $ free0 ! $
-        keep ! (0 ∷ 1 ∷ 2 ∷ 3 ∷ 4 ∷ []) $ by ! (exits r zs.1.1.0 er el l (answer-is r u is)))))))))))))))))))
+        keep ! (0 ∷ 1 ∷ 2 ∷ 3 ∷ 4 ∷ []) $ by ! (exits r zs.1.1.0 er el l (answer_is r u is)))))))))))))))))))
 
 module _ {M : Type 1} {𝓤 : Ura M} (𝓛 : Logic 𝓤) (at_mem : Memory → SProp 𝓤) (run : Routine → Fun 𝓤) where
   open 𝓛 use {H}

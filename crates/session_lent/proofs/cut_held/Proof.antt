@@ -50,7 +50,7 @@ use Rattle.session.proofs.Session.TheLaws as S'
 use Rattle.session_cuts.specs.declared.Cut.{Cut}
 use Rattle.session_cuts.specs.contracts.Cut as C
 use Rattle.session_cuts.proofs.Cut.TheLaws as C'
-use Rattle.session_cutting.specs.Cutting.{afterCut, listAfter}
+use Rattle.session_cutting.specs.Cutting.{after_cut, list_after}
 use Rattle.session_cutting.specs.declared.AfterCut.{AfterCut}
 use Rattle.session_cutting.specs.declared.CutAnswer.{CutAnswer}
 use Rattle.session_cutting.specs.contracts.AfterCut as O
@@ -78,8 +78,8 @@ oval r = LL.val O.the_type O'.the_laws r
 abbrev made : CutAnswer → Session → AfterCut
 made r z = record { answer = r; session = z }
 
-made-is : (r : CutAnswer) (u : Val) (z : Session) → Is N.the_row r (u ∷ []) → Is S.the_row z (sval z ∷ []) → Is O.the_row (made r z) (oval (made r z) ∷ [])
-made-is r u z g gz = LL.owes O.the_type O'.the_laws (made r z) (LL.owes N.the_type N'.the_laws r (LL.owed N.the_type N'.the_laws r _ g), (gz, tt))
+made_is : (r : CutAnswer) (u : Val) (z : Session) → Is N.the_row r (u ∷ []) → Is S.the_row z (sval z ∷ []) → Is O.the_row (made r z) (oval (made r z) ∷ [])
+made_is r u z g gz = LL.owes O.the_type O'.the_laws (made r z) (LL.owes N.the_type N'.the_laws r (LL.owed N.the_type N'.the_laws r _ g), (gz, tt))
 
 -- the contract that the proof cites
 abbrev Callee : {M : Type 1} {𝓤 : Ura M} (𝓛 : Logic 𝓤) (mem : Memory → SProp 𝓤) (run : Routine → Fun 𝓤) → Contract 𝓤
@@ -141,17 +141,17 @@ module _ {M : Type 1} {𝓤 : Ura M} (𝓛 : Logic 𝓤) (at_mem : Memory → SP
 
   -- what the cut gives, and that the result is that
   abbrev after : AfterCut
-  after = afterCut h c (length ys)
+  after = after_cut h c (length ys)
 
   same : (r : CutAnswer) (z : Session) → z ≡ after.session → r ≡ after.answer → made r z ≡ after
   same r z es er i = record { answer = er i; session = es i }
 
-  exits : (r : CutAnswer) (z : Session) (ws : List ℕ) → z ≡ after.session → ws ≡ listAfter h after ys → r ≡ after.answer → length ws ≡ length ys → Is O.the_row (made r z) (oval (made r z) ∷ [])
+  exits : (r : CutAnswer) (z : Session) (ws : List ℕ) → z ≡ after.session → ws ≡ list_after h after ys → r ≡ after.answer → length ws ≡ length ys → Is O.the_row (made r z) (oval (made r z) ∷ [])
       → ent 𝓤 (⋆ 𝓛 ((‵ (flft κ q) ⊛ ‵ ftrue) ∷ ‵ (finally u16 γ' ws) ∷ [])) (Post (oval (made r z)))
   exits r z ws es el er l g =
       qed 𝓛 ((‵ (flft κ q) ⊛ ‵ ftrue) ∷ ‵ (finally u16 γ' ws) ∷ []) ∵ suffices ! _
       (ends_at 𝓛 self.ended stayed (self.clauses 𝓛 at_mem run) (((κ, tt), (q, tt), tt, x, at), tt) (oval (made r z)) (made r z) (tt, (tt, (ws, tt))) (tt, (tt, (l, tt)))) $
-      says2 ! (same r z es er) (el ∙ ap (λ (s : AfterCut). listAfter h s ys) (sym (same r z es er))) $ frame ! $ nothing ! $ move ! (1 ∷ 0 ∷ []) $ fjoin ! $
+      says2 ! (same r z es er) (el ∙ ap (λ (s : AfterCut). list_after h s ys) (sym (same r z es er))) $ frame ! $ nothing ! $ move ! (1 ∷ 0 ∷ []) $ fjoin ! $
       owned ! C.the_row (Is C.the_row) (EL.makes C.the_type C'.the_plain 𝓛) c _ gc $ fjoin ! $ owned ! S.the_row (Is S.the_row) (LL.makes S.the_type S'.the_plain 𝓛) h _ gs $ fjoin ! $ frame ! $
       owned ! O.the_row (Is O.the_row) (LL.makes O.the_type O'.the_plain 𝓛) (made r z) _ g $ done !
 
@@ -180,9 +180,9 @@ module _ {M : Type 1} {𝓤 : Ura M} (𝓛 : Logic 𝓤) (at_mem : Memory → SP
         use1 𝓛 (later (some (λ (r : CutAnswer). ((‵ (flft (ν ∷ []) full_share) ⊛ ‵ (flft κ q) ⊛ ‵ ftrue) ⊛ ‵ ((N.the_row).own_val r (u ∷ [])))
         ⊛ raw (ensured 𝓛 callee.ended (callee.clauses 𝓛 at_mem run) (ν ∷ [], (κ, tt)) (y l₄ δ, (c, (w, tt))) tt r)))) (id⊢ 𝓤 _) $ await ! tt $ pick ! (λ r.
         split ! $ move ! (1 ∷ []) $ use1 𝓛 (some (λ (zs : Session × (Unit {0} × (List ℕ × Unit {0}))). ‵ (lasts callee.ended (ν ∷ [], (κ, tt)) (y l₄ δ, (c, (w, tt))) zs)
-        ⊛ raw (fact 𝓤 (zs.0 ≡ after.session)) ⊛ raw (fact 𝓤 (zs.1.1.0 ≡ listAfter h after ys)) ⊛ raw (fact 𝓤 (r ≡ after.answer)))) (id⊢ 𝓤 _) $ pick ! (λ zs.
+        ⊛ raw (fact 𝓤 (zs.0 ≡ after.session)) ⊛ raw (fact 𝓤 (zs.1.1.0 ≡ list_after h after ys)) ⊛ raw (fact 𝓤 (r ≡ after.answer)))) (id⊢ 𝓤 _) $ pick ! (λ zs.
         split ! $ move ! (1 ∷ []) $ split3 ! $ heard ! (zs.0 ≡ after.session)
-        (λ es. heard ! (zs.1.1.0 ≡ listAfter h after ys) (λ el. heard ! (r ≡ after.answer) (λ er. fsplit ! $ move ! (1 ∷ []) $ fsplit ! $ drop ! $ fsplit ! $ fsplit ! $ move ! (1 ∷ []) $ feq_l ! (λ l.
+        (λ es. heard ! (zs.1.1.0 ≡ list_after h after ys) (λ el. heard ! (r ≡ after.answer) (λ er. fsplit ! $ move ! (1 ∷ []) $ fsplit ! $ drop ! $ fsplit ! $ fsplit ! $ move ! (1 ∷ []) $ feq_l ! (λ l.
         move ! (3 ∷ []) $ split ! $ split ! $ move ! (2 ∷ []) $ peeks ! N.the_row (Is N.the_row) (shows 𝓛 N.the_row) r (u ∷ []) (λ is. drop ! $
         -- [the token of ν; the list's token; its last value; true; the session's last value; the lender's part; _9; …; _8; …; _7; …; _6; …; _5; …; what frees _4; _3; …; _2; …; _1; …; room for _0; …]
         land ! (from ! (stop !)) (init ! 14 refl ((LL.lawful N.the_type N'.the_laws 𝓛).typed r _ is).0) $ rewrite ! 14 (λ (v : Val). ‵ (fat full_share N'.mir l₅ 0 v)) (ap only (LL.tells N.the_type N'.the_laws r _ is)) refl $
@@ -192,11 +192,11 @@ module _ {M : Type 1} {𝓤 : Ura M} (𝓛 : Logic 𝓤) (at_mem : Memory → SP
         -- [_4; the list's token; its last value; true; _9; …; _8; …; _7; …; _6; …; _5; …; what frees _4; _3; …; _2; …; _1; …; room for _0; …]
         assigns ! (of_opd ! (load ! (from ! (stop !)) (look ! 0 refl))) (from ! (stop !)) (init ! 4 refl ((LL.lawful S.the_type S'.the_laws 𝓛).typed zs.0 _ gz).0) $
         assigns ! (agg ! (and_then ! (load ! (from ! (stop !)) (look ! 12 refl)) (and_then ! (load ! (from ! (stop !)) (look ! 4 refl)) (no_more !)))) (from ! (stop !))
-        (init ! 21 refl ((LL.lawful O.the_type O'.the_laws 𝓛).typed (made r zs.0) _ (made-is r u zs.0 is gz)).0) $
+        (init ! 21 refl ((LL.lawful O.the_type O'.the_laws 𝓛).typed (made r zs.0) _ (made_is r u zs.0 is gz)).0) $
         returns ! (look ! 21 refl) $ forget ! 0 refl $ forget ! 4 refl $ forget ! 6 refl $ forget ! 8 refl $ forget ! 10 refl $ forget ! 12 refl $ forget ! 15 refl $ forget ! 17 refl $ forget ! 19 refl $ forget ! 21 refl $
         move ! (21 ∷ 22 ∷ []) $ free1 ! $ move ! (19 ∷ 20 ∷ []) $ free1 ! $ move ! (17 ∷ 18 ∷ []) $ free1 ! $ move ! (15 ∷ 16 ∷ []) $ free1 ! $ move ! (0 ∷ 14 ∷ []) $ free1 ! $
         move ! (11 ∷ 12 ∷ []) $ free1 ! $ move ! (9 ∷ 10 ∷ []) $ free1 ! $ move ! (7 ∷ 8 ∷ []) $ free1 ! $ move ! (5 ∷ 6 ∷ []) $ free1 ! $ move ! (3 ∷ 4 ∷ []) $ free1 ! $ free0 ! $
-        keep ! (0 ∷ 1 ∷ []) $ by ! (exits r zs.0 zs.1.1.0 es el er l (made-is r u zs.0 is gz)))))))))))))))))))))))
+        keep ! (0 ∷ 1 ∷ []) $ by ! (exits r zs.0 zs.1.1.0 es el er l (made_is r u zs.0 is gz)))))))))))))))))))))))
 
 module _ {M : Type 1} {𝓤 : Ura M} (𝓛 : Logic 𝓤) (at_mem : Memory → SProp 𝓤) (run : Routine → Fun 𝓤) where
   open 𝓛 use {H}

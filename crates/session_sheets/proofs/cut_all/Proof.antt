@@ -4,14 +4,14 @@ use mathlib.Core.List.{List}
 use Prim.Native.Nat.{◌-◌, ◌<◌}
 use lib.ListN.{length, get_or}
 use borrow.Author.Rules.{rules}
-use Rattle.session_sheets.specs.Sheets.{notAsked}
+use Rattle.session_sheets.specs.Sheets.{not_asked}
 use Rattle.session_sheets.specs.declared.Asked.{Asked}
-use Rattle.session_sheets.proofs.Laws.{asked-same, Making, making-none, making-more, making-all}
+use Rattle.session_sheets.proofs.Laws.{asked-same, Making, making_none, making_more, making_all}
 use Rattle.session_sheets.proofs.cut_all.Statement.{statement}
 use Rattle.session_sheets.proofs.cut_all.Tie as tie
 
 abbrev invariant-loop : tie.invariant-loop
-invariant-loop count asked after₀ entries₀ j₀ after entries j = Making after₀.session (λ i. (get_or asked i notAsked).cut) count j entries₀ after entries
+invariant-loop count asked after₀ entries₀ j₀ after entries j = Making after₀.session (λ i. (get_or asked i not_asked).cut) count j entries₀ after entries
 
 abbrev decreases-loop : tie.decreases-loop
 decreases-loop count asked after₀ entries₀ j₀ after entries j = count - j
@@ -35,7 +35,7 @@ inside : (c : tie.In-loop invariant-loop decreases-loop) → c.before.loop.j < l
 inside c = search rules
 
 loop-holds : tie.Need-loop-init invariant-loop decreases-loop
-loop-holds c = making-none refl (rw c.start.ensures c.before.requires.0)
+loop-holds c = making_none refl (rw c.start.ensures c.before.requires.0)
 
 cut-once-requires : tie.Need-cut-once-requires invariant-loop decreases-loop
 cut-once-requires c κs = c.before.before.loop.invariant.bounds
@@ -44,12 +44,12 @@ loop-again : tie.Need-loop-preserved invariant-loop decreases-loop
 loop-again c =
     let k = at_cut c in
     let t = at_turn k in
-    making-more t.before.loop.inv t.loop-test.taken (asked-same (cuts t) _ _ (inside t)) k.cut-once.ensures c.answer-for.ensures
+    making_more t.before.loop.inv t.loop-test.taken (asked-same (cuts t) _ _ (inside t)) k.cut-once.ensures c.answer-for.ensures
 
 returns : tie.Need-returns invariant-loop decreases-loop
 returns c =
     let l = at_all c in
-    rw (← l.before.before.start.ensures) (making-all l.before.loop.inv l.loop-test.left refl c.gather.ensures)
+    rw (← l.before.before.start.ensures) (making_all l.before.loop.inv l.loop-test.left refl c.gather.ensures)
 
 pub cut-all-spec : {M : Type 1} → statement M
 cut-all-spec =

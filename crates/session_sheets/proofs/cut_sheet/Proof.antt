@@ -2,8 +2,8 @@
 use mathlib.Core.Path.{◌≡◌, sym, ◌∙◌}
 use lib.ListN.{length}
 use borrow.Author.Rules.{rules}
-use Rattle.session_sheets.specs.Sheets.{askedOn, sheetRefusal}
-use Rattle.session_sheets.proofs.Laws.{sheet-passed, made-narrows, sheet-refused, sheet-made}
+use Rattle.session_sheets.specs.Sheets.{asked_on, sheet_refusal}
+use Rattle.session_sheets.proofs.Laws.{sheet_passed, made_narrows, sheet_refused, sheet_made}
 use Rattle.session_sheets.proofs.cut_sheet.Statement.{statement}
 use Rattle.session_sheets.proofs.cut_sheet.Tie as tie
 
@@ -22,20 +22,20 @@ abbrev at_listed : tie.After-slice-known2 → tie.After-list-end
 at_listed c = c.before.before
 
 -- no check refuses the sheet
-none : (c : tie.Else1) → let a = (at-start c.before).args in sheetRefusal a.session.days a.sheet.count a.room (length a.changed.now) ≡ 0
+none : (c : tie.Else1) → let a = (at-start c.before).args in sheet_refusal a.session.days a.sheet.count a.room (length a.changed.now) ≡ 0
 none c = sym c.before.sheet-refusal.ensures ∙ c.if1.false
 
 returns : tie.Need-returns
 returns c =
     let t = c.before in
     let a = (at-start t.before).args in
-    sheet-refused a.session a.sheet a.room a.changed.now t.before.sheet-refusal.ensures t.if1.true c.refuse.ensures
+    sheet_refused a.session a.sheet a.room a.changed.now t.before.sheet-refusal.ensures t.if1.true c.refuse.ensures
 
 cut-all-requires : tie.Need-cut-all-requires
 cut-all-requires c κs =
     let t = c.before in
     let p = at-start t.before in
-    (p.pre, (sheet-passed p.args.session.days p.args.sheet.count p.args.room (length p.args.changed.now) (none t)).0)
+    (p.pre, (sheet_passed p.args.session.days p.args.sheet.count p.args.room (length p.args.changed.now) (none t)).0)
 
 list-end-requires : tie.Need-list-end-requires
 list-end-requires c κs =
@@ -44,8 +44,8 @@ list-end-requires c κs =
     let p = at-start t.before in
     let a = p.args in (
       p.pre,
-      made-narrows a.session (askedOn a.sheet) a.sheet.count k.Cut-all.ensures p.pre,
-      (sheet-passed a.session.days a.sheet.count a.room (length a.changed.now) (none t)).2,
+      made_narrows a.session (asked_on a.sheet) a.sheet.count k.Cut-all.ensures p.pre,
+      (sheet_passed a.session.days a.sheet.count a.room (length a.changed.now) (none t)).2,
     )
 
 returns-2 : tie.Need-returns-2
@@ -54,7 +54,7 @@ returns-2 c =
     let k = at-made d.before in
     let t = at-taken k in
     let a = (at-start t.before).args in
-    sheet-made a.session a.sheet a.room a.changed.now (none t) k.Cut-all.ensures d.list-end.ensures
+    sheet_made a.session a.sheet a.room a.changed.now (none t) k.Cut-all.ensures d.list-end.ensures
 
 pub cut-sheet-spec : {M : Type 1} → statement M
 cut-sheet-spec =

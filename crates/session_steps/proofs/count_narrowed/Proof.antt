@@ -3,7 +3,7 @@ use Prim.Native.Nat.{◌-◌}
 use mathlib.Core.Path.{refl}
 use borrow.Author.Rules.{rules}
 use native.Mathlib.Omega.{arith}
-use Rattle.session_steps.proofs.Laws.{Tallied, tallied-none, tallied-few, tallied-more, tallied-all}
+use Rattle.session_steps.proofs.Laws.{Tallied, tallied-none, tallied_few, tallied-more, tallied-all}
 use Rattle.session_steps.proofs.count_narrowed.Statement.{statement}
 use Rattle.session_steps.proofs.count_narrowed.Tie as tie
 
@@ -22,7 +22,7 @@ abbrev at_before : tie.After-less invariant-loop decreases-loop → tie.After-be
 at_before c = c.before.before.before
 
 tally-requires : tie.Need-tally-requires invariant-loop decreases-loop
-tally-requires c κs = let l = (at_turn (at_before c)).before in omega (arith, tallied-few l.loop.inv, l.before.pre)
+tally-requires c κs = let l = (at_turn (at_before c)).before in omega (arith, tallied_few l.loop.inv, l.before.pre)
 
 loop-again : tie.Need-loop-preserved invariant-loop decreases-loop
 loop-again c =

@@ -9,9 +9,9 @@ use Rattle.session.specs.Showing.{SessionInBounds}
 use Rattle.session.specs.declared.Session.{Session}
 use Rattle.session_cuts.specs.declared.Cut.{Cut}
 use Rattle.session_cutting.specs.Cutting.{malformed}
-use Rattle.session_cutting.proofs.Stages.{checked-refusal, checked-clips, cut-malformed, cut-spent, numbered-unknown, numbered-known}
+use Rattle.session_cutting.proofs.Stages.{checked-refusal, checked-clips, cut-malformed, cut-spent, numbered_unknown, numbered-known}
 use Rattle.session_steps.specs.Steps.{Holds}
-use Rattle.session_steps.proofs.Laws.{Cuts, stays, ends, goes_on, held-bounds, held-tight}
+use Rattle.session_steps.proofs.Laws.{Cuts, stays, ends, goes_on, held-bounds, held_tight}
 use Rattle.session_steps.proofs.cut_next.Statement.{statement}
 use Rattle.session_steps.proofs.cut_next.Tie as tie
 
@@ -77,13 +77,13 @@ cuts c s b h =
       known = (at-known k).asked.given.1;
       formed = formed (at-formed u) h;
       unspent = unspent u h;
-      tight = held-tight h (the-cut k) (unspent u h) c.cut-ranges.ensures;
+      tight = held_tight h (the-cut k) (unspent u h) c.cut-ranges.ensures;
     }
 
 -- ---- the needs
 
 returns : tie.Need-returns
-returns c = λ s b h. stays h _ (numbered-unknown s s.days refl c.before.enum_told.given.1) c.refuse.ensures
+returns c = λ s b h. stays h _ (numbered_unknown s s.days refl c.before.enum_told.given.1) c.refuse.ensures
 
 returns-2 : tie.Need-returns-2
 returns-2 c = λ s b h.

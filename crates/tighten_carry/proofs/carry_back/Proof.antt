@@ -2,8 +2,8 @@
 use Prim.Native.Nat.{ℕ, ◌+◌, ◌-◌, ◌<◌, min, max}
 use mathlib.Core.Path.{◌≡◌, ap, ◌∙◌}
 use lib.ListN.{set}
-use Rattle.limits.specs.Limits.{mostDays}
-use Rattle.tighten_carry.proofs.Laws.{Backing, back_start, back-turn, back_end}
+use Rattle.limits.specs.Limits.{most_days}
+use Rattle.tighten_carry.proofs.Laws.{Backing, back_start, back_turn, back_end}
 use borrow.Author.Rules.{rules}
 use native.Mathlib.Omega.{arith}
 use Rattle.tighten_carry.proofs.carry_back.Statement.{statement}
@@ -29,7 +29,7 @@ at_turn c = c.before.before
 abbrev at_level : tie.After-smaller invariant-loop decreases-loop → tie.After-word3 invariant-loop decreases-loop
 at_level c = c.before.before
 
-few : (c : tie.In-loop invariant-loop decreases-loop) → c.before.loop.i - 1 < mostDays
+few : (c : tie.In-loop invariant-loop decreases-loop) → c.before.loop.i - 1 < most_days
 few c = omega (arith, (before-loop c.before).pre, c.before.loop.invariant.most)
 
 left : (c : tie.After-smaller invariant-loop decreases-loop)
@@ -40,7 +40,7 @@ left : (c : tie.After-smaller invariant-loop decreases-loop)
 left c =
     let d = at_level c in
     let t = at_turn (at-rise d) in
-    back-turn t.before.loop.inv t.loop-test.taken d.word3.ensures (at-rise d).word2.ensures.0 (turned c)
+    back_turn t.before.loop.inv t.loop-test.taken d.word3.ensures (at-rise d).word2.ensures.0 (turned c)
   where
     turned : (c : tie.After-smaller invariant-loop decreases-loop)
         → let d = at_level c in

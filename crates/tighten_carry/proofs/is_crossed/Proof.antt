@@ -3,7 +3,7 @@ use Prim.Native.Nat.{◌-◌}
 use mathlib.Core.Path.{refl, ◌∙◌}
 use lib.Dec.{ltb}
 use Rattle.theory_lists.specs.Sum.{at}
-use Rattle.theory_lists.specs.Some.{Told, told_none, told_more, told-all, some_first}
+use Rattle.theory_lists.specs.Some.{Told, told_none, told_more, told_all, some_first}
 use borrow.Author.Rules.{rules}
 use Rattle.tighten_carry.proofs.is_crossed.Statement.{statement}
 use Rattle.tighten_carry.proofs.is_crossed.Tie as tie
@@ -25,7 +25,7 @@ loop-again : tie.Need-loop-preserved invariant-loop decreases-loop
 loop-again c = let t = at_turn c in told_more t.before.loop.inv t.loop-test.taken refl
 
 returns : tie.Need-returns invariant-loop decreases-loop
-returns c = told-all c.before.loop.invariant c.loop-test.false ∙ some_first _ _
+returns c = told_all c.before.loop.invariant c.loop-test.false ∙ some_first _ _
 
 pub is-crossed-spec : {M : Type 1} → statement M
 is-crossed-spec =

@@ -1,7 +1,7 @@
 -- `tighten` meets its contract: what each stage leaves is said once, as a record of Stage at the place where it is done, from the record before it;
 -- a law for each return.
 use Rattle.tighten_filtering.specs.Boxed.{boxed}
-use Rattle.tighten_filtering.proofs.Stage.{Carried, Lowered, Narrowed, carries, tight-crossed, carried-ready, tight-over, lowered-raisable, tight-apart, tight-found}
+use Rattle.tighten_filtering.proofs.Stage.{Carried, Lowered, Narrowed, carries, tight_crossed, carried-ready, tight_over, lowered_raisable, tight_apart, tight_found}
 use borrow.Author.Rules.{rules}
 use native.Mathlib.Omega.{arith}
 use Rattle.tighten_filtering.proofs.tighten.Statement.{statement}
@@ -60,7 +60,7 @@ narrowed c =
 returns : tie.Need-returns
 returns c =
     let d = c.before.before in
-    rw c.none.ensures (tight-crossed (at-start d).requires d.carry.ensures.0 d.carry.ensures.1 c.before.if1.true)
+    rw c.none.ensures (tight_crossed (at-start d).requires d.carry.ensures.0 d.carry.ensures.1 c.before.if1.true)
 
 held-total-requires : tie.Need-held-total-requires
 held-total-requires c κs = let h = (at-start c.before.before).requires in (omega (arith, h.counts), h.most)
@@ -68,7 +68,7 @@ held-total-requires c κs = let h = (at-start c.before.before).requires in (omeg
 returns-2 : tie.Need-returns-2
 returns-2 c =
     let b = c.before.before in
-    rw c.none2.ensures (tight-over (carried (at_clear b)) b.held-total.ensures.0 c.before.if2.true)
+    rw c.none2.ensures (tight_over (carried (at_clear b)) b.held-total.ensures.0 c.before.if2.true)
 
 -- margins are below 2 ^ 32, since totals are
 cast-lower-ceilings : tie.Need-overflow-cast-lower-ceilings
@@ -84,7 +84,7 @@ held-total-requires-2 : tie.Need-held-total-requires-2
 held-total-requires-2 c κs = let h = (at-start (at_clear (at_under c.before.before).before).before).requires in (omega (arith, h.counts), h.most)
 
 returns-3 : tie.Need-returns-3
-returns-3 c = rw c.none3.ensures (tight-apart (narrowed c.before.before) c.before.if3.true)
+returns-3 c = rw c.none3.ensures (tight_apart (narrowed c.before.before) c.before.if3.true)
 
 cast-raise-floors : tie.Need-overflow-cast-raise-floors
 cast-raise-floors c = record { fits = omega (arith, (at_top (at-narrowed c).before).held-total2.ensures.1) }
@@ -93,10 +93,10 @@ raise-floors-requires : tie.Need-raise-floors-requires
 raise-floors-requires c κs =
     let t = at_top (at-narrowed c).before in
     let h = (at-start (at_clear (at_under (at-lowered t).before).before).before).requires in
-    (lowered-raisable (lowered (at-lowered t)), omega (arith, h.counts), omega (arith, t.held-total2.ensures.1))
+    (lowered_raisable (lowered (at-lowered t)), omega (arith, h.counts), omega (arith, t.held-total2.ensures.1))
 
 returns-4 : tie.Need-returns-4
-returns-4 c = let e = at-narrowed c.before in rw c.raise-floors.ensures (tight-found (narrowed e.before) e.if3.left)
+returns-4 c = let e = at-narrowed c.before in rw c.raise-floors.ensures (tight_found (narrowed e.before) e.if3.left)
 
 pub tighten-spec : {M : Type 1} → statement M
 tighten-spec =

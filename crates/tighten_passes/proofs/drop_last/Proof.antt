@@ -2,8 +2,8 @@
 use Prim.Native.Nat.{◌-◌}
 use mathlib.Core.Path.{◌≡◌, refl}
 use Rattle.theory_lists.specs.Sum.{at}
-use Rattle.tighten_passes.specs.View.{viewedRises}
-use Rattle.tighten_passes.proofs.Laws.{rise-seen, top-fits, dropped, end-most, end-least}
+use Rattle.tighten_passes.specs.View.{viewed_rises}
+use Rattle.tighten_passes.proofs.Laws.{rise_seen, top_fits, dropped, end_most, end_least}
 use borrow.Author.Rules.{rules}
 use native.Mathlib.Omega.{arith}
 use Rattle.tighten_passes.proofs.drop_last.Statement.{statement}
@@ -22,16 +22,16 @@ at-floor c = c.before.before
 
 -- the rise read is that of the days in view
 rises : (c : tie.After-rise)
-    → let a = (at-start c).args in c.rise.result ≡ at (viewedRises a.back a.rises.now a.n a.days) (a.w.past - 1 - 1)
+    → let a = (at-start c).args in c.rise.result ≡ at (viewed_rises a.back a.rises.now a.n a.days) (a.w.past - 1 - 1)
 rises c =
     let s = at-start c in
     let a = s.args in
-    rise-seen a.back a.rises.now a.n a.days (a.w.past - 1 - 1) s.pre.0.carried.most (omega (arith, s.pre.1.more, s.pre.1.window.span.inside)) c.rise.ensures.0
+    rise_seen a.back a.rises.now a.n a.days (a.w.past - 1 - 1) s.pre.0.carried.most (omega (arith, s.pre.1.more, s.pre.1.window.span.inside)) c.rise.ensures.0
 
 shift-before-requires : tie.Need-shift-before-requires
 shift-before-requires c κs =
     let p = (at-start c).requires in
-    (end-most p.0.carried p.1, c.rise.ensures.1, omega (arith, end-least p.0.carried p.1))
+    (end_most p.0.carried p.1, c.rise.ensures.1, omega (arith, end_least p.0.carried p.1))
 
 level-requires : tie.Need-level-requires
 level-requires c κs = let p = (at-start c.before).requires in (search rules, search rules, p.0.small)
@@ -40,10 +40,10 @@ add-top : tie.Need-overflow-add-top
 add-top c =
     let r = at-rise c in
     let p = (at-start r).pre in
-    omega (arith, end-most p.0.carried p.1, c.level.ensures.1, c.before.shift-before.ensures, r.rise.ensures.1)
+    omega (arith, end_most p.0.carried p.1, c.level.ensures.1, c.before.shift-before.ensures, r.rise.ensures.1)
 
 sub-t15 : tie.Need-overflow-sub-t15
-sub-t15 c = let p = (at-start (at-rise (at-floor c))).requires in top-fits p.0.carried p.1
+sub-t15 c = let p = (at-start (at-rise (at-floor c))).requires in top_fits p.0.carried p.1
 
 returns : tie.Need-returns
 returns c =

@@ -1,11 +1,11 @@
 -- `lower_ceiling` meets its contract: what is handed on is the window with day i in front.
-use Rattle.tighten_passes.proofs.Laws.{entering-few, day-fits}
+use Rattle.tighten_passes.proofs.Laws.{entering_few, day-fits}
 use borrow.Author.Rules.{rules}
 use Rattle.tighten_passes.proofs.lower_ceiling.Statement.{statement}
 use Rattle.tighten_passes.proofs.lower_ceiling.Tie as tie
 
 fits-requires : tie.Need-fits-requires
-fits-requires c κs = let p = c.before.requires in rw c.enter.ensures (entering-few p.0.carried p.1, p.1.low)
+fits-requires c κs = let p = c.before.requires in rw c.enter.ensures (entering_few p.0.carried p.1, p.1.low)
 
 returns : tie.Need-returns
 returns c =

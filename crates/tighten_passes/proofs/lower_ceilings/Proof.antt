@@ -1,7 +1,7 @@
 -- `lower_ceilings` meets its contract. At its loop's head the days past i hold the definition's ceilings; the measure is i.
 use Prim.Native.Nat.{◌<◌}
-use Rattle.limits.specs.Limits.{mostDays}
-use Rattle.tighten_passes.proofs.Laws.{Lowering, plain_sight, lowering-start, lowering-most, lowering-least, lowering-enters, lowering-shown, lowering-turn, lowering-end}
+use Rattle.limits.specs.Limits.{most_days}
+use Rattle.tighten_passes.proofs.Laws.{Lowering, plain_sight, lowering_start, lowering_most, lowering_least, lowering_enters, lowering_shown, lowering_turn, lowering_end}
 use borrow.Author.Rules.{rules}
 use native.Mathlib.Omega.{arith}
 use Rattle.tighten_passes.proofs.lower_ceilings.Statement.{statement}
@@ -44,7 +44,7 @@ at_more c = c.before.before
 abbrev at-end : tie.After-carry-back invariant-loop decreases-loop → tie.Then1 invariant-loop decreases-loop
 at-end c = c.before.before
 
-few : (h : tie.At-loop invariant-loop decreases-loop) → h.loop.i < mostDays
+few : (h : tie.At-loop invariant-loop decreases-loop) → h.loop.i < most_days
 few h = omega (arith, (before-loop h).requires.0.most, h.loop.invariant.inside)
 
 -- ---- the needs
@@ -54,26 +54,26 @@ loop-holds c =
     let l = at_last c in
     let s = at-shift l in
     rw c.start.ensures
-    (lowering-start (at-start s).pre.0 (at-start s).pre.1 s.before.word.ensures.0 s.shift-before.ensures l.word2.ensures.0 c.before.word3.ensures.0)
+    (lowering_start (at-start s).pre.0 (at-start s).pre.1 s.before.word.ensures.0 s.shift-before.ensures l.word2.ensures.0 c.before.word3.ensures.0)
 
 add-ceiling : tie.Need-overflow-add-ceiling invariant-loop decreases-loop
-add-ceiling c = let h = at_head c in omega (arith, lowering-most (before-loop h).pre.0 h.loop.inv, c.word4.ensures.1)
+add-ceiling c = let h = at_head c in omega (arith, lowering_most (before-loop h).pre.0 h.loop.inv, c.word4.ensures.1)
 
 add-floor : tie.Need-overflow-add-floor invariant-loop decreases-loop
-add-floor c = let h = at_head (at-ceiling c) in omega (arith, lowering-most (before-loop h).pre.0 h.loop.inv, c.word5.ensures.1)
+add-floor c = let h = at_head (at-ceiling c) in omega (arith, lowering_most (before-loop h).pre.0 h.loop.inv, c.word5.ensures.1)
 
 lower-ceiling-requires : tie.Need-lower-ceiling-requires invariant-loop decreases-loop
 lower-ceiling-requires c κs =
     let y = at-ceiling c in
     let h = at_head y in
     let p = (before-loop h).pre in
-    (plain_sight p.0, lowering-enters p.0 h.loop.inv y.word4.ensures.0 c.word5.ensures.0 p.2)
+    (plain_sight p.0, lowering_enters p.0 h.loop.inv y.word4.ensures.0 c.word5.ensures.0 p.2)
 
 shown-requires : tie.Need-shown-requires invariant-loop decreases-loop
 shown-requires c κs =
     let y = at-ceiling c.before in
     let h = at_head y in
-    lowering-shown (before-loop h).pre.0 h.loop.inv y.word4.ensures.0 c.before.word5.ensures.0 c.lower-ceiling.ensures
+    lowering_shown (before-loop h).pre.0 h.loop.inv y.word4.ensures.0 c.before.word5.ensures.0 c.lower-ceiling.ensures
 
 element-write-ceilings : tie.Need-element-write-ceilings invariant-loop decreases-loop
 element-write-ceilings c = omega (arith, few (at_head (at-ceiling (at-lowered c).before)))
@@ -86,7 +86,7 @@ shift-before-requires-2 c κs =
     let m = at_more c in
     let h = at_head (at-ceiling (at-lowered m.before).before) in
     let g = (before-loop h).pre.0 in
-    (lowering-most g h.loop.inv, c.word6.ensures.1, omega (arith, lowering-least g h.loop.inv (omega (arith, m.if1.left, h.loop.inv.late))))
+    (lowering_most g h.loop.inv, c.word6.ensures.1, omega (arith, lowering_least g h.loop.inv (omega (arith, m.if1.left, h.loop.inv.late))))
 
 loop-again : tie.Need-loop-preserved invariant-loop decreases-loop
 loop-again c =
@@ -94,7 +94,7 @@ loop-again c =
     let l = at-lowered m.before in
     let y = at-ceiling l.before in
     let h = at_head y in
-    lowering-turn (before-loop h).pre.0 h.loop.inv y.word4.ensures.0 l.before.word5.ensures.0 l.lower-ceiling.ensures m.before.shown.ensures
+    lowering_turn (before-loop h).pre.0 h.loop.inv y.word4.ensures.0 l.before.word5.ensures.0 l.lower-ceiling.ensures m.before.shown.ensures
     m.if1.left c.before.word6.ensures.0 c.shift-before2.ensures
 
 carry-back-requires : tie.Need-carry-back-requires invariant-loop decreases-loop
@@ -107,7 +107,7 @@ returns c =
     let y = at-ceiling l.before in
     let h = at_head y in
     let p = (before-loop h).pre in
-    lowering-end p.0 h.loop.inv y.word4.ensures.0 l.before.word5.ensures.0 l.lower-ceiling.ensures s.shown.ensures p.1 (at-end c).if1.true
+    lowering_end p.0 h.loop.inv y.word4.ensures.0 l.before.word5.ensures.0 l.lower-ceiling.ensures s.shown.ensures p.1 (at-end c).if1.true
     c.carry_back.ensures
 
 pub lower-ceilings-spec : {M : Type 1} → statement M

@@ -1,6 +1,6 @@
 -- `settle` meets its contract. At its loop's head the level is as it was, and the days past the window are at it or above; the measure is the window's end.
 use mathlib.Core.Path.{◌≡◌, refl, ◌∙◌}
-use Rattle.tighten_passes.specs.View.{viewed, viewedRises}
+use Rattle.tighten_passes.specs.View.{viewed, viewed_rises}
 use Rattle.tighten_passes.specs.Pass.{Open}
 use Rattle.tighten_passes.proofs.Laws.{settled}
 use native.Mathlib.Omega.{arith}
@@ -9,7 +9,7 @@ use Rattle.tighten_passes.proofs.settle.Tie as tie
 
 abbrev invariant-loop : tie.invariant-loop
 invariant-loop floors rises n days i margin back at₀ at =
-    (at.v ≡ at₀.v) × Open (viewed back floors n) (viewedRises back rises n days) days i margin at₀.v at.past at.count at.room at.top at.end
+    (at.v ≡ at₀.v) × Open (viewed back floors n) (viewed_rises back rises n days) days i margin at₀.v at.past at.count at.room at.top at.end
 
 abbrev decreases-loop : tie.decreases-loop
 decreases-loop floors rises n days i margin back at₀ at = at.past

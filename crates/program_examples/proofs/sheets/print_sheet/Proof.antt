@@ -10,10 +10,10 @@ use borrow.Author.Tests.{eqb-true}
 use Rattle.session.specs.Showing.{SessionInBounds}
 use Rattle.session.specs.declared.Session.{Session}
 use Rattle.session_cuts.specs.declared.Numbered.{Numbered}
-use Rattle.session_sheets.specs.Sheets.{answersTo, sheetRefusal, askedOn, takenSheet, refusedSheet, afterSheet}
+use Rattle.session_sheets.specs.Sheets.{answers_to, sheet_refusal, asked_on, taken_sheet, refused_sheet, after_sheet}
 use Rattle.session_sheets.specs.declared.AskedSheet.{AskedSheet}
 use Rattle.session_sheets.specs.declared.AfterSheet.{AfterSheet}
-use Rattle.session_sheets.proofs.Laws.{after-bounds, sheet-passed}
+use Rattle.session_sheets.proofs.Laws.{after-bounds, sheet_passed}
 use Rattle.program_examples.proofs.sheets.print_sheet.Statement.{statement}
 use Rattle.program_examples.proofs.sheets.print_sheet.Tie as tie
 
@@ -22,17 +22,17 @@ use Rattle.program_examples.proofs.sheets.print_sheet.Tie as tie
 abbrev Printable : AfterSheet → Type 0
 Printable r = (r.answers.count ≤ 512) × SessionInBounds r.session
 
-taken : (s : Session) (f : ℕ → Numbered) (m : ℕ) → SessionInBounds s → m ≤ 512 → Printable (takenSheet s f m)
-unfolding answersTo
+taken : (s : Session) (f : ℕ → Numbered) (m : ℕ) → SessionInBounds s → m ≤ 512 → Printable (taken_sheet s f m)
+unfolding answers_to
 taken s f m b few = (few, after-bounds s f m b)
 
-given : (s : Session) (t : AskedSheet) (answers changed : ℕ) → SessionInBounds s → Printable (afterSheet s t answers changed)
-unfolding afterSheet
-given s t answers changed b = go (eqb (sheetRefusal s.days t.count answers changed) 0) refl
+given : (s : Session) (t : AskedSheet) (answers changed : ℕ) → SessionInBounds s → Printable (after_sheet s t answers changed)
+unfolding after_sheet
+given s t answers changed b = go (eqb (sheet_refusal s.days t.count answers changed) 0) refl
   where
-    go : (z : Bool) → eqb (sheetRefusal s.days t.count answers changed) 0 ≡ z
-        → Printable (cond z (takenSheet s (askedOn t) t.count) (refusedSheet (sheetRefusal s.days t.count answers changed) s))
-    go true e = taken s (askedOn t) t.count b (sheet-passed s.days t.count answers changed (eqb-true _ _ e)).0
+    go : (z : Bool) → eqb (sheet_refusal s.days t.count answers changed) 0 ≡ z
+        → Printable (cond z (taken_sheet s (asked_on t) t.count) (refused_sheet (sheet_refusal s.days t.count answers changed) s))
+    go true e = taken s (asked_on t) t.count b (sheet_passed s.days t.count answers changed (eqb-true _ _ e)).0
     go false e = (omega arith, b)
 
 -- ---- the places on the way: the cuts are made, what they give is printed

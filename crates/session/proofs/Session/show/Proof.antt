@@ -2,7 +2,7 @@
 use mathlib.Core.Path.{refl, sym, ◌∙◌}
 use Rattle.session.specs.Showing.{Fits}
 use Rattle.theory_lists.specs.Lent.{list-filled}
-use Rattle.session.proofs.Shows.{first_short, second_short, both_long, left, total-seen}
+use Rattle.session.proofs.Shows.{first_short, second_short, both_long, left, total_seen}
 use borrow.Author.Rules.{rules}
 use native.Mathlib.Omega.{arith}
 use Rattle.session.proofs.Session.show.Statement.{statement}
@@ -47,7 +47,7 @@ returns-3 c =
     let f = at-floors u.before in
     let l = at_long f.before in
     let p = present l in (
-      rw (total-seen c.before.decode.ensures p.lowest, total-seen c.decode2.ensures p.highest) (both_long _ _ _ (at_first l).if1.left l.if2.left),
+      rw (total_seen c.before.decode.ensures p.lowest, total_seen c.decode2.ensures p.highest) (both_long _ _ _ (at_first l).if1.left l.if2.left),
       (f.decode-all.ensures ∙ sym (list-filled 0 _ _ _ refl), u.decode-all2.ensures ∙ sym (list-filled 0 _ _ _ refl)),
     )
 
