@@ -1,4 +1,6 @@
 // Sums of levels: of a list, and of the counted days in an array, of which the first n elements are the days.
+#![tactic(auto)]
+
 ghost use Rattle.std.specs.Prelude.{◌≡◌, ◌*◌, ◌≤◌, length};
 ghost use Rattle.limits.specs.Limits.{most_days, highest_held};
 ghost use Rattle.theory_lists.specs.Sum.{sum_for, at};

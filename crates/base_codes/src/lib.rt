@@ -1,5 +1,7 @@
 // The border between signed numbers within bounds and the unsigned numbers that the other crates work with: a number's code is how far it is above its
 // lowest bound. The bounds are the caller's.
+#![tactic(auto)]
+
 ghost use Rattle.std.specs.Prelude.{◌≡◌, true, not, ℕ, ◌≤◌, ◌<◌, pos, length, get_or, ◌≤ℤ◌};
 ghost use Rattle.limits.specs.Limits.{most_days, lowest_setpoint, highest_setpoint};
 ghost use Rattle.theory_lists.specs.Written.{written};

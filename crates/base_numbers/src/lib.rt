@@ -1,5 +1,7 @@
 // Casts between a level's 16 bits and a local of the machine's or of 32 bits, the smaller and the larger of two numbers: `min` and `max` of the machine's
 // width, `smaller` and `larger` of 32 bits; and one level less another.
+#![tactic(auto)]
+
 ghost use Rattle.std.specs.Prelude.{◌≡◌, ◌-◌, ◌≤◌, ◌<◌, min, max};
 ghost use Rattle.limits.specs.Limits.{highest_level};
 

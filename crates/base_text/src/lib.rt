@@ -1,4 +1,6 @@
 // Text in a lent list, in ASCII: each function stores from a place on, and answers the place after what it stored.
+#![tactic(auto)]
+
 ghost use Rattle.std.specs.Prelude.{◌≡◌, ◌+◌, ◌≤◌, length, pos, nat_abs, ◌<ℤ◌};
 ghost use Rattle.std.proofs.lemmas.List.Edits.{sets};
 ghost use Rattle.base_text.specs.Numbers.{decimal, number};

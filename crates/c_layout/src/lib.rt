@@ -1,4 +1,6 @@
 // Where the fields of a session stand in its bytes: each place is the one before it and the size of what stands there.
+#![tactic(auto)]
+
 use limits::MOST_DAYS;
 
 pub const CELL_BYTES: usize = 2;

@@ -1,4 +1,6 @@
 // Lists as a caller in C hands them over: byte strings of 2-byte little-endian elements.
+#![tactic(auto)]
+
 ghost use Rattle.std.specs.Prelude.{◌≡◌, true, not, ◌||◌, ℕ, ◌+◌, ◌*◌, ◌≤◌, ◌<◌, length};
 ghost use Rattle.std.proofs.lemmas.List.Edits.{sets};
 ghost use Rattle.limits.specs.Limits.{most_days, lowest_point, highest_point, highest_level, lowest_setpoint, highest_setpoint};

@@ -1,4 +1,6 @@
 // Schedules written for a session's bytes and inspected by them, as a caller in C hands them over.
+#![tactic(auto)]
+
 ghost use Rattle.std.specs.Prelude.{◌≡◌, ◌*◌, length};
 ghost use Rattle.theory_lists.specs.Written.{written};
 ghost use Rattle.theory_method.specs.Filter.{zeros};

@@ -1,4 +1,6 @@
 // A session's bytes, opened, cut and shown, as a caller in C hands them over.
+#![tactic(auto)]
+
 ghost use Rattle.std.specs.Prelude.{◌≡◌, ◌-◌, ◌/◌, length};
 ghost use Rattle.limits.specs.Limits.{lowest_rise, highest_rise};
 ghost use Rattle.theory_lists.specs.Written.{written};

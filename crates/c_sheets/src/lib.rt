@@ -1,4 +1,6 @@
 // A sheet of cuts on a session's bytes (request Three). The ranges are loaded one time, cut in arrays, and stored one time.
+#![tactic(auto)]
+
 ghost use Rattle.std.specs.Prelude.{◌≡◌, ◌+◌, ◌*◌, ◌≤◌, length};
 ghost use Rattle.std.proofs.lemmas.List.Edits.{sets};
 ghost use Rattle.limits.specs.Limits.{most_days};

@@ -1,5 +1,7 @@
 // The panel's entries for C, on numbers and byte strings: include/cloverdrum.h says how they are called. An entry gives its refusal's number, 0 for none,
 // and its other results through lent numbers, which are 0 beside a refusal.
+#![tactic(auto)]
+
 ghost use Rattle.std.specs.Prelude.{◌≡◌, cond, ◌-◌, length};
 ghost use Rattle.session_cuts.specs.Numbered.{numbered};
 ghost use Rattle.session.specs.Opening.{numbers_with};

@@ -1,4 +1,6 @@
 // What the profile file's reader refuses before it stores anything.
+#![tactic(auto)]
+
 ghost use Rattle.std.specs.Prelude.{◌≡◌, cond, ◌||◌, ◌+◌, ◌*◌, ◌≤◌, ◌<◌, eqb, ltb, length};
 ghost use Rattle.limits.specs.Limits.{most_days, most_cuts};
 ghost use Rattle.theory_lists.specs.First.{first_where};

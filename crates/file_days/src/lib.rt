@@ -1,4 +1,6 @@
 // The days of a profile file, one after another from its bytes.
+#![tactic(auto)]
+
 ghost use Rattle.std.specs.Prelude.{◌≡◌, ◌+◌, ◌-◌, ◌≤◌, ◌<◌, length, set};
 ghost use Rattle.theory_lists.specs.Written.{written};
 ghost use Rattle.file_format.specs.Format.{day_length, day_offset, floor_at, ceiling_at, rise_at};

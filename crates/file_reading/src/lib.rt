@@ -1,4 +1,6 @@
 // The profile file's reader.
+#![tactic(auto)]
+
 ghost use Rattle.std.specs.Prelude.{◌≡◌, ◌+◌, ◌-◌, ◌*◌, ◌≤◌, length};
 ghost use Rattle.limits.specs.Limits.{most_days, most_cuts};
 ghost use Rattle.theory_lists.specs.Lent.{lent_list};

@@ -1,4 +1,6 @@
 // The profile file's writer.
+#![tactic(auto)]
+
 ghost use Rattle.std.specs.Prelude.{◌≡◌, ◌≤◌, length, get_or};
 ghost use Rattle.limits.specs.Limits.{most_cuts};
 ghost use Rattle.theory_lists.specs.First.{first_nonzero};

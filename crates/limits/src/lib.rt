@@ -1,5 +1,7 @@
 // The numbers of document 01 that more than one crate needs. Signed bounds are those of an entry; a code is how far a number is above its lowest bound, so that 0
 // has the offset as its code and the highest bound the highest code.
+#![tactic(auto)]
+
 
 // ---- entries
 

@@ -1,4 +1,6 @@
 // Two profile files damaged: every truncation and every change of one byte is read, judged, printed as the program `ranges` prints it, and written back.
+#![tactic(auto)]
+
 mod endings;
 mod judge;
 mod tally;

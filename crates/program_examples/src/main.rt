@@ -1,5 +1,7 @@
 // What opening, a cut, writing a schedule and inspecting one answer at the bounds of an entry, for profiles with filling days, the order of changed days, and sheets
 // of cuts: the documents' examples that are run and not proved.
+#![tactic(auto)]
+
 mod cut_refusals;
 mod filling_days;
 mod refusals;

@@ -1,4 +1,6 @@
 // Reads a profile file from standard input, and prints the ranges after its cuts, or the first refusal's number.
+#![tactic(auto)]
+
 use libc::{STDIN_FILENO, STDOUT_FILENO};
 
 // Reads once and drops what came. Answers whether to go on.

@@ -1,4 +1,6 @@
 // Inspecting a schedule that somebody wrote, by a session's present ranges.
+#![tactic(auto)]
+
 ghost use Rattle.std.specs.Prelude.{◌≡◌, ◌+◌, ◌-◌, ◌≤◌, ◌<◌, ltb, length};
 ghost use Rattle.limits.specs.Limits.{most_days, rise_offset, highest_total_code, level_to_setpoint};
 ghost use Rattle.theory_lists.specs.First.{first_where};

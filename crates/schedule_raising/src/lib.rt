@@ -1,4 +1,6 @@
 // Floors raised to a total: the levels of a schedule, in a closed form.
+#![tactic(auto)]
+
 ghost use Rattle.std.specs.Prelude.{◌≡◌, ◌+◌, ◌-◌, ◌≤◌};
 ghost use Rattle.limits.specs.Limits.{most_days, highest_level, rise_offset, highest_rise_code, highest_total_code, free_level};
 ghost use Rattle.theory_lists.specs.Sum.{at};

@@ -1,4 +1,6 @@
 // Writing a schedule of a session's present ranges, through a day's value or with a total.
+#![tactic(auto)]
+
 ghost use Rattle.std.specs.Prelude.{◌≡◌, ◌≤◌, ◌<◌, length, set};
 ghost use Rattle.limits.specs.Limits.{most_days, lowest_point, lowest_total, highest_level, highest_total_code};
 ghost use Rattle.theory_lists.specs.Written.{written};

@@ -1,4 +1,6 @@
 // A session: document 01's profile, opened, with its ranges, for one batch.
+#![tactic(auto)]
+
 ghost use Rattle.std.specs.Prelude.{◌≡◌, ltb, length};
 ghost use Rattle.limits.specs.Limits.{lowest_point, highest_point, lowest_rise, highest_rise};
 ghost use Rattle.theory_lists.specs.Sum.{at};

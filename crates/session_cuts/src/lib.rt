@@ -1,4 +1,6 @@
 // Document 01's cuts, and how numbers tell them.
+#![tactic(auto)]
+
 ghost use Rattle.std.specs.Prelude.{◌≡◌};
 ghost use Rattle.session_cuts.specs.declared.Cut.TheVariants.{TotalFloor, TotalCeiling};
 ghost use Rattle.session_cuts.specs.Numbered.{numbered};

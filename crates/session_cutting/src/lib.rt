@@ -1,4 +1,6 @@
 // Cuts on a session by value: document 01's four kinds.
+#![tactic(auto)]
+
 ghost use Rattle.std.specs.Prelude.{◌≡◌, ◌≤◌, ◌<◌, length};
 ghost use Rattle.limits.specs.Limits.{lowest_point, highest_point, lowest_total, highest_total};
 ghost use Rattle.session_cuts.specs.Numbered.{numbered};

@@ -1,4 +1,6 @@
 // A batch's session, lent for each cut.
+#![tactic(auto)]
+
 ghost use Rattle.std.specs.Prelude.{◌≡◌, length};
 ghost use Rattle.session.specs.Showing.{SessionInBounds};
 ghost use Rattle.session_cutting.specs.Cutting.{after_cut, list_after};

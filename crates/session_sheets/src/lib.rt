@@ -1,4 +1,6 @@
 // A sheet of cuts on a session by value (request Three).
+#![tactic(auto)]
+
 ghost use Rattle.std.specs.Prelude.{◌≡◌, false, ◌≤◌, length, get_or};
 ghost use Rattle.limits.specs.Limits.{most_cuts};
 ghost use Rattle.session.specs.Showing.{SessionInBounds};

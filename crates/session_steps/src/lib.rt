@@ -1,4 +1,6 @@
 // Cuts made one after another of a session's ranges in lent arrays, without their lists of changed days.
+#![tactic(auto)]
+
 ghost use Rattle.std.specs.Prelude.{◌≡◌, cond, ◌+◌, ◌-◌, ◌≤◌, ltb, length};
 ghost use Rattle.limits.specs.Limits.{most_days};
 ghost use Rattle.theory_lists.specs.Sum.{at};

@@ -1,4 +1,6 @@
 // Floors carried forward, ceilings carried back, and whether a floor is above its ceiling. A rise code is the rise plus 2,000.
+#![tactic(auto)]
+
 ghost use Rattle.std.specs.Prelude.{◌≡◌, ◌≤◌, ◌<◌, ltb};
 ghost use Rattle.limits.specs.Limits.{most_days};
 ghost use Rattle.theory_lists.specs.Sum.{at};

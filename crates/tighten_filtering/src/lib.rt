@@ -1,4 +1,6 @@
 // Document 01's filtering, on levels as shown.
+#![tactic(auto)]
+
 ghost use Rattle.std.specs.Prelude.{◌≡◌, false};
 ghost use Rattle.theory_method.specs.Filter.{InBounds, tightened};
 ghost use Rattle.tighten_filtering.specs.Boxed.{boxed};

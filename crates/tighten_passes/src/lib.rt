@@ -1,6 +1,8 @@
 // Document 01's two passes, on levels as shown. A shifted level is a level plus its day's shift. The pass over the floors is that over the ceilings from
 // the other end of the days and of the scale, in place. Both go over the counted days alone: a day before them gets its ceiling from the day after it, and
 // no total raises its floor.
+#![tactic(auto)]
+
 ghost use Rattle.std.specs.Prelude.{◌≡◌, true, false, cond, ℕ, ◌+◌, ◌-◌, ◌*◌, ◌≤◌, ◌<◌, min, ltb};
 ghost use Rattle.limits.specs.Limits.{most_days, highest_level, rise_offset, highest_shift, highest_held};
 ghost use Rattle.theory_lists.specs.Sum.{at};

@@ -1,0 +1,8 @@
+use Rattle.std.proofs.Common.{◌≡◌, ◌+◌, ◌≤◌, length, pos, nat_abs, ◌<ℤ◌, ℕ, ◌-◌, ◌*◌, ◌<◌}
+use Rattle.std.proofs.lemmas.List.Edits.{sets}
+use Rattle.base_text.specs.Numbers.{decimal, number}
+use Rattle.base_text.proofs.+put_decimal.Given as goal
+
+-- proposed from what the function passes where it calls itself
+abbrev pub decreases-put_decimal : goal.decreases-put_decimal
+decreases-put_decimal l = l.n
