@@ -10,21 +10,21 @@ ghost use Rattle.base_codes.specs.Code.{within, code, decoded, on, every, coded,
 use limits::MOST_DAYS;
 
 // A number's code, or that it is outside its bounds.
-#[derive(Drop)]
+#[derive(Clone, Copy)]
 pub enum Coded {
     Code(usize),
     Outside,
 }
 
 // A number's code in 16 bits, 0 where the number is outside its bounds, and whether it is.
-#[derive(Drop)]
+#[derive(Clone, Copy)]
 pub struct CodedCell {
     pub code: u16,
     pub outside: bool,
 }
 
 // A profile's numbers as codes: the day count, the first counted day, and the total's bounds as they are held.
-#[derive(Drop)]
+#[derive(Clone, Copy)]
 pub struct CodedNumbers {
     pub days: usize,
     pub first: usize,

@@ -24,7 +24,7 @@ use session_cuts::Numbered;
 use session_cutting::malformed;
 
 // What reading gives beside the lists: the refusal's number, 0 for none; the profile's numbers, and how many cuts there are.
-#[derive(Drop)]
+#[derive(Clone, Copy)]
 pub struct Contents {
     pub refusal: u8,
     pub numbers: Numbers,

@@ -17,7 +17,7 @@ use session::Session;
 
 // What coding floors and ceilings tells: whether a point is outside its bounds, and whether a day's floor has a higher
 // code than its ceiling.
-#[derive(Drop)]
+#[derive(Clone, Copy)]
 pub struct CodedRanges {
     pub outside: bool,
     pub crossed: bool,

@@ -65,7 +65,7 @@ fn bound(bytes: &[u8], place: usize) -> usize
 }
 
 // The total's range, as it is held.
-#[derive(Drop)]
+#[derive(Clone, Copy)]
 pub struct Total {
     pub lowest: usize,
     pub highest: usize,

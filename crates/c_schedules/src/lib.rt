@@ -19,7 +19,7 @@ use schedule_writing::{Checked, write_through};
 
 // What inspecting finds: the refusal's number; the rule that is broken, 0 for none, 1 for a day's range, 2 for a rise, 3 for the total's range; and the
 // number of the day or rise.
-#[derive(Drop)]
+#[derive(Clone, Copy)]
 pub struct Finding {
     pub refusal: u8,
     pub rule: usize,
@@ -27,7 +27,7 @@ pub struct Finding {
 }
 
 // What a schedule is written for.
-#[derive(Drop)]
+#[derive(Clone, Copy)]
 pub enum Subject {
     Day(usize),
     Total,

@@ -28,7 +28,7 @@ use session_cutting::CutAnswer;
 // ---- opening
 
 // A profile's numbers as codes, or a refusal, and whether a day's floor has a higher code than its ceiling.
-#[derive(Drop)]
+#[derive(Clone, Copy)]
 struct CodedLists {
     profile: CodedProfile,
     crossed: bool,

@@ -10,7 +10,7 @@ use base_little_endian::i16_at;
 use file_format::{DAY_BYTES, DAYS_BEGIN};
 
 // A day's floor and ceiling, and the rise to the next day.
-#[derive(Drop)]
+#[derive(Clone, Copy)]
 struct Day {
     floor: i16,
     ceiling: i16,
@@ -18,20 +18,20 @@ struct Day {
 }
 
 // A day that was read, and where the next begins.
-#[derive(Drop)]
+#[derive(Clone, Copy)]
 struct Taken {
     day: Day,
     next: usize,
 }
 
 // A file's bytes, and where the next day begins.
-#[derive(Drop)]
+#[derive(Clone, Copy)]
 struct DayReader<'a> {
     bytes: &'a [u8],
     at: usize,
 }
 
-#[derive(Drop)]
+#[derive(Clone, Copy)]
 struct DayStep<'a> {
     day: Day,
     next: DayReader<'a>,

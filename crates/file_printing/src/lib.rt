@@ -27,7 +27,7 @@ pub const MOST_TEXT_BYTES: usize = TOTAL_LINE_BYTES + MOST_DAYS * DAY_LINE_BYTES
 const MOST_RISES: usize = MOST_DAYS - 1;
 
 // A stage's answer: that it passed, or the number of its refusal.
-#[derive(Drop)]
+#[derive(Clone, Copy)]
 enum Stage {
     Passed,
     Refused(u8),

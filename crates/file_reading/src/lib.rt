@@ -17,7 +17,7 @@ use session::Numbers;
 use session_cuts::{Cut, Entry, Numbered, Sheet};
 
 // The refusal's number, 0 for none; the profile's numbers and the cuts.
-#[derive(Drop)]
+#[derive(Clone, Copy)]
 pub struct ReadAnswer {
     pub refusal: u8,
     pub numbers: Numbers,

@@ -16,7 +16,7 @@ use session::{Numbers, early_refusal};
 use session_cuts::{Entry, Sheet};
 
 // The refusal's number, 0 for none, and how many bytes were written.
-#[derive(Drop)]
+#[derive(Clone, Copy)]
 pub struct WriteAnswer {
     pub refusal: u8,
     pub length: usize,

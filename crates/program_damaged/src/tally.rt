@@ -4,7 +4,7 @@ ghost use Rattle.std.specs.Prelude.{◌≤◌};
 use crate::{endings, judge, writing};
 
 // How many files; how often the reader answers each number, the text, and the writer of what was read, 0 for none; how many differences.
-#[derive(Drop)]
+#[derive(Clone, Copy)]
 pub(crate) struct Tally {
     pub files: usize,
     pub read: [usize; 14],

@@ -80,7 +80,7 @@ fn three_days(first: usize, lowest: i32, highest: i32) -> Opened
 }
 
 // Two days and the rise between them.
-#[derive(Drop)]
+#[derive(Clone, Copy)]
 struct Days {
     floors: [i16; 2],
     ceilings: [i16; 2],

@@ -17,7 +17,7 @@ use session::Session;
 
 // What inspecting answers: that the list is not n long (2), or that the session is spent (9); or that the schedule is kept; or the first broken rule: the range
 // of a day, the rise from a day to the next, or the range of the total.
-#[derive(Drop)]
+#[derive(Clone, Copy)]
 pub enum Inspection {
     WrongLength,
     Spent,

@@ -12,7 +12,7 @@ use base_numbers::{max, min, narrow, wide};
 use limits::{FREE_LEVEL, MOST_DAYS, RISE_OFFSET};
 
 // A day's level, and what the sum still lacks.
-#[derive(Drop)]
+#[derive(Clone, Copy)]
 struct Raised {
     level: usize,
     rest: usize,

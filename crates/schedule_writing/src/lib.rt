@@ -15,7 +15,7 @@ use limits::MOST_DAYS;
 use session::Session;
 
 // What the checks of a value say: 9 for a spent session, then 10 for a value outside its range; beside 0 the value's code.
-#[derive(Drop)]
+#[derive(Clone, Copy)]
 pub struct Checked {
     pub refusal: u8,
     pub code: usize,

@@ -15,7 +15,7 @@ use base_codes::{Coded, CodedNumbers, code_all};
 use limits::{MOST_DAYS, TOTAL_OFFSET};
 
 // A profile's numbers, beside its lists: the day count, the first counted day, and the total's floor and ceiling.
-#[derive(Drop)]
+#[derive(Clone, Copy)]
 pub struct Numbers {
     pub days: usize,
     pub first: usize,
@@ -34,7 +34,7 @@ impl Numbers {
 }
 
 // The range of each day as levels, a point plus 1,000, and of the total, held plus 512,000.
-#[derive(Drop)]
+#[derive(Clone, Copy)]
 pub struct Ranges {
     pub floors: [u16; MOST_DAYS],
     pub ceilings: [u16; MOST_DAYS],
@@ -43,7 +43,7 @@ pub struct Ranges {
 }
 
 // Rises are held plus 2,000. Cells past the last day are 0.
-#[derive(Drop)]
+#[derive(Clone, Copy)]
 pub struct Session {
     pub days: usize,
     pub first: usize,
@@ -54,14 +54,14 @@ pub struct Session {
 }
 
 // A profile's numbers as codes, or all 0 beside a refusal's number.
-#[derive(Drop)]
+#[derive(Clone, Copy)]
 pub struct CodedProfile {
     pub refusal: u8,
     pub numbers: CodedNumbers,
 }
 
 // The total's range of ranges that are opened, or both 0 beside a refusal's number.
-#[derive(Drop)]
+#[derive(Clone, Copy)]
 pub struct OpenedRanges {
     pub refusal: u8,
     pub lowest: usize,
@@ -69,14 +69,14 @@ pub struct OpenedRanges {
 }
 
 // The refusal's number, 0 for none, and the session.
-#[derive(Drop)]
+#[derive(Clone, Copy)]
 pub struct Opened {
     pub refusal: u8,
     pub session: Session,
 }
 
 // What showing gives beside the lists: the refusal's number, 0 for none, the total's range, and whether the session is spent.
-#[derive(Drop)]
+#[derive(Clone, Copy)]
 pub struct Shown {
     pub refusal: u8,
     pub lowest: i32,

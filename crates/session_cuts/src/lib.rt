@@ -8,7 +8,7 @@ ghost use Rattle.session_cuts.specs.Numbered.{numbered};
 use limits::MOST_CUTS;
 
 // A floor or a ceiling for a day or for the total: the day, 0 for the total, and the value in points.
-#[derive(Drop)]
+#[derive(Clone, Copy)]
 pub enum Cut {
     DayFloor(usize, i32),
     DayCeiling(usize, i32),
@@ -17,20 +17,20 @@ pub enum Cut {
 }
 
 // A cut given by numbers, or that its kind is unknown (12).
-#[derive(Drop)]
+#[derive(Clone, Copy)]
 pub enum Numbered {
     Known(Cut),
     Unknown,
 }
 
 // An entry of a sheet.
-#[derive(Drop)]
+#[derive(Clone, Copy)]
 pub struct Entry {
     pub cut: Cut,
 }
 
 // The first `count` entries are a batch's cuts, in their order.
-#[derive(Drop)]
+#[derive(Clone, Copy)]
 pub struct Sheet {
     pub count: usize,
     pub entries: [Entry; MOST_CUTS],

@@ -19,27 +19,27 @@ use session_cuts::{Cut, Numbered};
 use tighten_filtering::Totals;
 
 // The refusal's number, 0 for none, and the number of days whose range changed.
-#[derive(Drop)]
+#[derive(Clone, Copy)]
 pub struct CutAnswer {
     pub refusal: u8,
     pub changed: usize,
 }
 
-#[derive(Drop)]
+#[derive(Clone, Copy)]
 pub struct AfterCut {
     pub answer: CutAnswer,
     pub session: Session,
 }
 
 // The number of the refusal that a cut has by itself, and beside 0 its value as it is held.
-#[derive(Drop)]
+#[derive(Clone, Copy)]
 pub struct Checked {
     pub refusal: u8,
     pub value: usize,
 }
 
 // The total's range.
-#[derive(Drop)]
+#[derive(Clone, Copy)]
 struct Total {
     lowest: usize,
     highest: usize,

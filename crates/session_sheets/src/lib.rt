@@ -15,34 +15,34 @@ use session_cuts::Numbered;
 use session_cutting::{AfterCut, CutAnswer};
 
 // A cut of a sheet, as it is asked for: its kind may be unknown.
-#[derive(Drop)]
+#[derive(Clone, Copy)]
 pub struct Asked {
     pub cut: Numbered,
 }
 
 // The first `count` entries are a sheet's cuts, in their order.
-#[derive(Drop)]
+#[derive(Clone, Copy)]
 pub struct AskedSheet {
     pub count: usize,
     pub entries: [Asked; MOST_CUTS],
 }
 
 // A cut as it was asked for, with its refusal's number, 0 for none, and its number of changed days.
-#[derive(Drop)]
+#[derive(Clone, Copy)]
 pub struct Answered {
     pub cut: Numbered,
     pub answer: CutAnswer,
 }
 
 // The first `count` entries answer a sheet's cuts.
-#[derive(Drop)]
+#[derive(Clone, Copy)]
 pub struct Answers {
     pub count: usize,
     pub entries: [Answered; MOST_CUTS],
 }
 
 // The sheet's own refusal, 0 for none; how many days differ between the start and the end; each cut's answer; the session.
-#[derive(Drop)]
+#[derive(Clone, Copy)]
 pub struct AfterSheet {
     pub refusal: u8,
     pub changed: usize,
@@ -51,7 +51,7 @@ pub struct AfterSheet {
 }
 
 // What the cuts of a sheet make.
-#[derive(Drop)]
+#[derive(Clone, Copy)]
 struct Made {
     answers: Answers,
     session: Session,

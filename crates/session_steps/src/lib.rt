@@ -18,7 +18,7 @@ use session_cuts::Numbered;
 use session_cutting::CutAnswer;
 
 // A session's numbers while cuts are made of it, whether it is spent, and the answer to the last cut.
-#[derive(Drop)]
+#[derive(Clone, Copy)]
 pub struct Step {
     pub numbers: CodedNumbers,
     pub spent: bool,

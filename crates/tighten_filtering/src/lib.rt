@@ -13,7 +13,7 @@ use tighten_carry::carry;
 use tighten_passes::{lower_ceilings, raise_floors};
 
 // Whether there is a schedule, and the total's range.
-#[derive(Drop)]
+#[derive(Clone, Copy)]
 pub struct Totals {
     pub found: bool,
     pub lowest: usize,

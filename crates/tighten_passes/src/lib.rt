@@ -20,7 +20,7 @@ use tighten_carry::carry_back;
 // A shifted level v of a day, and its window: the `count` days from that day on, which end before `past`. Room is the margin plus the sum of their shifted
 // floors, top the shifted floor of the last and end its shift: v is within the margin where count * v <= room. All have 32 bits: a small processor adds,
 // compares and divides such numbers in one instruction.
-#[derive(Drop)]
+#[derive(Clone, Copy)]
 struct Window {
     v: u32,
     past: u32,

@@ -1,0 +1,6 @@
+-- `enter` meets its contract.
+use borrow.Author.Rules.{rules}
+use Rattle.tighten_passes.proofs.enter.Goals as goal
+
+pub returns : goal.returns
+returns c = rw c.smaller.ensures

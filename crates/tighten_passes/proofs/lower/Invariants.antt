@@ -1,0 +1,16 @@
+-- `lower` meets its contract. At its loop's head each level above, up to the first, is over the margin; the measure is the level.
+-- ---- the places on the way: before the loop, and a turn's head
+use Prim.Native.Nat.{◌*◌, ◌<◌}
+use mathlib.Core.Path.{refl}
+use borrow.Author.Tests.{ltb-true, ltb-false}
+use Rattle.tighten_passes.specs.View.{viewed, viewed_rises}
+use Rattle.tighten_passes.proofs.Laws.{Stand, found_few, stand_start, stand_done, stand_over, stand_less, stand_turn}
+use native.Mathlib.Omega.{arith}
+use Rattle.tighten_passes.proofs.lower.Given as goal
+
+abbrev pub invariant-loop-at : goal.invariant-loop-at
+invariant-loop-at l =
+    Stand (viewed l.back l.floors l.n) (viewed_rises l.back l.rises l.n l.days) l.days l.i l.margin l.initial.at.v l.at.v l.at.past l.at.count l.at.room l.at.top l.at.end
+
+abbrev pub decreases-loop-at : goal.decreases-loop-at
+decreases-loop-at l = l.at.v

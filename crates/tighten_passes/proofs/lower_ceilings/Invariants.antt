@@ -1,0 +1,17 @@
+-- `lower_ceilings` meets its contract. At its loop's head the days past i hold the definition's ceilings; the measure is i.
+-- ---- the places on the way: the last day's shift is known, its ceiling is read, the loop's head; then in a turn: the ceiling is read, the floor is read, the
+-- day is lowered
+-- ---- the needs
+use Prim.Native.Nat.{◌<◌}
+use Rattle.limits.specs.Limits.{most_days}
+use Rattle.tighten_passes.proofs.Laws.{Lowering, plain_sight, lowering_start, lowering_most, lowering_least, lowering_enters, lowering_shown, lowering_turn, lowering_end}
+use borrow.Author.Rules.{rules}
+use native.Mathlib.Omega.{arith}
+use Rattle.tighten_passes.proofs.lower_ceilings.Given as goal
+
+abbrev pub invariant-loop-i : goal.invariant-loop-i
+invariant-loop-i l =
+    Lowering l.floors l.initial.ceilings l.rises l.n l.first l.margin l.ceilings l.here l.day.v l.day.past l.day.count l.day.room l.day.top l.day.end l.i
+
+abbrev pub decreases-loop-i : goal.decreases-loop-i
+decreases-loop-i l = l.i
