@@ -1,5 +1,4 @@
 -- `enter` meets its contract.
-use borrow.Author.Rules.{rules}
 use Rattle.tighten_passes.proofs.enter.Goals as goal
 
 pub returns : goal.returns

@@ -1,6 +1,5 @@
 -- `is_over` meets its contract: the product of numbers so bounded fits.
 use native.Mathlib.Nat.{mul-le-mul}
-use borrow.Author.Rules.{rules}
 use native.Mathlib.Omega.{arith}
 use Rattle.tighten_passes.proofs.is_over.Goals as goal
 

@@ -1,8 +1,7 @@
 use Prim.Native.Nat.{◌*◌, ◌<◌}
 use mathlib.Core.Path.{refl}
 use borrow.Author.Tests.{ltb-true, ltb-false}
-use Rattle.tighten_passes.specs.View.{viewed, viewed_rises}
-use Rattle.tighten_passes.proofs.Laws.{Stand, found_few, stand_start, stand_done, stand_over, stand_less, stand_turn}
+use Rattle.tighten_passes.proofs.Laws.{found_few, stand_start, stand_done, stand_over, stand_less, stand_turn}
 use native.Mathlib.Omega.{arith}
 use Rattle.tighten_passes.proofs.lower.Goals as goal
 use Rattle.tighten_passes.proofs.lower.Goals.{In-loop-at}
@@ -12,16 +11,16 @@ above : (c : In-loop-at) → let at = c.loop-at.at in at.room < at.count * at.v
 above c = let at = c.loop-at.at in ltb-true at.room (at.count * at.v) (rw c.is_over.ensures at c.loop-at-test.true)
 
 pub settle-at-requires : goal.settle-at-requires
-settle-at-requires c = record { sight = c.requires.sight; fact = c.requires.fact.0 }
+settle-at-requires c = record { sight = c.requires.sight; fact = c.requires.fact }
 
 pub loop-at-init : goal.loop-at-init
 loop-at-init c =
     let e = c.settle-at.ensures in
-    stand_start (refl, rw e.0 e.1) (omega (arith, e.0, c.requires.fact.1.1))
+    stand_start (refl, rw e.0 e.1) (omega (arith, e.0, c.requires.v_le_highest_shifted.1))
 
 pub is_over-requires : goal.is_over-requires
 is_over-requires c =
-    (found_few c.requires.sight.carried c.loop-at.invariant.window, omega (arith, c.loop-at.invariant.fits, c.settle-at.ensures.0, c.requires.fact.1.0))
+    (found_few c.requires.sight.carried c.loop-at.invariant.window, omega (arith, c.loop-at.invariant.fits, c.settle-at.ensures.0, c.requires.v_le_highest_shifted.0))
 
 pub round-at-requires : goal.round-at-requires
 round-at-requires c = record { sight = c.requires.sight; overloaded = stand_over c.requires.sight.carried c.loop-at.invariant (above (goal.at.round-at-requires c).In-loop-at) }

@@ -1,11 +1,7 @@
 -- `lower` meets its contract. At its loop's head each level above, up to the first, is over the margin; the measure is the level.
 -- ---- the places on the way: before the loop, and a turn's head
-use Prim.Native.Nat.{◌*◌, ◌<◌}
-use mathlib.Core.Path.{refl}
-use borrow.Author.Tests.{ltb-true, ltb-false}
 use Rattle.tighten_passes.specs.View.{viewed, viewed_rises}
-use Rattle.tighten_passes.proofs.Laws.{Stand, found_few, stand_start, stand_done, stand_over, stand_less, stand_turn}
-use native.Mathlib.Omega.{arith}
+use Rattle.tighten_passes.proofs.Laws.{Stand}
 use Rattle.tighten_passes.proofs.lower.Given as goal
 
 abbrev pub invariant-loop-at : goal.invariant-loop-at

@@ -1,7 +1,6 @@
 use Prim.Native.Nat.{◌<◌}
 use Rattle.limits.specs.Limits.{most_days}
-use Rattle.tighten_passes.proofs.Laws.{Lowering, plain_sight, lowering_start, lowering_most, lowering_least, lowering_enters, lowering_shown, lowering_turn, lowering_end}
-use borrow.Author.Rules.{rules}
+use Rattle.tighten_passes.proofs.Laws.{plain_sight, lowering_start, lowering_most, lowering_least, lowering_enters, lowering_shown, lowering_turn, lowering_end}
 use native.Mathlib.Omega.{arith}
 use Rattle.tighten_passes.proofs.lower_ceilings.Goals as goal
 use Rattle.tighten_passes.proofs.lower_ceilings.Goals.{At-loop-i}

@@ -2,11 +2,7 @@
 -- ---- the places on the way: the last day's shift is known, its ceiling is read, the loop's head; then in a turn: the ceiling is read, the floor is read, the
 -- day is lowered
 -- ---- the needs
-use Prim.Native.Nat.{◌<◌}
-use Rattle.limits.specs.Limits.{most_days}
-use Rattle.tighten_passes.proofs.Laws.{Lowering, plain_sight, lowering_start, lowering_most, lowering_least, lowering_enters, lowering_shown, lowering_turn, lowering_end}
-use borrow.Author.Rules.{rules}
-use native.Mathlib.Omega.{arith}
+use Rattle.tighten_passes.proofs.Laws.{Lowering}
 use Rattle.tighten_passes.proofs.lower_ceilings.Given as goal
 
 abbrev pub invariant-loop-i : goal.invariant-loop-i

@@ -1,8 +1,7 @@
 use Prim.Native.Nat.{ℕ, ◌-◌, ◌<◌}
 use mathlib.Core.Path.{refl, ap, ◌∙◌}
 use Rattle.limits.specs.Limits.{most_days, highest_level}
-use Rattle.tighten_passes.proofs.Laws.{Raising, back_sight, floor-small, raising_start, raising_old, raising_most, raising_least, raising_enters, raising_shown, raising_turn, raising_end}
-use borrow.Author.Rules.{rules}
+use Rattle.tighten_passes.proofs.Laws.{back_sight, floor-small, raising_start, raising_old, raising_most, raising_least, raising_enters, raising_shown, raising_turn, raising_end}
 use native.Mathlib.Omega.{arith}
 use Rattle.tighten_passes.proofs.raise_floors.Goals as goal
 use Rattle.tighten_passes.proofs.raise_floors.Goals.{At-loop-i}
@@ -43,7 +42,7 @@ shown-requires c =
     raising_shown c.requires.0 c.requires.1 c.loop-i.invariant c.mirror_level-in-loop-i.ensures c.mirror_level-in-loop-i-2.ensures c.raise_floor-day.ensures
 
 pub mirror_level-requires-in-loop-i-3 : goal.mirror_level-requires-in-loop-i-3
-mirror_level-requires-in-loop-i-3 c = omega (arith, c.shown.ensures, (shown-requires (goal.at.mirror_level-requires-in-loop-i-3 c).After-raise_floor-day κs).1)
+mirror_level-requires-in-loop-i-3 c = omega (arith, c.shown.ensures, (raising_shown c.requires.0 c.requires.1 c.loop-i.invariant c.mirror_level-in-loop-i.ensures c.mirror_level-in-loop-i-2.ensures c.raise_floor-day.ensures).1)
 
 pub offset_bounds-floors-k-in-loop-i : goal.offset_bounds-floors-k-in-loop-i
 offset_bounds-floors-k-in-loop-i c = omega (arith, few (goal.at.offset_bounds-floors-k-in-loop-i c).At-loop-i)

@@ -1,12 +1,8 @@
 -- `raise_floors` meets its contract. At its loop's head the days before i hold the definition's floors; the measure is what is left of the days.
 -- ---- the places on the way: the first counted day's floor is read, the loop's head; then in a turn: the floor is read, the ceiling is read, the day is raised
 -- ---- the needs
-use Prim.Native.Nat.{ℕ, ◌-◌, ◌<◌}
-use mathlib.Core.Path.{refl, ap, ◌∙◌}
-use Rattle.limits.specs.Limits.{most_days, highest_level}
-use Rattle.tighten_passes.proofs.Laws.{Raising, back_sight, floor-small, raising_start, raising_old, raising_most, raising_least, raising_enters, raising_shown, raising_turn, raising_end}
-use borrow.Author.Rules.{rules}
-use native.Mathlib.Omega.{arith}
+use Prim.Native.Nat.{◌-◌}
+use Rattle.tighten_passes.proofs.Laws.{Raising}
 use Rattle.tighten_passes.proofs.raise_floors.Given as goal
 
 abbrev pub invariant-loop-i : goal.invariant-loop-i

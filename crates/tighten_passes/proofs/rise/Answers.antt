@@ -1,6 +1,5 @@
 -- `rise` meets its contract, whichever end is read from.
 use Rattle.tighten_passes.proofs.Laws.{rise-back, rise-plain}
-use borrow.Author.Rules.{rules}
 use Rattle.tighten_passes.proofs.rise.Goals as goal
 
 pub returns-then-back : goal.returns-then-back

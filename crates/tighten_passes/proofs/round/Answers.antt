@@ -2,7 +2,6 @@
 -- ---- the places on the way: what the room has for each day is above top, or not
 use mathlib.Core.Path.{refl}
 use Rattle.tighten_passes.proofs.Laws.{round_even, top_open, round_top}
-use borrow.Author.Rules.{rules}
 use Rattle.tighten_passes.proofs.round.Goals as goal
 
 pub returns-then-w-even : goal.returns-then-w-even
@@ -10,7 +9,7 @@ returns-then-w-even c = rw c.lowered_to.ensures (round_even c.requires.sight.car
 
 pub settle-requires : goal.settle-requires
 settle-requires c =
-    rw c.lowered_to-2.ensures (c.requires.sight, top_open c.requires.sight.carried c.requires.overloaded refl c.if-w-even.false)
+    record { sight = c.requires.sight; fact = rw c.lowered_to-2.ensures (top_open c.requires.sight.carried c.requires.overloaded refl c.if-w-even.false) }
 
 pub returns : goal.returns
 returns c =

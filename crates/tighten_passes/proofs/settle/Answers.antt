@@ -1,6 +1,4 @@
-use mathlib.Core.Path.{◌≡◌, refl, ◌∙◌}
-use Rattle.tighten_passes.specs.View.{viewed, viewed_rises}
-use Rattle.tighten_passes.specs.Pass.{Open}
+use mathlib.Core.Path.{refl, ◌∙◌}
 use Rattle.tighten_passes.proofs.Laws.{settled}
 use native.Mathlib.Omega.{arith}
 use Rattle.tighten_passes.proofs.settle.Goals as goal

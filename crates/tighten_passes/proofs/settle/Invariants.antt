@@ -1,9 +1,7 @@
 -- `settle` meets its contract. At its loop's head the level is as it was, and the days past the window are at it or above; the measure is the window's end.
-use mathlib.Core.Path.{◌≡◌, refl, ◌∙◌}
+use mathlib.Core.Path.{◌≡◌}
 use Rattle.tighten_passes.specs.View.{viewed, viewed_rises}
 use Rattle.tighten_passes.specs.Pass.{Open}
-use Rattle.tighten_passes.proofs.Laws.{settled}
-use native.Mathlib.Omega.{arith}
 use Rattle.tighten_passes.proofs.settle.Given as goal
 
 abbrev pub invariant-loop-at : goal.invariant-loop-at
