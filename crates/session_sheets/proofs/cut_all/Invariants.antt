@@ -1,12 +1,8 @@
 -- `cut_all` meets its contract: the first j cuts are made and answered (`Making` of Laws). The measure is the cuts left.
-use mathlib.Core.Path.{refl}
-use mathlib.Core.List.{List}
-use Prim.Native.Nat.{◌-◌, ◌<◌}
-use lib.ListN.{length, get_or}
-use borrow.Author.Rules.{rules}
+use Prim.Native.Nat.{◌-◌}
+use lib.ListN.{get_or}
 use Rattle.session_sheets.specs.Sheets.{not_asked}
-use Rattle.session_sheets.specs.declared.Asked.{Asked}
-use Rattle.session_sheets.proofs.Laws.{asked-same, Making, making_none, making_more, making_all}
+use Rattle.session_sheets.proofs.Laws.{Making}
 use Rattle.session_sheets.proofs.cut_all.Given as goal
 
 abbrev pub invariant-loop-j : goal.invariant-loop-j

@@ -1,7 +1,6 @@
 -- `cut_sheet` meets its contract: each return knows whether the sheet is refused. The days are listed from the session that the cuts left.
 use mathlib.Core.Path.{◌≡◌, sym, ◌∙◌}
 use lib.ListN.{length}
-use borrow.Author.Rules.{rules}
 use Rattle.session_sheets.specs.Sheets.{asked_on, sheet_refusal}
 use Rattle.session_sheets.proofs.Laws.{sheet_passed, made_narrows, sheet_refused, sheet_made}
 use Rattle.session_sheets.proofs.cut_sheet.Goals as goal
@@ -23,10 +22,10 @@ pub list_end-days-requires : goal.list_end-days-requires
 list_end-days-requires c =
     let a = c.args in (
       c.requires,
-      made_narrows a.session (asked_on a.sheet) a.sheet.count c.Cut-all.ensures c.requires,
+      made_narrows a.session (asked_on a.sheet) a.sheet.count c.cut_all-out.ensures c.requires,
       (sheet_passed a.session.days a.sheet.count a.room (length a.changed.now) (none (goal.at.list_end-days-requires c).Else-refusal-ne0)).2,
     )
 
 pub returns : goal.returns
 returns c =
-    let a = c.args in let whole = sheet_made a.session a.sheet a.room a.changed.now (none (goal.at.returns c).Else-refusal-ne0) c.Cut-all.ensures (c.list_end-days.ensures.value, c.list_end-days.ensures.changed_after) in record { value = whole.0; changed_after = whole.1 }
+    let a = c.args in let whole = sheet_made a.session a.sheet a.room a.changed.now (none (goal.at.returns c).Else-refusal-ne0) c.cut_all-out.ensures (c.list_end-days.ensures.value, c.list_end-days.ensures.changed_after) in record { value = whole.0; changed_after = whole.1 }

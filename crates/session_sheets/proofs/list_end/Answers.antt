@@ -1,5 +1,4 @@
 -- `list_end` meets its contract: a spent session has no days to list; else each range at the end lies within the one at the start, as `list_changes` asks.
-use borrow.Author.Rules.{rules}
 use Rattle.session_sheets.proofs.Laws.{list-none, list-some}
 use Rattle.session_sheets.proofs.list_end.Goals as goal
 
