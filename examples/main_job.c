@@ -1,7 +1,7 @@
 /* The main job, as firmware does it: reads a profile file, opens its profile, makes its cuts in order, and prints the ranges as the program `ranges` does:
  * `total FLOOR CEILING`, then `day NUMBER FLOOR CEILING` for each day, in points; or `refused N`, the first refusal that it meets.
  *
- *     rt staticlib cloverdrum
+ *     ./library
  *     gcc -Iinclude -o target/main_job examples/main_job.c target/staticlib/libcloverdrum.a && target/main_job examples/lager.profile
  *
  * Without a name it reads standard input. The exit status is that of ./ranges. */

@@ -2,7 +2,7 @@
  * 11 by a sheet with one cut more, for a day that is not there, and prints the ranges: the total's floor and ceiling, then each day's number, floor and
  * ceiling, in points. A refusal is printed as its number, with what was asked.
  *
- *     rt staticlib cloverdrum
+ *     ./library
  *     gcc -Iinclude -o target/panel examples/panel.c target/staticlib/libcloverdrum.a && target/panel
  *
  * docs/BOARD.md has it for a board. */

@@ -1,4 +1,4 @@
-"""How proof files are written: short chains of `.before`, short lines, and a first line that says the idea."""
+"""How proof files are written: short chains of `.before`, short lines, and a first line that says the idea, once for a function's two files."""
 
 import re
 
@@ -7,6 +7,14 @@ from checks.tree import CRATES, relative
 MOST_STEPS = 6
 LONGEST_LINE = 240
 CHAIN = re.compile(r"\.before\b(?:\s*\.before\b)*")
+# A function's invariants and measures, and the answers to its goals.
+OTHER = {"Answers.antt": "Invariants.antt", "Invariants.antt": "Answers.antt"}
+
+
+def says_idea(proof):
+    """Whether the other file of the same function does."""
+    other = proof.with_name(OTHER.get(proof.name, proof.name))
+    return other != proof and other.exists() and other.read_text().startswith("-- ")
 
 
 def faults():
@@ -20,5 +28,5 @@ def faults():
         for number, line in enumerate(text.splitlines(), 1):
             if len(line) > LONGEST_LINE:
                 yield f"{name}:{number} has {len(line)} characters, over {LONGEST_LINE}"
-        if proof.name != "Lib.antt" and not text.startswith("-- "):
+        if proof.name != "Lib.antt" and not text.startswith("-- ") and not says_idea(proof):
             yield f"{name} has no comment as its first line"

@@ -4,8 +4,8 @@ import re
 
 from checks.tree import CRATES, NOT_CODE, functions
 
-# A name brought in; a call, by a method or by a path.
-USE = re.compile(r"^use ((?:\w+::)+)(\w+);", re.M)
+# Names brought in; a call, by a method or by a path.
+USE = re.compile(r"^use ((?:\w+::)+)(\w+|\{[^}]*\});", re.M)
 CALL = re.compile(r"(\.)?((?:\w+::)*\w+)\(")
 
 
@@ -21,7 +21,7 @@ def called(crate, brought, body):
 
 def brought_in(source):
     text = NOT_CODE.sub("", source.read_text())
-    return {name: [*path.split("::")[:-1], name] for path, name in USE.findall(text)}
+    return {name: [*path.split("::")[:-1], name] for path, names in USE.findall(text) for name in re.findall(r"\w+", names)}
 
 
 def faults():

@@ -11,12 +11,12 @@ HEADER = ROOT / "include" / "cloverdrum.h"
 # Documents that others wrote, which stand as they came.
 GIVEN = [DOCS / "01-scope.md", DOCS / "02-change-requests.md"]
 
-# A floor of crates.txt, `# Name: what it is.`, and a crate below it, `name: the crates that it needs`.
+# A floor of crates.txt, `# Name: what it is.`, and a crate below it, `name: the crates that it needs`, or `name staticlib: ..`.
 FLOOR = re.compile(r"^# (\w+): (.*?)\.?$")
-CRATE = re.compile(r"^(\w+):")
+CRATE = re.compile(r"^(\w+)(?: staticlib)?:")
 
 # A source as `rt fmt` lays it out: what is no code; the methods of a type; a function, to the brace below it.
-NOT_CODE = re.compile(r'b"(?:[^"\\]|\\.)*"|//[^\n]*|⌜[^⌝]*⌝', re.S)
+NOT_CODE = re.compile(r'b"(?:[^"\\]|\\.)*"|//[^\n]*|^ *(?:requires|ensures)\b[^\n]*', re.M | re.S)
 IMPL = re.compile(r"^impl (\w+) \{\n(.*?)^\}", re.M | re.S)
 FUNCTION = re.compile(r'^( *)(?:(pub(?:\(crate\))?) )?(extern "C" )?fn (\w+)(.*?)^\1\}', re.M | re.S)
 

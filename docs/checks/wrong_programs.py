@@ -7,7 +7,7 @@ from checks.tree import CRATES, DOCS, STATEMENT, edits, floors, functions, publi
 PAGE = DOCS / "WRONG-PROGRAMS.md"
 # The bullets of document 01's traps; a contract's clause; a definition or law that an edit is for.
 TRAPS = re.compile(r"^## Traps in the method\n\n((?:- .*\n)+)", re.M)
-CLAUSE = re.compile(r"^ *(?:ensures|requires) \{.*$", re.M)
+CLAUSE = re.compile(r"^ *(?:ensures|requires)(?: \w+)? \{.*$", re.M)
 STATED = re.compile(r"(\w+)/specs/(\w+)\.([^\s.]+)")
 # A constant of code.
 CONSTANT = re.compile(r"\b[A-Z]{2}[A-Z0-9_]*\b")

@@ -12,27 +12,32 @@ from . import TOOLS
 CRATES = """\
 # What ranges needs, and what it does not.
 low:
-high: low io # a comment
+high: low csv # a comment
 aside: high
-program_ranges: low high io libc
+program_ranges: low high csv
 """
 RT = """\
 #!/bin/sh
-[ "$*" = "check program_ranges" ] || exit 2
-echo "rt: low proved (unchanged since it was last proved)"
-echo "logic=proved"
-echo "rt: high proved (12 s)"
-echo "rt: program_ranges proved (3 s)"
-mkdir -p target/bin
-cp program target/bin/program_ranges
-echo "rt: program_ranges ran, and wrote what its file 'stdout' has (0 s)"
-echo "rt: ok, 3 crates proved"
+[ "$* in ${PWD##*/}" = "run in program_ranges" ] || exit 2
+exec 3>&1 >&2
+echo "rt: chose --jobs 2 for low"
+echo "fn low::next: proved"
+echo "logic=proved functions=1 sum=0"
+echo "rt: chose --jobs 2 for high"
+echo "logic=proved functions=2 sum=0"
+echo "rt: chose --jobs 2 for program_ranges"
+echo "logic=proved functions=3 sum=0"
+mkdir -p out
+cp ../../program out/program_ranges
+echo "rt: running out/program_ranges; to give it other input, run that file yourself"
+echo "refused 11" >&3
 """
 FAILING_RT = """\
 #!/bin/sh
-echo "rt: low proved (2 s)"
+echo "rt: chose --jobs 2 for low" >&2
+echo "logic=proved functions=1 sum=0" >&2
 echo "high.rt:7: error: no" >&2
-echo "rt: high NOT PROVED (exit 1, 1 s)"
+echo "rt: the library high did not build, so nothing above it was checked" >&2
 exit 1
 """
 PROGRAM = """\
@@ -40,17 +45,18 @@ PROGRAM = """\
 cat
 """
 PROVING = """\
-ranges: proving 3 crates and building the program (once, about 3 minutes on two cores)
-ranges: 1 of 3 crates proved: low
-ranges: 2 of 3 crates proved: high
-ranges: 3 of 3 crates proved: program_ranges
+ranges: proving up to 3 crates and building the program (once, some minutes on two cores)
+ranges: 1 of up to 3 crates proved: low
+ranges: 2 of up to 3 crates proved: high
+ranges: 3 of up to 3 crates proved: program_ranges
 """
 FAILED = """\
-ranges: proving 3 crates and building the program (once, about 3 minutes on two cores)
-ranges: 1 of 3 crates proved: low
-rt: low proved (2 s)
+ranges: proving up to 3 crates and building the program (once, some minutes on two cores)
+ranges: 1 of up to 3 crates proved: low
+rt: chose --jobs 2 for low
+logic=proved functions=1 sum=0
 high.rt:7: error: no
-rt: high NOT PROVED (exit 1, 1 s)
+rt: the library high did not build, so nothing above it was checked
 ranges: the program can't be proved and built
 """
 TEXT = b"total 1 2\nday 0 1 2\n"
@@ -61,7 +67,7 @@ class RangesCommand(unittest.TestCase):
         folder = TemporaryDirectory()
         self.addCleanup(folder.cleanup)
         self.root = Path(folder.name) / "a root"
-        (self.root / "crates").mkdir(parents=True)
+        (self.root / "crates/program_ranges").mkdir(parents=True)
         (self.root / "crates.txt").write_text(CRATES)
         (self.root / "file").write_bytes(TEXT)
         shutil.copy(TOOLS.parent / "ranges", self.root)
@@ -88,21 +94,32 @@ class RangesCommand(unittest.TestCase):
         self.assertEqual(self.run_ranges(data=TEXT), (0, TEXT.decode(), PROVING))
         self.assertEqual(self.run_ranges(data=TEXT), (0, TEXT.decode(), ""))
 
+    def make_newer(self, name: str) -> None:
+        """Makes a file newer than the program."""
+        path = self.root / name
+        path.parent.mkdir(parents=True, exist_ok=True)
+        path.touch()
+        newer = (self.root / "target/bin/program_ranges").stat().st_mtime + 1
+        os.utime(path, (newer, newer))
+
     def test_newer_sources_are_proved(self):
+        for name in ("crates.txt", "crates/low/src/lib.rt"):
+            with self.subTest(name):
+                self.run_ranges()
+                self.make_newer(name)
+                self.assertEqual(self.run_ranges(data=TEXT)[2], PROVING)
+                (self.root / "target/bin/program_ranges").unlink()
+                os.utime(self.root / name, (0, 0))
+
+    def test_what_rt_keeps_is_no_source(self):
         self.run_ranges()
-        program = self.root / "target/bin/program_ranges"
-        newer = program.stat().st_mtime + 1
-        os.utime(self.root / "crates.txt", (newer, newer))
-        self.assertEqual(self.run_ranges(data=TEXT)[2], PROVING)
+        self.make_newer("crates/low/out/rlib/stamp")
+        self.assertEqual(self.run_ranges(data=TEXT), (0, TEXT.decode(), ""))
 
     def test_a_program_that_is_gone_is_built_again(self):
         self.run_ranges()
-        stamp = self.root / "target/stamp/program_ranges"
-        stamp.parent.mkdir()
-        stamp.touch()
         (self.root / "target/bin/program_ranges").unlink()
         self.assertEqual(self.run_ranges(data=TEXT), (0, TEXT.decode(), PROVING))
-        self.assertFalse(stamp.exists())
 
     def test_a_failing_proof(self):
         self.write_script("rt", FAILING_RT)

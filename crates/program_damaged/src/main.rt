@@ -8,6 +8,7 @@ mod writing;
 
 ghost use Rattle.std.specs.Prelude.{◌<◌, ◌≤◌, length};
 
+use std::io;
 use tally::Tally;
 
 // Document 01's file, examples/doc01.profile: header, first counted day, days, cuts.
@@ -82,11 +83,12 @@ fn changed(file: &[u8]) -> Tally
     t
 }
 
-fn main() {
+fn main(rt: HostRuntime) -> io::Result<()> {
+    let mut out = rt.stdout();
     let doc01 = DOC01;
-    tally::print(b"doc01 truncated: ", truncated(&doc01));
-    tally::print(b"doc01 changed: ", changed(&doc01));
+    tally::print(&mut out, b"doc01 truncated: ", truncated(&doc01))?;
+    tally::print(&mut out, b"doc01 changed: ", changed(&doc01))?;
     let too_warm = TOO_WARM;
-    tally::print(b"too_warm truncated: ", truncated(&too_warm));
-    tally::print(b"too_warm changed: ", changed(&too_warm));
+    tally::print(&mut out, b"too_warm truncated: ", truncated(&too_warm))?;
+    tally::print(&mut out, b"too_warm changed: ", changed(&too_warm))
 }

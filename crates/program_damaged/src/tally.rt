@@ -2,6 +2,8 @@
 ghost use Rattle.std.specs.Prelude.{◌≤◌};
 
 use crate::{endings, judge, writing};
+use std::io;
+use std::io::{Stdout, Write};
 
 // How many files; how often the reader answers each number, the text, and the writer of what was read, 0 for none; how many differences.
 #[derive(Clone, Copy)]
@@ -82,38 +84,40 @@ pub(crate) fn noted(t: Tally, file: &[u8]) -> Tally {
 
 // ---- printing
 
-fn print_count(label: &[u8], x: usize) {
-    io::write_all(1, label);
-    io::print_decimal(1, x as u64);
+fn print_count(out: &mut Stdout, label: &[u8], x: usize) -> io::Result<()> {
+    out.write_all(label)?;
+    write!(out, "{x}")
 }
 
-fn print_refused(number: usize, times: usize) {
+fn print_refused(out: &mut Stdout, number: usize, times: usize) -> io::Result<()> {
     if 0 < times {
-        print_count(b", refused ", number);
-        print_count(b": ", times);
+        print_count(out, b", refused ", number)?;
+        print_count(out, b": ", times)?;
     }
+    Ok(())
 }
 
 // The refusals that occur.
-fn print_refusals(counts: &[usize; 14]) {
+fn print_refusals(out: &mut Stdout, counts: &[usize; 14]) -> io::Result<()> {
     let mut k = 1;
     while k < 14 {
-        print_refused(k, counts[k]);
+        print_refused(out, k, counts[k])?;
         k += 1;
     }
+    Ok(())
 }
 
-pub(crate) fn print(label: &[u8], t: Tally) {
+pub(crate) fn print(out: &mut Stdout, label: &[u8], t: Tally) -> io::Result<()> {
     let read = t.read;
     let ended = t.ended;
     let written = t.written;
-    print_count(label, t.files);
-    print_count(b", taken: ", read[0]);
-    print_refusals(&read);
-    print_count(b"\nranges: ", ended[0]);
-    print_refusals(&ended);
-    print_count(b"\nwritten back: ", written[0]);
-    print_refusals(&written);
-    print_count(b", differences: ", t.differences);
-    io::write_all(1, b"\n");
+    print_count(out, label, t.files)?;
+    print_count(out, b", taken: ", read[0])?;
+    print_refusals(out, &read)?;
+    print_count(out, b"\nranges: ", ended[0])?;
+    print_refusals(out, &ended)?;
+    print_count(out, b"\nwritten back: ", written[0])?;
+    print_refusals(out, &written)?;
+    print_count(out, b", differences: ", t.differences)?;
+    out.write_all(b"\n")
 }

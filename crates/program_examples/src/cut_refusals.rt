@@ -2,6 +2,7 @@
 ghost use Rattle.std.specs.Prelude.{◌≤◌};
 ghost use Rattle.session.specs.Showing.{SessionInBounds};
 
+use crate::output::Output;
 use crate::{line, open};
 use session::{Numbers, Session};
 use session_cuts::Cut;
@@ -76,78 +77,112 @@ fn without_day(cut: Cut) -> u8 {
     answer.refusal
 }
 
-fn days() {
-    line(b"cut of kind 4: ", of_a(UNKNOWN, 0, 0, DAYS));
-    line(b"cut of day 2: ", of_a(DAY_FLOOR, 2, 0, DAYS));
-    line(b"cut of day 3: ", of_a(DAY_FLOOR, 3, 0, DAYS));
-    line(b"cut of day 0 to 4000: ", of_a(DAY_FLOOR, 0, 4000, DAYS));
-    line(b"cut of day 0 to 4001: ", of_a(DAY_FLOOR, 0, 4001, DAYS));
-    line(b"cut of day 0 to -1000: ", of_a(DAY_FLOOR, 0, -1000, DAYS));
-    line(b"cut of day 0 to -1001: ", of_a(DAY_FLOOR, 0, -1001, DAYS));
-    line(b"list of 2 places: ", of_a(DAY_FLOOR, 0, 3, 2));
+fn days(out: &mut Output) {
+    line(out, b"cut of kind 4: ", of_a(UNKNOWN, 0, 0, DAYS));
+    line(out, b"cut of day 2: ", of_a(DAY_FLOOR, 2, 0, DAYS));
+    line(out, b"cut of day 3: ", of_a(DAY_FLOOR, 3, 0, DAYS));
+    line(
+        out,
+        b"cut of day 0 to 4000: ",
+        of_a(DAY_FLOOR, 0, 4000, DAYS),
+    );
+    line(
+        out,
+        b"cut of day 0 to 4001: ",
+        of_a(DAY_FLOOR, 0, 4001, DAYS),
+    );
+    line(
+        out,
+        b"cut of day 0 to -1000: ",
+        of_a(DAY_FLOOR, 0, -1000, DAYS),
+    );
+    line(
+        out,
+        b"cut of day 0 to -1001: ",
+        of_a(DAY_FLOOR, 0, -1001, DAYS),
+    );
+    line(out, b"list of 2 places: ", of_a(DAY_FLOOR, 0, 3, 2));
 }
 
-fn totals() {
-    line(b"total cut with day 1: ", of_a(TOTAL_FLOOR, 1, 0, DAYS));
+fn totals(out: &mut Output) {
     line(
+        out,
+        b"total cut with day 1: ",
+        of_a(TOTAL_FLOOR, 1, 0, DAYS),
+    );
+    line(
+        out,
         b"total cut to 2048000: ",
         of_a(TOTAL_FLOOR, 0, 2048000, DAYS),
     );
     line(
+        out,
         b"total cut to 2048001: ",
         of_a(TOTAL_FLOOR, 0, 2048001, DAYS),
     );
     line(
+        out,
         b"total cut to -512000: ",
         of_a(TOTAL_FLOOR, 0, -512000, DAYS),
     );
     line(
+        out,
         b"total cut to -512001: ",
         of_a(TOTAL_FLOOR, 0, -512001, DAYS),
     );
 }
 
 // Day 0 is not refused, and each kind is the one that was asked for.
-fn without_days() {
+fn without_days(out: &mut Output) {
     line(
+        out,
         b"total floor 12 without a day: ",
         without_day(Cut::total_floor(12)),
     );
     line(
+        out,
         b"total floor 13 without a day: ",
         without_day(Cut::total_floor(13)),
     );
     line(
+        out,
         b"total ceiling 10 without a day: ",
         without_day(Cut::total_ceiling(10)),
     );
     line(
+        out,
         b"total ceiling 9 without a day: ",
         without_day(Cut::total_ceiling(9)),
     );
 }
 
 // The first cut has every cause of a refusal that a cut can have at once, each later one a cause fewer.
-fn order() {
+fn order(out: &mut Output) {
     line(
+        out,
         b"spent, list of 2 places, kind 4, day 3, value 2048001: ",
         of_spent(UNKNOWN, 3, 2048001, 2),
     );
-    line(b"of the total: ", of_spent(TOTAL_FLOOR, 3, 2048001, 2));
-    line(b"of a day: ", of_spent(DAY_FLOOR, 3, 2048001, 2));
-    line(b"of day 0: ", of_spent(DAY_FLOOR, 0, 2048001, 2));
+    line(out, b"of the total: ", of_spent(TOTAL_FLOOR, 3, 2048001, 2));
+    line(out, b"of a day: ", of_spent(DAY_FLOOR, 3, 2048001, 2));
+    line(out, b"of day 0: ", of_spent(DAY_FLOOR, 0, 2048001, 2));
     line(
+        out,
         b"of the total, day 0: ",
         of_spent(TOTAL_FLOOR, 0, 2048001, 2),
     );
-    line(b"value 13: ", of_spent(TOTAL_FLOOR, 0, 13, 2));
-    line(b"list of 3 places: ", of_spent(TOTAL_FLOOR, 0, 13, DAYS));
-    line(b"not spent: ", of_a(TOTAL_FLOOR, 0, 13, DAYS));
+    line(out, b"value 13: ", of_spent(TOTAL_FLOOR, 0, 13, 2));
+    line(
+        out,
+        b"list of 3 places: ",
+        of_spent(TOTAL_FLOOR, 0, 13, DAYS),
+    );
+    line(out, b"not spent: ", of_a(TOTAL_FLOOR, 0, 13, DAYS));
 }
 
-pub(crate) fn print() {
-    days();
-    totals();
-    without_days();
-    order();
+pub(crate) fn print(out: &mut Output) {
+    days(out);
+    totals(out);
+    without_days(out);
+    order(out);
 }

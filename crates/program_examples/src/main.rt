@@ -4,6 +4,7 @@
 
 mod cut_refusals;
 mod filling_days;
+mod output;
 mod refusals;
 mod schedule_refusals;
 mod settled_order;
@@ -11,7 +12,9 @@ mod sheets;
 
 ghost use Rattle.session.specs.Showing.{SessionInBounds};
 
+use output::Output;
 use session::{Numbers, Opened, Session};
+use std::io;
 
 pub(crate) fn open(numbers: Numbers, floors: &[i16], ceilings: &[i16], rises: &[i16]) -> Opened
     ensures { SessionInBounds result.session }
@@ -19,23 +22,25 @@ pub(crate) fn open(numbers: Numbers, floors: &[i16], ceilings: &[i16], rises: &[
     Session::open(numbers, floors, ceilings, rises)
 }
 
-pub(crate) fn numbered(text: &[u8], number: usize) {
-    io::write_all(1, text);
-    io::print_decimal(1, number as u64);
-    io::write_all(1, b"\n");
+pub(crate) fn numbered(out: &mut Output, text: &[u8], number: usize) {
+    out.text(text);
+    out.decimal(number as u64);
+    out.text(b"\n");
 }
 
 // A line ends with the refusal, 0 for none.
-pub(crate) fn line(text: &[u8], refusal: u8) {
-    numbered(text, refusal as usize);
+pub(crate) fn line(out: &mut Output, text: &[u8], refusal: u8) {
+    numbered(out, text, refusal as usize);
 }
 
-fn main() {
-    refusals::print();
-    filling_days::print_profiles();
-    cut_refusals::print();
-    settled_order::print();
-    sheets::print();
-    schedule_refusals::print();
-    filling_days::print_schedules();
+fn main(rt: HostRuntime) -> io::Result<()> {
+    let mut out = Output::new(rt.stdout());
+    refusals::print(&mut out);
+    filling_days::print_profiles(&mut out);
+    cut_refusals::print(&mut out);
+    settled_order::print(&mut out);
+    sheets::print(&mut out);
+    schedule_refusals::print(&mut out);
+    filling_days::print_schedules(&mut out);
+    out.end()
 }

@@ -1,6 +1,7 @@
 // One line for each bound of an entry and each refusal of opening.
 ghost use Rattle.std.specs.Prelude.{◌≤◌, max, length};
 
+use crate::output::Output;
 use crate::{line, open};
 use session::Numbers;
 
@@ -37,21 +38,21 @@ fn lengths(zeros: &[i16], days: usize, floors: usize, ceilings: usize, rises: us
     )
 }
 
-fn day_counts() {
+fn day_counts(out: &mut Output) {
     let zeros = [0i16; 513];
-    line(b"0 days: ", lengths(&zeros, 0, 0, 0, 0));
-    line(b"512 days: ", lengths(&zeros, 512, 512, 512, 511));
-    line(b"513 days: ", lengths(&zeros, 513, 513, 513, 512));
+    line(out, b"0 days: ", lengths(&zeros, 0, 0, 0, 0));
+    line(out, b"512 days: ", lengths(&zeros, 512, 512, 512, 511));
+    line(out, b"513 days: ", lengths(&zeros, 513, 513, 513, 512));
 }
 
-fn list_lengths() {
+fn list_lengths(out: &mut Output) {
     let zeros = [0i16; 3];
-    line(b"2 days, 1 floor: ", lengths(&zeros, 2, 1, 2, 1));
-    line(b"2 days, 3 floors: ", lengths(&zeros, 2, 3, 2, 1));
-    line(b"2 days, 1 ceiling: ", lengths(&zeros, 2, 2, 1, 1));
-    line(b"2 days, 3 ceilings: ", lengths(&zeros, 2, 2, 3, 1));
-    line(b"2 days, 0 rises: ", lengths(&zeros, 2, 2, 2, 0));
-    line(b"2 days, 2 rises: ", lengths(&zeros, 2, 2, 2, 2));
+    line(out, b"2 days, 1 floor: ", lengths(&zeros, 2, 1, 2, 1));
+    line(out, b"2 days, 3 floors: ", lengths(&zeros, 2, 3, 2, 1));
+    line(out, b"2 days, 1 ceiling: ", lengths(&zeros, 2, 2, 1, 1));
+    line(out, b"2 days, 3 ceilings: ", lengths(&zeros, 2, 2, 3, 1));
+    line(out, b"2 days, 0 rises: ", lengths(&zeros, 2, 2, 2, 0));
+    line(out, b"2 days, 2 rises: ", lengths(&zeros, 2, 2, 2, 2));
 }
 
 // One day from floor to ceiling.
@@ -62,11 +63,11 @@ fn day(floor: i16, ceiling: i16, lowest: i32, highest: i32) -> u8 {
     refusal(1, &floors, &ceilings, &rises, lowest, highest)
 }
 
-fn points() {
-    line(b"point 4000: ", day(4000, 4000, 4000, 4000));
-    line(b"point 4001: ", day(4001, 4001, 4001, 4001));
-    line(b"point -1000: ", day(-1000, -1000, -1000, -1000));
-    line(b"point -1001: ", day(-1001, -1001, -1001, -1001));
+fn points(out: &mut Output) {
+    line(out, b"point 4000: ", day(4000, 4000, 4000, 4000));
+    line(out, b"point 4001: ", day(4001, 4001, 4001, 4001));
+    line(out, b"point -1000: ", day(-1000, -1000, -1000, -1000));
+    line(out, b"point -1001: ", day(-1001, -1001, -1001, -1001));
 }
 
 // Two days of the widest range.
@@ -77,39 +78,43 @@ fn rise(rise: i16) -> u8 {
     refusal(2, &floors, &ceilings, &rises, -512000, 2048000)
 }
 
-fn rises() {
-    line(b"rise 2000: ", rise(2000));
-    line(b"rise 2001: ", rise(2001));
-    line(b"rise -2000: ", rise(-2000));
-    line(b"rise -2001: ", rise(-2001));
+fn rises(out: &mut Output) {
+    line(out, b"rise 2000: ", rise(2000));
+    line(out, b"rise 2001: ", rise(2001));
+    line(out, b"rise -2000: ", rise(-2000));
+    line(out, b"rise -2001: ", rise(-2001));
 }
 
-fn totals() {
+fn totals(out: &mut Output) {
     line(
+        out,
         b"total -512000..2048000: ",
         day(-1000, 4000, -512000, 2048000),
     );
     line(
+        out,
         b"total -512001..2048000: ",
         day(-1000, 4000, -512001, 2048000),
     );
     line(
+        out,
         b"total -512000..2048001: ",
         day(-1000, 4000, -512000, 2048001),
     );
 }
 
-fn crossed() {
-    line(b"day 1..0: ", day(1, 0, 0, 1));
-    line(b"total 1..0: ", day(0, 1, 1, 0));
+fn crossed(out: &mut Output) {
+    line(out, b"day 1..0: ", day(1, 0, 0, 1));
+    line(out, b"total 1..0: ", day(0, 1, 1, 0));
 }
 
-fn none() {
-    line(b"day 3..8, total 9..9: ", day(3, 8, 9, 9));
+fn none(out: &mut Output) {
+    line(out, b"day 3..8, total 9..9: ", day(3, 8, 9, 9));
     let floors = [5i16, 0];
     let ceilings = [9i16, 4];
     let rises = [0i16];
     line(
+        out,
         b"days 5..9 and 0..4, rise 0: ",
         refusal(2, &floors, &ceilings, &rises, 0, 20),
     );
@@ -151,23 +156,23 @@ fn cause_at(place: u8) -> u8 {
 }
 
 // No cause comes after 8.
-fn order() {
+fn order(out: &mut Output) {
     let mut place = 1;
     while place < 10 {
-        io::write_all(1, b"causes from ");
-        io::print_decimal(1, cause_at(place) as u64);
-        line(b" on: ", causes_from(place));
+        out.text(b"causes from ");
+        out.decimal(cause_at(place) as u64);
+        line(out, b" on: ", causes_from(place));
         place += 1;
     }
 }
 
-pub(crate) fn print() {
-    day_counts();
-    points();
-    list_lengths();
-    rises();
-    totals();
-    crossed();
-    none();
-    order();
+pub(crate) fn print(out: &mut Output) {
+    day_counts(out);
+    points(out);
+    list_lengths(out);
+    rises(out);
+    totals(out);
+    crossed(out);
+    none(out);
+    order(out);
 }

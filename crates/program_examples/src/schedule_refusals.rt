@@ -4,6 +4,7 @@ ghost use Rattle.std.specs.Prelude.{◌≤◌};
 ghost use Rattle.session.specs.Showing.{SessionInBounds};
 
 use crate::cut_refusals::{DAYS, profile_a, spent};
+use crate::output::Output;
 use crate::{line, numbered};
 use schedule_inspection::Inspection;
 use session::Session;
@@ -23,54 +24,60 @@ fn day_of_a(day: usize, value: i32, room: usize) -> u8
     on_day(profile_a(), day, value, room)
 }
 
-fn days() {
-    line(b"schedule with 1 on day 0: ", day_of_a(0, 1, DAYS));
-    line(b"schedule with 2 on day 0: ", day_of_a(0, 2, DAYS));
-    line(b"schedule with 4 on day 0: ", day_of_a(0, 4, DAYS));
-    line(b"schedule with 5 on day 0: ", day_of_a(0, 5, DAYS));
-    line(b"schedule with 3 on day 2: ", day_of_a(2, 3, DAYS));
-    line(b"schedule with 4 on day 2: ", day_of_a(2, 4, DAYS));
-    line(b"schedule with 6 on day 2: ", day_of_a(2, 6, DAYS));
-    line(b"schedule with 7 on day 2: ", day_of_a(2, 7, DAYS));
-    line(b"schedule with 4 on day 3: ", day_of_a(3, 4, DAYS));
+fn days(out: &mut Output) {
+    line(out, b"schedule with 1 on day 0: ", day_of_a(0, 1, DAYS));
+    line(out, b"schedule with 2 on day 0: ", day_of_a(0, 2, DAYS));
+    line(out, b"schedule with 4 on day 0: ", day_of_a(0, 4, DAYS));
+    line(out, b"schedule with 5 on day 0: ", day_of_a(0, 5, DAYS));
+    line(out, b"schedule with 3 on day 2: ", day_of_a(2, 3, DAYS));
+    line(out, b"schedule with 4 on day 2: ", day_of_a(2, 4, DAYS));
+    line(out, b"schedule with 6 on day 2: ", day_of_a(2, 6, DAYS));
+    line(out, b"schedule with 7 on day 2: ", day_of_a(2, 7, DAYS));
+    line(out, b"schedule with 4 on day 3: ", day_of_a(3, 4, DAYS));
 }
 
-fn day_extremes() {
+fn day_extremes(out: &mut Output) {
     line(
+        out,
         b"schedule with -2147483648 on day 0: ",
         day_of_a(0, -2147483648, DAYS),
     );
     line(
+        out,
         b"schedule with 2147483647 on day 0: ",
         day_of_a(0, 2147483647, DAYS),
     );
 }
 
-fn day_lists() {
+fn day_lists(out: &mut Output) {
     line(
+        out,
         b"schedule with 3 on day 0, list of 2 places: ",
         day_of_a(0, 3, 2),
     );
     line(
+        out,
         b"schedule with 3 on day 0, list of 3 places: ",
         day_of_a(0, 3, 3),
     );
     line(
+        out,
         b"schedule with 3 on day 0, list of 4 places: ",
         day_of_a(0, 3, 4),
     );
 }
 
 // The first has every cause of a refusal at once, each later one a cause fewer.
-fn day_order() {
+fn day_order(out: &mut Output) {
     line(
+        out,
         b"spent, list of 2 places, day 3, value 7: ",
         on_day(spent(), 3, 7, 2),
     );
-    line(b"list of 3 places: ", on_day(spent(), 3, 7, DAYS));
-    line(b"day 2: ", on_day(spent(), 2, 7, DAYS));
-    line(b"not spent: ", day_of_a(2, 7, DAYS));
-    line(b"value 6: ", day_of_a(2, 6, DAYS));
+    line(out, b"list of 3 places: ", on_day(spent(), 3, 7, DAYS));
+    line(out, b"day 2: ", on_day(spent(), 2, 7, DAYS));
+    line(out, b"not spent: ", day_of_a(2, 7, DAYS));
+    line(out, b"value 6: ", day_of_a(2, 6, DAYS));
 }
 
 // ---- for the total
@@ -88,121 +95,123 @@ fn total_of_a(value: i32, room: usize) -> u8
     with_total(profile_a(), value, room)
 }
 
-fn totals() {
-    line(b"schedule with total 9: ", total_of_a(9, DAYS));
-    line(b"schedule with total 10: ", total_of_a(10, DAYS));
-    line(b"schedule with total 12: ", total_of_a(12, DAYS));
-    line(b"schedule with total 13: ", total_of_a(13, DAYS));
+fn totals(out: &mut Output) {
+    line(out, b"schedule with total 9: ", total_of_a(9, DAYS));
+    line(out, b"schedule with total 10: ", total_of_a(10, DAYS));
+    line(out, b"schedule with total 12: ", total_of_a(12, DAYS));
+    line(out, b"schedule with total 13: ", total_of_a(13, DAYS));
     line(
+        out,
         b"schedule with total -2147483648: ",
         total_of_a(-2147483648, DAYS),
     );
     line(
+        out,
         b"schedule with total 2147483647: ",
         total_of_a(2147483647, DAYS),
     );
 }
 
-fn total_lists() {
+fn total_lists(out: &mut Output) {
     line(
+        out,
         b"schedule with total 11, list of 2 places: ",
         total_of_a(11, 2),
     );
     line(
+        out,
         b"schedule with total 11, list of 3 places: ",
         total_of_a(11, 3),
     );
     line(
+        out,
         b"schedule with total 11, list of 4 places: ",
         total_of_a(11, 4),
     );
 }
 
-fn total_order() {
+fn total_order(out: &mut Output) {
     line(
+        out,
         b"spent, list of 2 places, total 13: ",
         with_total(spent(), 13, 2),
     );
-    line(b"list of 3 places: ", with_total(spent(), 13, DAYS));
-    line(b"not spent: ", total_of_a(13, DAYS));
-    line(b"total 12: ", total_of_a(12, DAYS));
+    line(out, b"list of 3 places: ", with_total(spent(), 13, DAYS));
+    line(out, b"not spent: ", total_of_a(13, DAYS));
+    line(out, b"total 12: ", total_of_a(12, DAYS));
 }
 
 // ---- inspected
 
-fn print_answer(answer: Inspection) {
+fn print_answer(out: &mut Output, answer: Inspection) {
     match answer {
-        Inspection::WrongLength => line(b"", 2),
-        Inspection::Spent => line(b"", 9),
-        Inspection::Kept => {
-            io::write_all(1, b"kept\n");
-        }
-        Inspection::BrokenDay(day) => numbered(b"day ", day),
-        Inspection::BrokenRise(rise) => numbered(b"rise ", rise),
-        Inspection::BrokenTotal => {
-            io::write_all(1, b"total\n");
-        }
+        Inspection::WrongLength => line(out, b"", 2),
+        Inspection::Spent => line(out, b"", 9),
+        Inspection::Kept => out.text(b"kept\n"),
+        Inspection::BrokenDay(day) => numbered(out, b"day ", day),
+        Inspection::BrokenRise(rise) => numbered(out, b"rise ", rise),
+        Inspection::BrokenTotal => out.text(b"total\n"),
     }
 }
 
-pub(crate) fn inspected(text: &[u8], session: Session, list: &[i16])
+pub(crate) fn inspected(out: &mut Output, text: &[u8], session: Session, list: &[i16])
     requires { SessionInBounds session }
 {
-    io::write_all(1, text);
-    print_answer(schedule_inspection::inspect(session, list));
+    out.text(text);
+    print_answer(out, schedule_inspection::inspect(session, list));
 }
 
-fn of_a(text: &[u8], x: i16, y: i16, z: i16) {
+fn of_a(out: &mut Output, text: &[u8], x: i16, y: i16, z: i16) {
     let list = [x, y, z];
-    inspected(text, profile_a(), &list);
+    inspected(out, text, profile_a(), &list);
 }
 
-fn setpoints() {
-    of_a(b"setpoints 1, 4, 6: ", 1, 4, 6);
-    of_a(b"setpoints 2, 4, 6: ", 2, 4, 6);
-    of_a(b"setpoints 4, 4, 4: ", 4, 4, 4);
-    of_a(b"setpoints 5, 4, 4: ", 5, 4, 4);
-    of_a(b"setpoints 2, 4, 3: ", 2, 4, 3);
-    of_a(b"setpoints 2, 4, 7: ", 2, 4, 7);
+fn setpoints(out: &mut Output) {
+    of_a(out, b"setpoints 1, 4, 6: ", 1, 4, 6);
+    of_a(out, b"setpoints 2, 4, 6: ", 2, 4, 6);
+    of_a(out, b"setpoints 4, 4, 4: ", 4, 4, 4);
+    of_a(out, b"setpoints 5, 4, 4: ", 5, 4, 4);
+    of_a(out, b"setpoints 2, 4, 3: ", 2, 4, 3);
+    of_a(out, b"setpoints 2, 4, 7: ", 2, 4, 7);
 }
 
-fn setpoint_extremes() {
-    of_a(b"setpoints -32768, 4, 4: ", -32768, 4, 4);
-    of_a(b"setpoints 32767, 4, 4: ", 32767, 4, 4);
-    of_a(b"setpoints 2, 4, -32768: ", 2, 4, -32768);
-    of_a(b"setpoints 2, 4, 32767: ", 2, 4, 32767);
+fn setpoint_extremes(out: &mut Output) {
+    of_a(out, b"setpoints -32768, 4, 4: ", -32768, 4, 4);
+    of_a(out, b"setpoints 32767, 4, 4: ", 32767, 4, 4);
+    of_a(out, b"setpoints 2, 4, -32768: ", 2, 4, -32768);
+    of_a(out, b"setpoints 2, 4, 32767: ", 2, 4, 32767);
 }
 
-fn setpoint_lists() {
+fn setpoint_lists(out: &mut Output) {
     let list = [2i16, 4, 4, 4];
-    inspected(b"setpoints 2, 4: ", profile_a(), &list[..2]);
-    inspected(b"setpoints 2, 4, 4: ", profile_a(), &list[..3]);
-    inspected(b"setpoints 2, 4, 4, 4: ", profile_a(), &list);
+    inspected(out, b"setpoints 2, 4: ", profile_a(), &list[..2]);
+    inspected(out, b"setpoints 2, 4, 4: ", profile_a(), &list[..3]);
+    inspected(out, b"setpoints 2, 4, 4, 4: ", profile_a(), &list);
 }
 
 // The first has every cause at once, each later one a cause fewer.
-fn rule_order() {
+fn rule_order(out: &mut Output) {
     let list = [5i16, 6, 3];
-    inspected(b"spent, setpoints 5, 6: ", spent(), &list[..2]);
-    inspected(b"setpoints 5, 6, 3: ", spent(), &list);
-    of_a(b"not spent: ", 5, 6, 3);
-    of_a(b"setpoints 4, 6, 3: ", 4, 6, 3);
-    of_a(b"setpoints 4, 5, 3: ", 4, 5, 3);
-    of_a(b"setpoints 4, 5, 4: ", 4, 5, 4);
-    of_a(b"setpoints 4, 5, 5: ", 4, 5, 5);
-    of_a(b"setpoints 4, 4, 4: ", 4, 4, 4);
+    inspected(out, b"spent, setpoints 5, 6: ", spent(), &list[..2]);
+    inspected(out, b"setpoints 5, 6, 3: ", spent(), &list);
+    of_a(out, b"not spent: ", 5, 6, 3);
+    of_a(out, b"setpoints 4, 6, 3: ", 4, 6, 3);
+    of_a(out, b"setpoints 4, 5, 3: ", 4, 5, 3);
+    of_a(out, b"setpoints 4, 5, 4: ", 4, 5, 4);
+    of_a(out, b"setpoints 4, 5, 5: ", 4, 5, 5);
+    of_a(out, b"setpoints 4, 4, 4: ", 4, 4, 4);
 }
 
-pub(crate) fn print() {
-    days();
-    day_extremes();
-    day_lists();
-    day_order();
-    totals();
-    total_lists();
-    total_order();
-    setpoints();
-    setpoint_extremes();
-    setpoint_lists();
-    rule_order();
+pub(crate) fn print(out: &mut Output) {
+    days(out);
+    day_extremes(out);
+    day_lists(out);
+    day_order(out);
+    totals(out);
+    total_lists(out);
+    total_order(out);
+    setpoints(out);
+    setpoint_extremes(out);
+    setpoint_lists(out);
+    rule_order(out);
 }

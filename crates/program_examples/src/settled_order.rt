@@ -4,6 +4,7 @@ ghost use Rattle.std.specs.Prelude.{◌≡◌, ◌≤◌, ◌<◌, length};
 ghost use Rattle.session.specs.Showing.{SessionInBounds};
 
 use crate::cut_refusals::profile_a;
+use crate::output::Output;
 use crate::{numbered, open};
 use base_codes::decode_short;
 use session::{Numbers, Session};
@@ -13,36 +14,36 @@ use session_cuts::Cut;
 
 pub const PLACES: usize = 4;
 
-fn print_place(day: u16) {
-    io::write_all(1, b" ");
-    io::print_decimal(1, day as u64);
+fn print_place(out: &mut Output, day: u16) {
+    out.text(b" ");
+    out.decimal(day as u64);
 }
 
-fn print_places(list: &[u16; PLACES]) {
+fn print_places(out: &mut Output, list: &[u16; PLACES]) {
     let mut i = 0;
     while i < PLACES {
-        print_place(list[i]);
+        print_place(out, list[i]);
         i += 1;
     }
 }
 
-pub(crate) fn print_list(text: &[u8], changed: usize, list: &[u16; PLACES]) {
-    io::write_all(1, text);
-    io::print_decimal(1, changed as u64);
-    io::write_all(1, b" changed,");
-    print_places(list);
-    io::write_all(1, b"\n");
+pub(crate) fn print_list(out: &mut Output, text: &[u8], changed: usize, list: &[u16; PLACES]) {
+    out.text(text);
+    out.decimal(changed as u64);
+    out.text(b" changed,");
+    print_places(out, list);
+    out.text(b"\n");
 }
 
 // Prints what a cut lists, and gives the session after it.
-fn print_cut(text: &[u8], session: Session, cut: Cut) -> Session
+fn print_cut(out: &mut Output, text: &[u8], session: Session, cut: Cut) -> Session
     requires { SessionInBounds session }
     ensures { SessionInBounds result }
 {
     let mut list = [9u16; PLACES];
     let after = session_cutting::cut(session, cut, &mut list);
     let answer = after.answer;
-    print_list(text, answer.changed, &list);
+    print_list(out, text, answer.changed, &list);
     after.session
 }
 
@@ -80,25 +81,47 @@ fn four_days() -> Session
     o.session
 }
 
-fn of_three_days() {
-    print_cut(b"A, day 0 at least 4: ", profile_a(), Cut::DayFloor(0, 4));
-    let after = print_cut(b"A, day 0 at least 3: ", profile_a(), Cut::DayFloor(0, 3));
-    print_cut(b"then total at most 11: ", after, Cut::total_ceiling(11));
+fn of_three_days(out: &mut Output) {
     print_cut(
+        out,
+        b"A, day 0 at least 4: ",
+        profile_a(),
+        Cut::DayFloor(0, 4),
+    );
+    let after = print_cut(
+        out,
+        b"A, day 0 at least 3: ",
+        profile_a(),
+        Cut::DayFloor(0, 3),
+    );
+    print_cut(
+        out,
+        b"then total at most 11: ",
+        after,
+        Cut::total_ceiling(11),
+    );
+    print_cut(
+        out,
         b"days 0..4, 0..10, 0..6, rises -10, total at most 5: ",
         three_days(),
         Cut::total_ceiling(5),
     );
 }
 
-fn of_four_days() {
+fn of_four_days(out: &mut Output) {
     print_cut(
+        out,
         b"four days 0..9, total at most 10: ",
         four_days(),
         Cut::total_ceiling(10),
     );
-    print_cut(b"day 2 at most 3: ", four_days(), Cut::DayCeiling(2, 3));
-    print_cut(b"day 1 at least 5: ", four_days(), Cut::DayFloor(1, 5));
+    print_cut(
+        out,
+        b"day 2 at most 3: ",
+        four_days(),
+        Cut::DayCeiling(2, 3),
+    );
+    print_cut(out, b"day 1 at least 5: ", four_days(), Cut::DayFloor(1, 5));
 }
 
 // ---- 512 days
@@ -176,22 +199,22 @@ fn in_order(equal: bool, list: &[u16; 512]) -> usize {
     count
 }
 
-fn print_many(text: &[u8], equal: bool) {
+fn print_many(out: &mut Output, text: &[u8], equal: bool) {
     let mut list = [512u16; 512];
     let after = session_cutting::cut(many_days(equal), Cut::total_ceiling(-512000), &mut list);
     let answer = after.answer;
-    io::write_all(1, text);
-    io::print_decimal(1, answer.changed as u64);
-    numbered(b" changed, before the next: ", in_order(equal, &list));
+    out.text(text);
+    out.decimal(answer.changed as u64);
+    numbered(out, b" changed, before the next: ", in_order(equal, &list));
 }
 
-fn of_many_days() {
-    print_many(b"512 days that lose 5: ", true);
-    print_many(b"512 days that lose 9 to 4608: ", false);
+fn of_many_days(out: &mut Output) {
+    print_many(out, b"512 days that lose 5: ", true);
+    print_many(out, b"512 days that lose 9 to 4608: ", false);
 }
 
-pub(crate) fn print() {
-    of_three_days();
-    of_four_days();
-    of_many_days();
+pub(crate) fn print(out: &mut Output) {
+    of_three_days(out);
+    of_four_days(out);
+    of_many_days(out);
 }

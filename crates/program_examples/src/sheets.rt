@@ -5,6 +5,7 @@ ghost use Rattle.session.specs.Showing.{SessionInBounds};
 
 use crate::cut_refusals::profile_a;
 use crate::filling_days::{print_number, print_ranges};
+use crate::output::Output;
 use crate::settled_order::{PLACES, print_list, three_days};
 use session::Session;
 use session_cuts::{Cut, Numbered};
@@ -12,76 +13,89 @@ use session_sheets::{AfterSheet, Answered, Asked, AskedSheet};
 
 // ---- what a sheet gives
 
-fn print_bound(text: &[u8], day: usize, bound: &[u8], value: i32) {
-    io::write_all(1, text);
-    io::print_decimal(1, day as u64);
-    io::write_all(1, bound);
-    print_number(value);
+fn print_bound(out: &mut Output, text: &[u8], day: usize, bound: &[u8], value: i32) {
+    out.text(text);
+    out.decimal(day as u64);
+    out.text(bound);
+    print_number(out, value);
 }
 
-fn print_known(cut: Cut) {
+fn print_known(out: &mut Output, cut: Cut) {
     match cut {
-        Cut::DayFloor(day, value) => print_bound(b"day ", day, b" at least ", value),
-        Cut::DayCeiling(day, value) => print_bound(b"day ", day, b" at most ", value),
-        Cut::TotalFloor(day, value) => print_bound(b"total with day ", day, b" at least ", value),
-        Cut::TotalCeiling(day, value) => print_bound(b"total with day ", day, b" at most ", value),
+        Cut::DayFloor(day, value) => print_bound(out, b"day ", day, b" at least ", value),
+        Cut::DayCeiling(day, value) => print_bound(out, b"day ", day, b" at most ", value),
+        Cut::TotalFloor(day, value) => print_bound(
+            out,
+            b"total with day ",
+            day,
+            b" at least ",
+            value,
+        ),
+        Cut::TotalCeiling(day, value) => print_bound(
+            out,
+            b"total with day ",
+            day,
+            b" at most ",
+            value,
+        ),
     }
 }
 
-fn print_asked(cut: Numbered) {
+fn print_asked(out: &mut Output, cut: Numbered) {
     let Numbered::Known(known) = cut else {
-        io::write_all(1, b"unknown kind");
+        out.text(b"unknown kind");
         return;
     };
-    print_known(known);
+    print_known(out, known);
 }
 
-fn print_answer(answered: Answered) {
+fn print_answer(out: &mut Output, answered: Answered) {
     let cut = answered.cut;
     let answer = answered.answer;
-    print_asked(cut);
-    io::write_all(1, b": ");
-    io::print_decimal(1, answer.refusal as u64);
-    io::write_all(1, b", ");
-    io::print_decimal(1, answer.changed as u64);
-    io::write_all(1, b" changed\n");
+    print_asked(out, cut);
+    out.text(b": ");
+    out.decimal(answer.refusal as u64);
+    out.text(b", ");
+    out.decimal(answer.changed as u64);
+    out.text(b" changed\n");
 }
 
-fn print_answers(count: usize, entries: [Answered; 512])
+fn print_answers(out: &mut Output, count: usize, entries: [Answered; 512])
     requires { count ≤ 512 }
 {
     let mut j = 0;
     while j < count {
-        print_answer(entries[j]);
+        print_answer(out, entries[j]);
         j += 1;
     }
 }
 
-fn print_end(session: Session)
+fn print_end(out: &mut Output, session: Session)
     requires { SessionInBounds session }
 {
     if session.spent {
-        io::write_all(1, b"spent: ");
+        out.text(b"spent: ");
     } else {
-        io::write_all(1, b"not spent: ");
+        out.text(b"not spent: ");
     }
-    print_ranges(session);
+    print_ranges(out, session);
 }
 
-fn print_after(text: &[u8], after: AfterSheet, list: &[u16; PLACES])
+fn print_after(out: &mut Output, text: &[u8], after: AfterSheet, list: &[u16; PLACES])
     requires { (after.answers.count ≤ 512) × SessionInBounds after.session }
 {
     let answers = after.answers;
     let entries = answers.entries;
-    io::write_all(1, text);
-    io::print_decimal(1, after.refusal as u64);
-    print_list(b", ", after.changed, list);
-    print_answers(answers.count, entries);
-    print_end(after.session);
+    out.text(text);
+    out.decimal(after.refusal as u64);
+    print_list(out, b", ", after.changed, list);
+    print_answers(out, answers.count, entries);
+    print_end(out, after.session);
 }
 
 // Prints what a sheet gives where there is room for so many answers and changed days, and gives the session after it.
 fn print_sheet(
+    out: &mut Output,
     text: &[u8],
     session: Session,
     sheet: AskedSheet,
@@ -93,16 +107,16 @@ fn print_sheet(
 {
     let mut list = [99u16; PLACES];
     let after = session_sheets::cut_sheet(session, sheet, room, &mut list[..places]);
-    print_after(text, after, &list);
+    print_after(out, text, after, &list);
     after.session
 }
 
 // With room for its answers and no more.
-fn print_taken(text: &[u8], session: Session, sheet: AskedSheet) -> Session
+fn print_taken(out: &mut Output, text: &[u8], session: Session, sheet: AskedSheet) -> Session
     requires { SessionInBounds session }
     ensures { SessionInBounds result }
 {
-    print_sheet(text, session, sheet, sheet.count, PLACES)
+    print_sheet(out, text, session, sheet, sheet.count, PLACES)
 }
 
 // ---- sheets
@@ -166,12 +180,13 @@ fn ceilings() -> AskedSheet {
     AskedSheet { count: 3, entries }
 }
 
-fn taken() {
-    print_taken(b"A, sheet of 6 cuts: ", profile_a(), six_cuts());
-    let spent = print_taken(b"A, sheet of 4 cuts: ", profile_a(), spending_cuts());
-    print_taken(b"then one of 2: ", spent, two_cuts());
-    print_taken(b"A, sheet of no cut: ", profile_a(), repeated(0));
+fn taken(out: &mut Output) {
+    print_taken(out, b"A, sheet of 6 cuts: ", profile_a(), six_cuts());
+    let spent = print_taken(out, b"A, sheet of 4 cuts: ", profile_a(), spending_cuts());
+    print_taken(out, b"then one of 2: ", spent, two_cuts());
+    print_taken(out, b"A, sheet of no cut: ", profile_a(), repeated(0));
     print_taken(
+        out,
         b"days 0..4, 0..10, 0..6, rises -10, sheet of 3 cuts: ",
         three_days(),
         ceilings(),
@@ -179,19 +194,20 @@ fn taken() {
 }
 
 // The first has every cause of a refusal at once, each later one a cause fewer.
-fn refused() {
+fn refused(out: &mut Output) {
     print_sheet(
+        out,
         b"A, sheet of 513 cuts, no place for an answer or a day: ",
         profile_a(),
         repeated(513),
         0,
         0,
     );
-    print_sheet(b"1 cut: ", profile_a(), repeated(1), 0, 0);
-    print_sheet(b"1 answer, 2 days: ", profile_a(), repeated(1), 1, 2);
+    print_sheet(out, b"1 cut: ", profile_a(), repeated(1), 0, 0);
+    print_sheet(out, b"1 answer, 2 days: ", profile_a(), repeated(1), 1, 2);
 }
 
-pub(crate) fn print() {
-    taken();
-    refused();
+pub(crate) fn print(out: &mut Output) {
+    taken(out);
+    refused(out);
 }

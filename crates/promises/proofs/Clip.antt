@@ -15,7 +15,7 @@ use Rattle.theory_lists.specs.Written.{by_cell}
 use Rattle.base_codes.specs.Code.{code}
 use Rattle.base_codes.proofs.Laws.{within-yes}
 use Rattle.theory_method.specs.Filter.{held}
-use Rattle.theory_method.specs.Levels.{rebound}
+use Rattle.theory_method.proofs.Levels.{rebound}
 use Rattle.session.specs.Profile.{Profile}
 use Rattle.session.proofs.Within.{Within}
 use Rattle.session.specs.declared.Ranges.{Ranges}

@@ -9,7 +9,7 @@ use lib.ListN.{set}
 use Rattle.theory_lists.specs.Sum.{at}
 use Rattle.theory_lists.specs.Written.{written, written_below, written_same, written_own, last_written, last_none, last_more, last-before, last-front}
 use Rattle.theory_method.specs.Filter.{box, InBounds, held}
-use Rattle.theory_method.specs.Stages.{by_order}
+use Rattle.theory_method.proofs.Stages.{by_order}
 use Rattle.schedule_raising.specs.Raising.{raised_day, raised_from, raised_to}
 use Rattle.schedule_raising.specs.declared.Raised.{Raised}
 

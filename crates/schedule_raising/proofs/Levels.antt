@@ -13,7 +13,8 @@ use Rattle.theory_chains.specs.Sum.{sum, weigh, sum_eq, sum_le, sum_le_counted}
 use Rattle.theory_method.specs.Counted.{counted, counted_in, counted-before}
 use Rattle.theory_method.specs.Filter.{box, held}
 use Rattle.theory_method.specs.Levels.{Levels}
-use Rattle.theory_method.specs.Stages.{Ready, by_order}
+use Rattle.theory_method.specs.Stages.{Ready}
+use Rattle.theory_method.proofs.Stages.{by_order}
 use Rattle.schedule_raising.specs.Raising.{raised_day, raised_from, raised_to}
 
 module _ {fs cs rs : List ℕ} {n : ℕ} (r : Ready fs cs rs n) (rest : ℕ) where

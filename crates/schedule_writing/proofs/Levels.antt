@@ -9,8 +9,8 @@ use lib.Seq.{get_or-set_other}
 use Rattle.theory_lists.specs.Sum.{at}
 use Rattle.theory_lists.specs.Written.{written, length-written, written_below, written-past, written_over}
 use Rattle.theory_method.specs.Filter.{box, InBounds, carried, first_crossed, forwarded}
-use Rattle.theory_method.specs.Levels.{refit, refit-day}
-use Rattle.theory_method.specs.Stages.{crossing}
+use Rattle.theory_method.proofs.Levels.{refit, refit-day}
+use Rattle.theory_method.proofs.Stages.{crossing}
 use Rattle.schedule_raising.specs.Raising.{raised_to}
 use Rattle.schedule_raising.proofs.Laws.{raised_stands, raised-small}
 use Rattle.schedule_writing.specs.Writing.{levels_through}

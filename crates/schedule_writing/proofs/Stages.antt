@@ -12,7 +12,7 @@ use Rattle.theory_lists.specs.Written.{written, written_same}
 use Rattle.base_codes.specs.Code.{decoded}
 use Rattle.base_codes.proofs.Laws.{point_less, total_less}
 use Rattle.theory_method.specs.Filter.{box, InBounds}
-use Rattle.theory_method.specs.Levels.{refit}
+use Rattle.theory_method.proofs.Levels.{refit}
 use Rattle.session.specs.Showing.{SessionInBounds}
 use Rattle.theory_lists.specs.Lent.{list_left, list-filled}
 use Rattle.session.specs.declared.Session.{Session}

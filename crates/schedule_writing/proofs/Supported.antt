@@ -1,5 +1,5 @@
 -- Ranges each of whose values is taken: the levels that are written keep them, and have the value asked for.
-use Prim.Native.Nat.{ℕ, ◌+◌, ◌-◌, ◌≤◌, ◌<◌, max}
+use Prim.Native.Nat.{ℕ, ◌+◌, ◌≤◌, ◌<◌, max}
 use mathlib.Core.Path.{◌≡◌}
 use mathlib.Core.List.{List}
 use native.Mathlib.Nat.{le_refl}
@@ -13,8 +13,10 @@ use Rattle.theory_chains.specs.Sum.{sum_le}
 use Rattle.theory_chains.specs.Spans.{NatSpans}
 use Rattle.theory_method.specs.Counted.{counted}
 use Rattle.theory_method.specs.Filter.{box, carried, first_crossed, forwarded, held}
-use Rattle.theory_method.specs.Levels.{Levels, refit-day, rebound}
-use Rattle.theory_method.specs.Stages.{Ready, Rising, crossing, carried-above, forwarded_at, ready}
+use Rattle.theory_method.specs.Levels.{Levels}
+use Rattle.theory_method.proofs.Levels.{refit-day, rebound}
+use Rattle.theory_method.specs.Stages.{Ready, Rising}
+use Rattle.theory_method.proofs.Stages.{crossing, carried-above, forwarded_at, ready}
 use Rattle.theory_method.proofs.Exact.{carried-least}
 use Rattle.session.specs.Showing.{Fits}
 use Rattle.session.proofs.Within.{Within}

@@ -19,7 +19,8 @@ use Rattle.base_codes.proofs.Every.{not_both, codes-inside}
 use Rattle.base_codes.proofs.Order.{less_test}
 use Rattle.base_codes.specs.declared.CodedNumbers.{CodedNumbers}
 use Rattle.theory_method.specs.Filter.{Box, Tight, InBounds, all_counted, first_crossed, zeros}
-use Rattle.theory_method.specs.Stages.{Crossing, crossing}
+use Rattle.theory_method.specs.Stages.{Crossing}
+use Rattle.theory_method.proofs.Stages.{crossing}
 use Rattle.tighten_filtering.specs.Boxed.{boxed}
 use Rattle.session.specs.Profile.{Profile}
 use Rattle.session.specs.Opening.{box_in, narrowed, numbers_of, opened_with, crossed, early_opening, opened, refused_with, codes, bad_count, bad_length, bad_point, bad_rise, bad_total, bad_range, bad_first}

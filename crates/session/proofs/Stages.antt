@@ -18,7 +18,7 @@ use Rattle.base_codes.specs.declared.Coded.TheVariants.{Code, Outside}
 use Rattle.base_codes.proofs.Laws.{coded-code, coded-outside}
 use Rattle.base_codes.proofs.Casts.{seen, coded_seen}
 use Rattle.theory_method.specs.Filter.{Box, all_counted, InBounds, Tight, tightened, first_crossed}
-use Rattle.theory_method.specs.Levels.{recount}
+use Rattle.theory_method.proofs.Levels.{recount}
 use Rattle.tighten_filtering.specs.Boxed.{boxed}
 use Rattle.session.specs.Stages.{not_coded, coded_with, codes_crossed, range_refusal, RangesOpened, no_ranges, ranges_with, ranges_opened, opened_codes}
 use Rattle.session.specs.Opening.{fresh, refused_with}

@@ -16,7 +16,7 @@ use Rattle.theory_lists.specs.Written.{by_cell}
 use Rattle.base_codes.specs.Code.{within, code}
 use Rattle.base_codes.proofs.Laws.{point_most, total-most}
 use Rattle.theory_method.specs.Filter.{Tight}
-use Rattle.theory_method.specs.Levels.{refit}
+use Rattle.theory_method.proofs.Levels.{refit}
 use Rattle.theory_method.proofs.Exact.{Exact, exact, floor-kept, ceiling-kept, exact_in_bounds}
 use Rattle.session.specs.Opening.{ranges_of}
 use Rattle.session.specs.Showing.{box_of, Fits, SessionInBounds}

@@ -13,7 +13,8 @@ use Rattle.theory_chains.specs.Fit.{fitted-one, fitted-same, fitted_moved}
 use Rattle.theory_method.specs.Shift.{shift, shift-step}
 use Rattle.theory_method.specs.Counted.{counted, counted_in, counted-before, counted-past}
 use Rattle.theory_method.specs.Filter.{shifted, overload, lowered_from, lowered}
-use Rattle.theory_method.specs.Stages.{Ready, Rising, shifted-rise, day-fitted, last-lowered, lowered-shifted}
+use Rattle.theory_method.specs.Stages.{Ready, Rising}
+use Rattle.theory_method.proofs.Stages.{shifted-rise, day-fitted, last-lowered, lowered-shifted}
 
 -- ---- overloads
 

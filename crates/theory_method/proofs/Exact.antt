@@ -21,8 +21,10 @@ use Rattle.theory_method.specs.Shift.{shift}
 use Rattle.theory_method.specs.Filter as Filter
 use Rattle.theory_method.specs.Counted.{counted}
 use Rattle.theory_method.specs.Filter.{Box, box, InBounds, Tight, spare, held, shifted, lowered, carried, first_crossed, forwarded, lowered_all, raised, tight_floors, tight_ceilings, tightened}
-use Rattle.theory_method.specs.Stages.{Ready, by_order, ready, crossing, carried-above, forwarded_at, lowered-ready, lowered-rising, floors-chain, raised_is}
-use Rattle.theory_method.specs.Levels.{Levels, refit, rebound, shifted_total, shifts_low, shifted_sum, shifted-sched, day_spans, total_spans}
+use Rattle.theory_method.specs.Stages.{Ready}
+use Rattle.theory_method.proofs.Stages.{by_order, ready, crossing, carried-above, forwarded_at, lowered-ready, lowered-rising, floors-chain, raised_is}
+use Rattle.theory_method.specs.Levels.{Levels, shifted_total}
+use Rattle.theory_method.proofs.Levels.{refit, rebound, shifts_low, shifted_sum, shifted-sched, day_spans, total_spans}
 use Rattle.theory_method.proofs.Passes.{scale, within_scale, ceilings_are, floors_are}
 
 -- the ranges of t are the values that levels within the bounds take, and no others; past the last day nothing has changed

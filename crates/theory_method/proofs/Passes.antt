@@ -21,7 +21,8 @@ use Rattle.theory_chains.specs.Free.{next-ceiling}
 use Rattle.theory_method.specs.Shift.{shift, shift-step}
 use Rattle.theory_method.specs.Counted.{counted, run_sum, counted-mirror}
 use Rattle.theory_method.specs.Filter.{shifted, overload, lowered_from, lowered_all, mirrored, raised}
-use Rattle.theory_method.specs.Stages.{Ready, Rising, shift-most, last-lowered, day-fitted, lowered-shifted, lowered_at, lowered-ready, mirrored_all, reversed_all, mirrored_at, reversed_at, mirrored-ready, raised_is}
+use Rattle.theory_method.specs.Stages.{Ready, Rising, mirrored_all, reversed_all}
+use Rattle.theory_method.proofs.Stages.{shift-most, last-lowered, day-fitted, lowered-shifted, lowered_at, lowered-ready, mirrored_at, reversed_at, mirrored-ready, raised_is}
 
 -- a run's counted sum is that of the counted days from i on
 from-sum : (w : ℕ → Bool) (f : ℕ → ℕ) (i n : ℕ) → sum (from i w) n f ≡ run_sum w f i (n - i)

@@ -10,7 +10,8 @@ use Rattle.theory_lists.specs.Sum.{at}
 use Rattle.theory_lists.specs.Written.{written}
 use Rattle.theory_method.specs.Counted.{counted}
 use Rattle.theory_method.specs.Filter.{Box, with_floors, with_ceilings, InBounds, carried, first_crossed, forwarded, lowered, raised, held, none, tight_floors, tight_ceilings, tightened}
-use Rattle.theory_method.specs.Stages.{Ready, ready, crossing, lowered-ready, lowered-rising}
+use Rattle.theory_method.specs.Stages.{Ready}
+use Rattle.theory_method.proofs.Stages.{ready, crossing, lowered-ready, lowered-rising}
 use Rattle.tighten_passes.specs.View.{FloorsReady}
 
 -- ---- tighten

@@ -17,7 +17,8 @@ use Rattle.theory_chains.specs.Fit.{fit, fitted, fitted-one}
 use Rattle.theory_method.specs.Shift.{shift, shift_from, shift_start, shift-low, shift-high, shift-step}
 use Rattle.theory_method.specs.Counted.{counted, count-all}
 use Rattle.theory_method.specs.Filter.{shifted, overload, lowered_from, lowered, lowered_all, mirrored, reversed, zeros, raised}
-use Rattle.theory_method.specs.Stages.{Ready, mirrored_all, reversed_all, mirrored_at, reversed_at, mirrored-ready, lowered_at, raised_is}
+use Rattle.theory_method.specs.Stages.{Ready, mirrored_all, reversed_all}
+use Rattle.theory_method.proofs.Stages.{mirrored_at, reversed_at, mirrored-ready, lowered_at, raised_is}
 use Rattle.theory_method.specs.Stages as Stages
 use Rattle.theory_method.proofs.Counting.{lowered-counted, lowered-before, lowered-front, lowered-past}
 use Rattle.tighten_carry.specs.Back.{back_from, carried_back}
