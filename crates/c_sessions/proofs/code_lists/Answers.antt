@@ -3,7 +3,7 @@
 use native.Mathlib.Omega.{arith}
 use borrow.Author.Rules.{rules}
 use Rattle.session.proofs.Checks.{lists_told}
-use Rattle.c_lists.specs.Profiles.{ByteProfile, byte_profile, profile_of}
+use Rattle.c_lists.specs.Profiles.{byte_profile, profile_of}
 use Rattle.c_lists.proofs.Laws.{Long, long}
 use Rattle.c_sessions.proofs.Opening.{lengths_right}
 use Rattle.c_sessions.proofs.code_lists.Goals as goal

@@ -3,7 +3,6 @@ use mathlib.Core.Path.{◌≡◌}
 use Rattle.session_cuts.specs.Numbered.{numbered}
 use native.Mathlib.Omega.{arith}
 use mir.Facts.{to_z-of_z}
-use borrow.Author.Rules.{rules}
 use Rattle.session_cutting.proofs.Stages.{numbered-known, numbered_unknown}
 use Rattle.c_sessions.proofs.Cutting.{cuts-same, cuts-refused, cut_unread, cut-read}
 use Rattle.c_sessions.proofs.cut.Goals as goal

@@ -1,11 +1,9 @@
 -- `cut_known` meets its contract: a law for each refusal, in the order of document 01's checks, and `Cuttable` where none refuses.
 use mathlib.Core.Path.{◌≡◌, ap, sym, ◌∙◌}
 use mathlib.Core.Bool.{false}
-use mathlib.Core.List.{List}
-use Prim.Native.Nat.{ℕ, ◌/◌, ◌≤◌}
+use Prim.Native.Nat.{◌/◌, ◌≤◌}
 use native.Mathlib.Omega.{arith}
 use lib.ListN.{length}
-use borrow.Author.Rules.{rules}
 use Rattle.session_cutting.specs.Cutting.{malformed}
 use Rattle.session_cutting.proofs.Stages.{checked-refusal, checked-clips, cut-malformed, cut_short, cut-spent, cut-taken}
 use Rattle.c_layout.specs.Layout.{decoding}

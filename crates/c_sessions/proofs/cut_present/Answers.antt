@@ -1,15 +1,9 @@
 -- `cut_present` meets its contract: the arrays hold what the bytes hold (`Loaded`), then what the cut makes of it, and each return knows whether there is a
 -- schedule and what it stored.
 use mathlib.Core.Path.{◌≡◌, ap, ◌∙◌}
-use mathlib.Core.List.{List}
-use Prim.Native.Nat.{ℕ}
 use native.Mathlib.Omega.{arith}
 use lib.ListN.{length}
 use borrow.Author.Tests.{not-true, not-false}
-use borrow.Author.Rules.{rules}
-use Rattle.base_codes.specs.declared.CodedNumbers.{CodedNumbers}
-use Rattle.theory_method.specs.Filter.{Tight}
-use Rattle.session_cuts.specs.declared.Cut.{Cut}
 use Rattle.session_cutting.specs.Cutting.{clipped, retightened}
 use Rattle.c_layout.specs.Layout.{decoding}
 use Rattle.c_sessions.proofs.Cutting.{Loaded, loaded_bounds, loaded_tight, made_none, made_found, made-bounds}

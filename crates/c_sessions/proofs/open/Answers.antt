@@ -1,6 +1,5 @@
 -- `open` meets its contract: a law of Opening for each check that refuses, then what `open_lists` ensures.
 use mathlib.Core.Path.{sym, ◌∙◌}
-use borrow.Author.Rules.{rules}
 use Rattle.c_sessions.proofs.Opening.{not-session, lengths_wrong}
 use Rattle.c_sessions.proofs.open.Goals as goal
 

@@ -1,16 +1,11 @@
 -- `open_lists` meets its contract: what is coded is the profile's (`lists-coded`), and each return is a law of Opening by what opening over codes gave.
 use mathlib.Core.Path.{◌≡◌, ◌∙◌}
-use Prim.Native.Nat.{ℕ}
-use mathlib.Core.List.{List}
-use borrow.Author.Rules.{rules}
-use Rattle.theory_method.specs.Filter.{Box}
 use Rattle.tighten_filtering.specs.Boxed.{boxed}
 use Rattle.session.specs.Opening.{fresh, opened}
 use Rattle.session.specs.declared.Opened.{Opened}
-use Rattle.session.specs.declared.Ranges.{Ranges}
 use Rattle.session.proofs.Checks.{CodedArrays, all-refused, days-kept, in_bounds, all-opened}
 use Rattle.session.proofs.Stages.{session-refused, session-fresh}
-use Rattle.c_lists.specs.Profiles.{ByteProfile, byte_profile, profile_of}
+use Rattle.c_lists.specs.Profiles.{byte_profile, profile_of}
 use Rattle.c_sessions.proofs.Opening.{lists-coded, lists-crossed, open_refused, open_stored, fresh_in_bounds}
 use Rattle.c_sessions.proofs.open_lists.Goals as goal
 use Rattle.c_sessions.proofs.open_lists.Goals.{After-code_lists-lists, After-open_ranges-opened, Else-opened-ne0, Start}

@@ -10,10 +10,29 @@ header c =
     record { long = c.if-bytes-lt-DAYS_BEGIN.false; said = record { days = c.wide-days.ensures.0 ∙ c.u16_at.ensures; cuts = c.wide-cuts.ensures.0 ∙ c.u16_at-2.ensures } }
 
 counted : (c : Else-counts_refusal-ne0) → Counted c.args.bytes.now c.wide-days.result c.wide-cuts.result
-counted c = record { header = (record { long = c.if-bytes-lt-DAYS_BEGIN.false; said = record { days = c.wide-days.ensures.0 ∙ c.u16_at.ensures; cuts = c.wide-cuts.ensures.0 ∙ c.u16_at-2.ensures } }); none = sym c.counts_refusal.ensures ∙ c.if-counts_refusal-ne0.false }
+counted c = record {
+  header = (record {
+    long = c.if-bytes-lt-DAYS_BEGIN.false;
+    said =
+        record { days = c.wide-days.ensures.0 ∙ c.u16_at.ensures; cuts = c.wide-cuts.ensures.0 ∙ c.u16_at-2.ensures };
+  });
+  none =
+      sym c.counts_refusal.ensures ∙ c.if-counts_refusal-ne0.false;
+}
 
 laid : (c : Else-layout_refusal-ne0) → Laid c.args.bytes.now c.wide-days.result c.wide-cuts.result
-laid c = record { counted = (record { header = (record { long = c.if-bytes-lt-DAYS_BEGIN.false; said = record { days = c.wide-days.ensures.0 ∙ c.u16_at.ensures; cuts = c.wide-cuts.ensures.0 ∙ c.u16_at-2.ensures } }); none = sym c.counts_refusal.ensures ∙ c.if-counts_refusal-ne0.false }); none = sym c.layout_refusal.ensures ∙ c.if-layout_refusal-ne0.false }
+laid c = record {
+  counted = (record {
+    header = (record {
+      long = c.if-bytes-lt-DAYS_BEGIN.false;
+      said =
+          record { days = c.wide-days.ensures.0 ∙ c.u16_at.ensures; cuts = c.wide-cuts.ensures.0 ∙ c.u16_at-2.ensures };
+    });
+    none =
+        sym c.counts_refusal.ensures ∙ c.if-counts_refusal-ne0.false;
+  });
+  none = sym c.layout_refusal.ensures ∙ c.if-layout_refusal-ne0.false;
+}
 
 pub returns-then-bytes-lt-DAYS_BEGIN : goal.returns-then-bytes-lt-DAYS_BEGIN
 returns-then-bytes-lt-DAYS_BEGIN c = no_header _ c.if-bytes-lt-DAYS_BEGIN.true

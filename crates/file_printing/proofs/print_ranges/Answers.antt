@@ -13,8 +13,6 @@ use Rattle.file_printing.proofs.Reading.{Got, got}
 use Rattle.file_printing.proofs.print_ranges.Goals as goal
 use Rattle.file_printing.proofs.print_ranges.Goals.{After-cut_all-after, After-open_read-opened, In-Passed}
 
--- ---- what each stage gave
-
 got-file : (c : In-Passed) → Got c.args.file.now c.read-read.result c.read-read.new.floors c.read-read.new.ceilings c.read-read.new.rises
 got-file c =
     let none = stage_passed c.read-read.result.refusal c.stage_of-reading.ensures c.in-Passed.is in

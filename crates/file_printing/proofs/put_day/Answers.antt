@@ -22,7 +22,8 @@ one : (c : After-put-number) → (Left c.args.out.now c.args.at (day_line c.args
 one c = left-more (100 ∷ 97 ∷ 121 ∷ 32 ∷ []) (left-all (day_parts c.args.day c.args.low c.args.high)) (c.put-number.ensures.out_after, c.put-number.ensures.value)
 
 two : (c : After-put_decimal-after) → (Left c.args.out.now c.args.at (day_line c.args.day c.args.low c.args.high)) c.put_decimal-after.new.out c.put_decimal-after.result (range c.args.low c.args.high)
-two c = left-more (decimal c.args.day) ((left-more (100 ∷ 97 ∷ 121 ∷ 32 ∷ []) (left-all (day_parts c.args.day c.args.low c.args.high)) (c.put-number.ensures.out_after, c.put-number.ensures.value))) (c.put_decimal-after.ensures.out_after, c.put_decimal-after.ensures.value)
+two c = left-more (decimal c.args.day) ((left-more (100 ∷ 97 ∷ 121 ∷ 32 ∷ []) (left-all (day_parts c.args.day c.args.low c.args.high))
+    (c.put-number.ensures.out_after, c.put-number.ensures.value))) (c.put_decimal-after.ensures.out_after, c.put_decimal-after.ensures.value)
 
 wide : {z : ℤ} → SFits w16 z → SFits w32 z
 wide = sfits_widen tt

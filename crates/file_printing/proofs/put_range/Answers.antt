@@ -12,13 +12,19 @@ one : (c : After-put-first) → (Left c.args.out.now c.args.at (range c.args.low
 one c = left-more (32 ∷ []) (left-all (range_parts c.args.low c.args.high)) (c.put-first.ensures.out_after, c.put-first.ensures.value)
 
 two : (c : After-put_number-between) → (Left c.args.out.now c.args.at (range c.args.low c.args.high)) c.put_number-between.new.out c.put_number-between.result ((32 ∷ []) ++ (number c.args.high ++ (10 ∷ [])))
-two c = left-number (to_z-of_z c.ranges.low) ((left-more (32 ∷ []) (left-all (range_parts c.args.low c.args.high)) (c.put-first.ensures.out_after, c.put-first.ensures.value))) (c.put_number-between.ensures.out_after, c.put_number-between.ensures.value)
+two c = left-number (to_z-of_z c.ranges.low) ((left-more (32 ∷ []) (left-all (range_parts c.args.low c.args.high))
+    (c.put-first.ensures.out_after, c.put-first.ensures.value))) (c.put_number-between.ensures.out_after, c.put_number-between.ensures.value)
 
 three : (c : After-put-second) → (Left c.args.out.now c.args.at (range c.args.low c.args.high)) c.put-second.new.out c.put-second.result ((number c.args.high ++ (10 ∷ [])))
-three c = left-more (32 ∷ []) ((left-number (to_z-of_z c.ranges.low) ((left-more (32 ∷ []) (left-all (range_parts c.args.low c.args.high)) (c.put-first.ensures.out_after, c.put-first.ensures.value))) (c.put_number-between.ensures.out_after, c.put_number-between.ensures.value))) (c.put-second.ensures.out_after, c.put-second.ensures.value)
+three c = left-more (32 ∷ []) ((left-number (to_z-of_z c.ranges.low)
+    ((left-more (32 ∷ []) (left-all (range_parts c.args.low c.args.high)) (c.put-first.ensures.out_after, c.put-first.ensures.value)))
+    (c.put_number-between.ensures.out_after, c.put_number-between.ensures.value))) (c.put-second.ensures.out_after, c.put-second.ensures.value)
 
 four : (c : After-put_number-end) → (Left c.args.out.now c.args.at (range c.args.low c.args.high)) c.put_number-end.new.out c.put_number-end.result (10 ∷ [])
-four c = left-number (to_z-of_z c.ranges.high) ((left-more (32 ∷ []) ((left-number (to_z-of_z c.ranges.low) ((left-more (32 ∷ []) (left-all (range_parts c.args.low c.args.high)) (c.put-first.ensures.out_after, c.put-first.ensures.value))) (c.put_number-between.ensures.out_after, c.put_number-between.ensures.value))) (c.put-second.ensures.out_after, c.put-second.ensures.value))) (c.put_number-end.ensures.out_after, c.put_number-end.ensures.value)
+four c = left-number (to_z-of_z c.ranges.high) ((left-more (32 ∷ [])
+    ((left-number (to_z-of_z c.ranges.low) ((left-more (32 ∷ []) (left-all (range_parts c.args.low c.args.high))
+    (c.put-first.ensures.out_after, c.put-first.ensures.value))) (c.put_number-between.ensures.out_after, c.put_number-between.ensures.value)))
+    (c.put-second.ensures.out_after, c.put-second.ensures.value))) (c.put_number-end.ensures.out_after, c.put_number-end.ensures.value)
 
 pub put_number-between-requires : goal.put_number-between-requires
 put_number-between-requires c =

@@ -21,8 +21,6 @@ use borrow.Author.Rules.{rules}
 use Rattle.file_printing.proofs.put_ranges.Goals as goal
 use Rattle.file_printing.proofs.put_ranges.Goals.{After-put_total-at, After-show-shown}
 
--- ---- what is shown
-
 shows : (c : After-show-shown) → Showed c.args.session c.show-shown.result c.show-shown.new.floors c.show-shown.new.ceilings
 shows c =
     let long = length-replicate 512 (pos 0) in
@@ -41,8 +39,6 @@ passed c =
     let s =
     showed (record { bounds = c.requires; floors-long = long; ceilings-long = long; answer = e.value; floors = e.floors_after; ceilings = e.ceilings_after }) in
     record { least = to_z-of_z {w = w32} (search rules) ∙ s.least; most = to_z-of_z {w = w32} (search rules) ∙ s.most }
-
--- ---- what is left to store after the total's line
 
 lines : Session → List ℕ
 lines s = rows (λ k. day_line k (floor_on s k) (ceiling_on s k)) s.days

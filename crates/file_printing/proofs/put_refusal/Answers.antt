@@ -17,7 +17,8 @@ one c =
     left-more (114 ∷ 101 ∷ 102 ∷ 117 ∷ 115 ∷ 101 ∷ 100 ∷ 32 ∷ []) (left-all (refused_parts c.args.number)) (c.put-at.ensures.out_after, c.put-at.ensures.value)
 
 two : (c : After-put_decimal-end) → (Left c.args.out.now 0 (refused_line c.args.number)) c.put_decimal-end.new.out c.put_decimal-end.result (10 ∷ [])
-two c = left-more (decimal c.args.number) ((left-more (114 ∷ 101 ∷ 102 ∷ 117 ∷ 115 ∷ 101 ∷ 100 ∷ 32 ∷ []) (left-all (refused_parts c.args.number)) (c.put-at.ensures.out_after, c.put-at.ensures.value))) (c.put_decimal-end.ensures.out_after, c.put_decimal-end.ensures.value)
+two c = left-more (decimal c.args.number) ((left-more (114 ∷ 101 ∷ 102 ∷ 117 ∷ 115 ∷ 101 ∷ 100 ∷ 32 ∷ []) (left-all (refused_parts c.args.number))
+    (c.put-at.ensures.out_after, c.put-at.ensures.value))) (c.put_decimal-end.ensures.out_after, c.put_decimal-end.ensures.value)
 
 short : (c : Start) → length (refused_line c.args.number) ≤ 12
 short c = refused-length c.args.number c.ranges.number.fits
@@ -30,4 +31,9 @@ put-requires c = last-room (two (goal.at.put-requires c).After-put_decimal-end) 
 
 pub returns : goal.returns
 returns c =
-    let e = left-none (two (goal.at.returns c).After-put_decimal-end) (c.put.ensures.out_after, c.put.ensures.value) in record { out_after = e.0 ∙ front-sets (refused_line c.args.number) c.args.out.now (omega (arith, short (goal.at.returns c).Start)); value = omega (arith, e.1) }
+    let e = left-none (two (goal.at.returns c).After-put_decimal-end) (c.put.ensures.out_after, c.put.ensures.value) in
+    record {
+      out_after = e.0 ∙ front-sets (refused_line c.args.number) c.args.out.now (omega (arith, short (goal.at.returns c).Start));
+      value =
+          omega (arith, e.1);
+    }

@@ -69,5 +69,15 @@ read_contents-requires c =
 pub returns : goal.returns
 returns c =
     let k : ReadCall = handed c.args.bytes.now c.args.floors.now c.args.ceilings.now c.args.rises.now in
-    let all = taken-whole k c.read_contents.ensures (counted (goal.at.returns c).After-wide-days) (record { floors-long = omega arith; ceilings-long = omega arith; rises-long = omega arith; floors_stored = c.store_days.ensures.floors_after; ceilings_stored = c.store_days.ensures.ceilings_after; rises_stored = c.store_days.ensures.rises_after }) in
+    let all = taken-whole k c.read_contents.ensures (counted (goal.at.returns c).After-wide-days)
+    (record {
+      floors-long = omega arith;
+      ceilings-long = omega arith;
+      rises-long = omega arith;
+      floors_stored =
+          c.store_days.ensures.floors_after;
+      ceilings_stored = c.store_days.ensures.ceilings_after;
+      rises_stored = c.store_days.ensures.rises_after;
+    })
+    in
     record { value = all.0; floors_after = all.1.0; ceilings_after = all.1.1.0; rises_after = all.1.1.1 }
