@@ -21,4 +21,5 @@ loop-i-preserved c =
 
 pub returns : goal.returns
 returns c =
-    let xs = c.args.xs.now in let whole = coding_seen c.ranges.low c.ranges.high (on xs) (length xs) xs c.args.out.now c.loop-i.invariant refl (λ k h. refl) c.loop-i-test.false in record { value = whole.0; out_after = whole.1.0; xs_value = whole.1.1 }
+    let xs = c.args.xs.now in let whole = coding_seen c.ranges.low c.ranges.high (on xs) (length xs) xs c.args.out.now c.loop-i.invariant refl
+    (λ k h. refl) c.loop-i-test.false in record { value = whole.0; out_after = whole.1.0; xs_value = whole.1.1 }

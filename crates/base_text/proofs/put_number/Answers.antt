@@ -1,7 +1,4 @@
 -- `put_number` meets its contract: with a minus sign before the digits of a negative number (`negative`), else the digits (`not_negative`).
--- ---- the places on the way: the sign is tested and stored, the digits are stored
--- ---- below 0
--- ---- 0 or more
 use mathlib.Core.Path.{◌≡◌, refl, ap, ◌∙◌}
 use mathlib.Core.List.{[], ◌∷◌}
 use native.Mathlib.Omega.{arith}
@@ -31,7 +28,12 @@ put_decimal-requires c = simp length-set (omega (arith, ap length (minus (goal.a
 pub returns-then-z-lt0 : goal.returns-then-z-lt0
 returns-then-z-lt0 c =
     let a = c.args in
-    let e = minus (goal.at.returns-then-z-lt0 c).After-magnitude in record { out_after = rw e (c.put_decimal.ensures.out_after ∙ sets_append (45 ∷ []) (decimal c.magnitude.result) a.out.now a.at); value = omega (arith, ap length e, c.put_decimal.ensures.value) }
+    let e = minus (goal.at.returns-then-z-lt0 c).After-magnitude in
+    record {
+      out_after = rw e (c.put_decimal.ensures.out_after ∙ sets_append (45 ∷ []) (decimal c.magnitude.result) a.out.now a.at);
+      value =
+          omega (arith, ap length e, c.put_decimal.ensures.value);
+    }
 
 pub overflow_cast-z : goal.overflow_cast-z
 overflow_cast-z c = whole-fits c.ranges.z c.if-z-lt0.false

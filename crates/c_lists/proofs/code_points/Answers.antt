@@ -21,4 +21,6 @@ pub returns : goal.returns
 unfolding points_in
 returns c =
     let b = c.args.bytes.now in
-    let n = c.args.n in let whole = coding_seen c.ranges.low c.ranges.high (point_at b) n (points_in b n) c.args.out.now c.loop-j.invariant (length-list_of (point_at b) n) (get_list_of (point_at b) (pos 0) n) c.loop-j-test.false in record { value = whole.0; out_after = whole.1.0; n_value = whole.1.1 }
+    let n = c.args.n in let whole = coding_seen c.ranges.low c.ranges.high (point_at b) n (points_in b n) c.args.out.now c.loop-j.invariant
+    (length-list_of (point_at b) n) (get_list_of (point_at b) (pos 0) n) c.loop-j-test.false in
+    record { value = whole.0; out_after = whole.1.0; n_value = whole.1.1 }

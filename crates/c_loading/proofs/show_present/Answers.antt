@@ -33,4 +33,10 @@ returns c =
     let low : (ℕ → ℤ) = λ k. decoded lowest_point (min (u16_at b (3092 + k * 2)) 5000) in
     let high : (ℕ → ℤ) = λ k. decoded lowest_point (min (u16_at b (4116 + k * 2)) 5000) in
     let floors = c.show_levels.ensures ∙ ap (λ m. sets c.args.floors.now 0 (point_bytes low m)) c.days_of-n.ensures in
-    let ceilings = c.show_levels-2.ensures ∙ ap (λ m. sets c.args.ceilings.now 0 (point_bytes high m)) c.days_of-n.ensures in record { floors_after = points_front (floor_on (decoding b)) low n c.args.floors.now (λ k u. ap (decoded lowest_point) (floor-held b k u)) c.requires.1 floors; ceilings_after = points_front (ceiling_on (decoding b)) high n c.args.ceilings.now (λ k u. ap (decoded lowest_point) (ceiling-held b k u)) c.requires.2 ceilings }
+    let ceilings = c.show_levels-2.ensures ∙ ap (λ m. sets c.args.ceilings.now 0 (point_bytes high m)) c.days_of-n.ensures in
+    record {
+      floors_after = points_front (floor_on (decoding b)) low n c.args.floors.now (λ k u. ap (decoded lowest_point) (floor-held b k u))
+          c.requires.1 floors;
+      ceilings_after = points_front (ceiling_on (decoding b)) high n c.args.ceilings.now
+          (λ k u. ap (decoded lowest_point) (ceiling-held b k u)) c.requires.2 ceilings;
+    }

@@ -56,5 +56,6 @@ put_levels-requires c =
 
 pub returns : goal.returns
 returns c =
-    let whole = write-all _ _ _ _ (right (goal.at.returns c).Else-list-n) (checked (goal.at.returns c).After-check-checked) c.if-checked-ne0.false c.days_of-n.ensures c.if-list-n.false (loaded (goal.at.returns c).After-load_levels) c.put_levels.ensures in
+    let whole = write-all _ _ _ _ (right (goal.at.returns c).Else-list-n) (checked (goal.at.returns c).After-check-checked) c.if-checked-ne0.false
+    c.days_of-n.ensures c.if-list-n.false (loaded (goal.at.returns c).After-load_levels) c.put_levels.ensures in
     record { value = whole.0; list_after = whole.1 }

@@ -10,7 +10,9 @@ pub loop-k-init : goal.loop-k-init
 loop-k-init c = (raising_start c.lack.ensures.0 (omega arith), omega (arith, c.requires.counts))
 
 -- what a turn reads: the day's floor, ceiling and rise
-read : (c : After-wide-in-loop-k-2) → let a = c.args in Reading a.floors.now a.ceilings.now a.rises.now a.n a.first (a.total - held a.n a.first (at a.floors.now)) 0 a.total c.loop-k.floors c.loop-k.day c.loop-k.k c.wide.result c.wide-in-loop-k.result c.wide-in-loop-k-2.result
+read : (c : After-wide-in-loop-k-2) → let a = c.args in Reading a.floors.now a.ceilings.now a.rises.now a.n a.first
+    (a.total - held a.n a.first (at a.floors.now)) 0 a.total c.loop-k.floors c.loop-k.day c.loop-k.k c.wide.result c.wide-in-loop-k.result
+    c.wide-in-loop-k-2.result
 read c =
     record {
       bounds = c.requires;

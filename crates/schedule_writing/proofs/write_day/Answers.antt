@@ -29,7 +29,8 @@ pub check_day-level-requires : goal.check_day-level-requires
 check_day-level-requires c = c.requires.present.ceiling _ c.if-n-day.false
 
 pub returns-then-level-ne0 : goal.returns-then-level-ne0
-returns-then-level-ne0 c = let whole = day-refused _ _ _ _ c.if-list-n.false c.if-n-day.false (checked (goal.at.returns-then-level-ne0 c).After-check_day-level) c.if-level-ne0.true in record { value = whole.0; list_after = whole.1 }
+returns-then-level-ne0 c = let whole = day-refused _ _ _ _ c.if-list-n.false c.if-n-day.false
+    (checked (goal.at.returns-then-level-ne0 c).After-check_day-level) c.if-level-ne0.true in record { value = whole.0; list_after = whole.1 }
 
 pub write_through-requires : goal.write_through-requires
 write_through-requires c = day_asks (taken (goal.at.write_through-requires c).Else-level-ne0)

@@ -13,10 +13,27 @@ level-set c =
     record { bounds = p.0; known = p.1; small = p.2; floors = c.set_level.ensures; ceilings = c.set_level-2.ensures }
 
 level-carried : (c : After-carry) → let a = c.args in LevelCarried a.floors.now a.ceilings.now a.rises.now a.n a.first a.lowest a.day a.level c.set_level.new.levels c.set_level-2.new.levels c.carry.result c.carry.new.floors
-level-carried c = record { before = (let p = c.requires in record { bounds = p.0; known = p.1; small = p.2; floors = c.set_level.ensures; ceilings = c.set_level-2.ensures }); stop = c.carry.ensures.value; forward = c.carry.ensures.floors_after }
+level-carried c = record {
+  before = (let p = c.requires in record {
+    bounds = p.0;
+    known = p.1;
+    small = p.2;
+    floors = c.set_level.ensures;
+    ceilings =
+        c.set_level-2.ensures;
+  });
+  stop = c.carry.ensures.value;
+  forward = c.carry.ensures.floors_after;
+}
 
 levels : (c : After-raise_to) → let a = c.args in c.raise_to.new.floors ≡ written (levels_through a.floors.now a.ceilings.now a.rises.now a.n a.first a.lowest a.day a.level) a.n a.floors.now
-levels c = through-raised (record { before = (let p = c.requires in record { bounds = p.0; known = p.1; small = p.2; floors = c.set_level.ensures; ceilings = c.set_level-2.ensures }); stop = c.carry.ensures.value; forward = c.carry.ensures.floors_after }) c.raise_to.ensures
+levels c = through-raised (record {
+  before = (let p = c.requires in
+      record { bounds = p.0; known = p.1; small = p.2; floors = c.set_level.ensures; ceilings = c.set_level-2.ensures });
+  stop =
+      c.carry.ensures.value;
+  forward = c.carry.ensures.floors_after;
+}) c.raise_to.ensures
 
 pub carry-requires : goal.carry-requires
 carry-requires c = (level-set (goal.at.carry-requires c).After-set_level-2).bounds.most

@@ -1,6 +1,4 @@
 -- `code_numbers` meets its contract: a law of Stages for each return. What each call of `code` gave is said once.
--- ---- the places on the way: a point and a rise are inside, the lowest total is called for, its code is known, then the highest's
--- ---- the needs
 use mathlib.Core.Path.{◌∙◌}
 use mir.Syntax.{w32}
 use borrow.Author.Rules.{sfits_of}
@@ -11,10 +9,10 @@ use Rattle.session.proofs.code_numbers.Goals.{After-code, After-code-2, Else-bad
 inside : (c : Else-bad_rise) → let a = c.args in Inside a.bad_point a.bad_rise
 inside c = record { points = c.if-bad_point.false; rises = c.if-bad_rise.false }
 
-lowest-called : (c : After-code) → Called ((c.args.numbers)).lowest c.code.result
+lowest-called : (c : After-code) → Called c.args.numbers.lowest c.code.result
 lowest-called c = record { fits = sfits_of {w = w32} c.struct_told-1.given.1.1.0.1; gave = c.code.ensures }
 
-highest-called : (c : After-code-2) → Called ((c.args.numbers)).highest c.code-2.result
+highest-called : (c : After-code-2) → Called c.args.numbers.highest c.code-2.result
 highest-called c = record { fits = sfits_of {w = w32} c.struct_told-2-1.given.1.1.1.0.1; gave = c.code-2.ensures }
 
 pub returns-then-bad_point : goal.returns-then-bad_point
@@ -25,13 +23,15 @@ returns-then-bad_rise c = c.not_coded-then-bad_rise.ensures ∙ rise-refused _ _
 
 pub returns-in_default : goal.returns-in_default
 returns-in_default c =
-    c.not_coded-in_default.ensures ∙ lowest-refused ((c.args.numbers)) (inside (goal.at.returns-in_default c).Else-bad_rise) (lowest-called (goal.at.returns-in_default c).After-code) c.in_default.is
+    c.not_coded-in_default.ensures ∙ lowest-refused c.args.numbers (inside (goal.at.returns-in_default c).Else-bad_rise) (lowest-called (goal.at.returns-in_default c).After-code) c.in_default.is
 
 pub returns-in_default-code : goal.returns-in_default-code
 returns-in_default-code c =
     c.not_coded-in_default-code.ensures
-    ∙ highest-refused ((c.args.numbers)) (inside (goal.at.returns-in_default-code c).Else-bad_rise) (lowest-called (goal.at.returns-in_default-code c).After-code) c.in-Code.is (highest-called (goal.at.returns-in_default-code c).After-code-2) c.in_default-code.is
+    ∙ highest-refused c.args.numbers (inside (goal.at.returns-in_default-code c).Else-bad_rise)
+    (lowest-called (goal.at.returns-in_default-code c).After-code) c.in-Code.is (highest-called (goal.at.returns-in_default-code c).After-code-2)
+    c.in_default-code.is
 
 pub returns : goal.returns
 returns c =
-    numbers-coded ((c.args.numbers)) (inside (goal.at.returns c).Else-bad_rise) (lowest-called (goal.at.returns c).After-code) c.in-Code.is (highest-called (goal.at.returns c).After-code-2) c.in-Code-code.is
+    numbers-coded c.args.numbers (inside (goal.at.returns c).Else-bad_rise) (lowest-called (goal.at.returns c).After-code) c.in-Code.is (highest-called (goal.at.returns c).After-code-2) c.in-Code-code.is

@@ -1,6 +1,4 @@
 -- `code_profile` meets its contract: 1 and 2 leave the arrays, else each list is coded, and what its call told decides with the numbers (laws of Checks).
--- ---- the places on the way: the lengths are right, then the calls for floors, ceilings and rises
--- ---- the needs
 use mathlib.Core.Path.{◌≡◌, sym, ◌∙◌}
 use borrow.Author.Rules.{rules}
 use native.Mathlib.Omega.{arith}
@@ -25,7 +23,15 @@ returns-then-refusal-ne0 c =
     let t = c.if-refusal-ne0.true in
     let floors = list-kept ((let a = c.args in profile a.numbers a.floors.now a.ceilings.now a.rises.now)) lowest_point highest_point a.floors.now a.low.now e t in
     let ceilings = list-kept ((let a = c.args in profile a.numbers a.floors.now a.ceilings.now a.rises.now)) lowest_point highest_point a.ceilings.now a.high.now e t in
-    let rises = list-kept ((let a = c.args in profile a.numbers a.floors.now a.ceilings.now a.rises.now)) lowest_rise highest_rise a.rises.now a.steps.now e t in record { value = c.not_coded.ensures ∙ lengths_refused ((let a = c.args in profile a.numbers a.floors.now a.ceilings.now a.rises.now)) _ e t; low_after = floors; high_after = ceilings; steps_after = rises }
+    let rises = list-kept ((let a = c.args in profile a.numbers a.floors.now a.ceilings.now a.rises.now)) lowest_rise highest_rise a.rises.now
+    a.steps.now e t in record {
+      value = c.not_coded.ensures ∙
+          lengths_refused ((let a = c.args in profile a.numbers a.floors.now a.ceilings.now a.rises.now)) _ e t;
+      low_after = floors;
+      high_after =
+          ceilings;
+      steps_after = rises;
+    }
 
 pub code_all-bad_floor-requires : goal.code_all-bad_floor-requires
 code_all-bad_floor-requires c = let w = sized (goal.at.code_all-bad_floor-requires c).Else-refusal-ne0 in (search rules, omega (arith, w.floors, w.few))
@@ -42,4 +48,13 @@ returns c =
     let a = c.args in
     let floors = list-coded p (right (goal.at.returns c).Else-refusal-ne0) lowest_point highest_point p.floors a.low.now c.code_all-bad_floor.ensures.out_after in
     let ceilings = list-coded p (right (goal.at.returns c).Else-refusal-ne0) lowest_point highest_point p.ceilings a.high.now c.code_all-bad_ceiling.ensures.out_after in
-    let rises = list-coded p (right (goal.at.returns c).Else-refusal-ne0) lowest_rise highest_rise p.rises a.steps.now c.code_all-bad_rise.ensures.out_after in record { value = lists_told p (right (goal.at.returns c).Else-refusal-ne0) c.code_numbers.ensures (cc (c.code_all-bad_floor.ensures.value, c.code_all-bad_ceiling.ensures.value)) c.code_all-bad_rise.ensures.value; low_after = floors; high_after = ceilings; steps_after = rises }
+    let rises = list-coded p (right (goal.at.returns c).Else-refusal-ne0) lowest_rise highest_rise p.rises a.steps.now
+    c.code_all-bad_rise.ensures.out_after in record {
+      value =
+          lists_told p (right (goal.at.returns c).Else-refusal-ne0) c.code_numbers.ensures
+          (cc (c.code_all-bad_floor.ensures.value, c.code_all-bad_ceiling.ensures.value)) c.code_all-bad_rise.ensures.value;
+      low_after =
+          floors;
+      high_after = ceilings;
+      steps_after = rises;
+    }

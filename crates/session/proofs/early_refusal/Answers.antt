@@ -1,12 +1,11 @@
 -- `early_refusal` meets its contract: what 1 to 5 say of the profile, and 6 and 13 of its codes where they pass (laws of Checks).
--- ---- the places on the way: the profile is coded
--- ---- the needs
 use Rattle.session.specs.Opening.{profile}
 use Rattle.session.proofs.Checks.{CodedArrays, early_refused, early_range, in_bounds}
 use Rattle.session.proofs.early_refusal.Goals as goal
 use Rattle.session.proofs.early_refusal.Goals.{After-code_profile-coded}
 
-coded : (c : After-code_profile-coded) → CodedArrays ((let a = c.args in profile a.numbers a.floors.now a.ceilings.now a.rises.now)) c.code_profile-coded.new.low c.code_profile-coded.new.high c.code_profile-coded.new.steps c.code_profile-coded.result
+coded : (c : After-code_profile-coded) → CodedArrays ((let a = c.args in profile a.numbers a.floors.now a.ceilings.now a.rises.now))
+    c.code_profile-coded.new.low c.code_profile-coded.new.high c.code_profile-coded.new.steps c.code_profile-coded.result
 coded c = record { answer = c.code_profile-coded.ensures.value; floors = c.code_profile-coded.ensures.low_after; ceilings = c.code_profile-coded.ensures.high_after; rises = c.code_profile-coded.ensures.steps_after }
 
 pub returns-then-coded-ne0 : goal.returns-then-coded-ne0

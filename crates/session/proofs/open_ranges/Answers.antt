@@ -13,8 +13,24 @@ tighten-t-requires c =
 
 pub returns-then-t : goal.returns-then-t
 returns-then-t c =
-    ranges-found _ _ _ _ c.requires.1 c.range_refusal-refusal.ensures c.if-refusal-ne0.false {t = (let t = c.tighten-t in record { found = t.result.found; floors = t.new.floors; ceilings = t.new.ceilings; lowest = t.result.lowest; highest = t.result.highest })} c.tighten-t.ensures c.if-t.true
+    ranges-found _ _ _ _ c.requires.1 c.range_refusal-refusal.ensures c.if-refusal-ne0.false
+    {t = (let t = c.tighten-t in record {
+      found = t.result.found;
+      floors = t.new.floors;
+      ceilings = t.new.ceilings;
+      lowest =
+          t.result.lowest;
+      highest = t.result.highest;
+    })} c.tighten-t.ensures c.if-t.true
 
 pub returns : goal.returns
 returns c =
-    ranges-none _ _ _ _ c.requires.1 c.range_refusal-refusal.ensures c.if-refusal-ne0.false {t = (let t = c.tighten-t in record { found = t.result.found; floors = t.new.floors; ceilings = t.new.ceilings; lowest = t.result.lowest; highest = t.result.highest })} c.tighten-t.ensures c.if-t.false c.no_ranges-2.ensures
+    ranges-none _ _ _ _ c.requires.1 c.range_refusal-refusal.ensures c.if-refusal-ne0.false
+    {t = (let t = c.tighten-t in record {
+      found = t.result.found;
+      floors = t.new.floors;
+      ceilings = t.new.ceilings;
+      lowest =
+          t.result.lowest;
+      highest = t.result.highest;
+    })} c.tighten-t.ensures c.if-t.false c.no_ranges-2.ensures

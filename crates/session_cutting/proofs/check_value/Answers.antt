@@ -4,7 +4,7 @@ use Rattle.session_cutting.proofs.check_value.Goals as goal
 
 pub returns-then-not-placed : goal.returns-then-not-placed
 unfolding checked_value
-returns-then-not-placed c = rw (c.if-not-placed.true)
+returns-then-not-placed c = rw c.if-not-placed.true
 
 pub returns-in_default : goal.returns-in_default
 unfolding checked_value

@@ -1,5 +1,4 @@
 -- `clip` meets its contract: each arm knows the kind, and what `Clips` asks of it.
--- ---- the places on the way: the kind is known, seen from where the new bound is found
 use mathlib.Core.Path.{refl}
 use borrow.Author.Rules.{rules}
 use Rattle.session_cuts.specs.declared.Cut.TheVariants.{DayFloor, DayCeiling}

@@ -1,5 +1,4 @@
 -- `cut` meets its contract: each return knows what the checks before it found. That the cut is well-formed is said once, where its check has passed.
--- ---- the places on the way: the cut is checked, it is well-formed, the list is long enough, the session is not spent
 use mathlib.Core.Path.{◌≡◌, sym, ◌∙◌}
 use lib.ListN.{length}
 use native.Mathlib.Omega.{arith}
@@ -27,7 +26,12 @@ returns-then-changed-n c =
 
 pub returns-then-session : goal.returns-then-session
 returns-then-session c =
-    let e = c.refuse-then-session.ensures in record { value = e ∙ cut-spent _ _ _ (formed (goal.at.returns-then-session c).Else-checked-ne0) c.if-changed-n.false c.if-session.true; changed_after = list_left _ _ _ e (λ z. absurd (omega arith)) }
+    let e = c.refuse-then-session.ensures in record {
+      value = e ∙
+          cut-spent _ _ _ (formed (goal.at.returns-then-session c).Else-checked-ne0) c.if-changed-n.false c.if-session.true;
+      changed_after =
+          list_left _ _ _ e (λ z. absurd (omega arith));
+    }
 
 pub tighten_again-requires : goal.tighten_again-requires
 tighten_again-requires c =

@@ -1,5 +1,4 @@
 -- `cut_asked` meets its contract: each return knows whether the kind is known.
--- ---- the places on the way: the kind is known, the cut is made
 use mathlib.Core.Path.{refl, ◌∙◌}
 use native.Mathlib.Omega.{arith}
 use Rattle.session_cutting.proofs.Stages.{numbered_unknown, numbered-known, list_left}

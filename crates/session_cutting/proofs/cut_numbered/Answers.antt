@@ -1,5 +1,4 @@
 -- `cut_numbered` meets its contract: the kind's number, the day and the value tell the cut that is asked for.
--- ---- the places on the way: the cut is told, it is made
 use mathlib.Core.Path.{◌≡◌, ap, ◌∙◌}
 use lib.ListN.{length}
 use mir.Facts.{to_z-of_z}

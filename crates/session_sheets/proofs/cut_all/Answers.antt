@@ -6,7 +6,7 @@ use Rattle.session_sheets.proofs.Laws.{asked-same, making_none, making_more, mak
 use Rattle.session_sheets.proofs.cut_all.Goals as goal
 use Rattle.session_sheets.proofs.cut_all.Goals.{In-loop-j}
 
-inside : (c : In-loop-j) → c.loop-j.j < length ((c.args.asked))
+inside : (c : In-loop-j) → c.loop-j.j < length c.args.asked
 inside c = search rules
 
 pub loop-j-init : goal.loop-j-init
@@ -17,7 +17,7 @@ cut_once-after-requires c = c.loop-j.invariant.bounds
 
 pub loop-j-preserved : goal.loop-j-preserved
 loop-j-preserved c =
-    making_more c.loop-j.invariant c.loop-j-test.true (asked-same ((c.args.asked)) _ _ (inside (goal.at.loop-j-preserved c).In-loop-j)) c.cut_once-after.ensures c.answer_for.ensures
+    making_more c.loop-j.invariant c.loop-j-test.true (asked-same c.args.asked _ _ (inside (goal.at.loop-j-preserved c).In-loop-j)) c.cut_once-after.ensures c.answer_for.ensures
 
 pub returns : goal.returns
 returns c =

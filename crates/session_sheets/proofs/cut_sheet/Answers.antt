@@ -28,4 +28,5 @@ list_end-days-requires c =
 
 pub returns : goal.returns
 returns c =
-    let a = c.args in let whole = sheet_made a.session a.sheet a.room a.changed.now (none (goal.at.returns c).Else-refusal-ne0) c.cut_all-out.ensures (c.list_end-days.ensures.value, c.list_end-days.ensures.changed_after) in record { value = whole.0; changed_after = whole.1 }
+    let a = c.args in let whole = sheet_made a.session a.sheet a.room a.changed.now (none (goal.at.returns c).Else-refusal-ne0) c.cut_all-out.ensures
+    (c.list_end-days.ensures.value, c.list_end-days.ensures.changed_after) in record { value = whole.0; changed_after = whole.1 }

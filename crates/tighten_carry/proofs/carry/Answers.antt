@@ -18,7 +18,8 @@ turn c =
       ceiling = c.word-in-loop-i.ensures;
     }
 
-kept : (c : After-word-in-loop-i-2) → let a = c.args in Kept a.floors.now a.ceilings.now a.rises.now a.n c.loop-i.i c.loop-i.up c.loop-i.floors c.word.result c.word-in-loop-i.result (c.larger.result - 2000) c.word-in-loop-i-2.result
+kept : (c : After-word-in-loop-i-2) → let a = c.args in Kept a.floors.now a.ceilings.now a.rises.now a.n c.loop-i.i c.loop-i.up c.loop-i.floors
+    c.word.result c.word-in-loop-i.result (c.larger.result - 2000) c.word-in-loop-i-2.result
 kept c =
     record {
       turn = (record { head = c.loop-i.invariant; more = c.loop-i-test.true; read = c.word.ensures.0; floor = ap (λ m. m - 2000) c.larger.ensures; ceiling = c.word-in-loop-i.ensures });

@@ -1,6 +1,5 @@
 -- `carry` meets its contract. At its loop's head, `Upto` of Laws, the floors below i are carried and uncrossed; the measure is the days left.
 -- What a turn reads, and what it then stores, is said once each.
--- ---- the places of a turn: it begins, the new floor is known, the ceiling is read, the floor is not above it
 use Prim.Native.Nat.{◌-◌}
 use mathlib.Core.Path.{ap}
 use Rattle.tighten_carry.proofs.Laws.{Upto, Turn, Kept, upto-none, upto-more, upto-crossed, upto_all}

@@ -1,6 +1,4 @@
 -- `carry_back` meets its contract. At its loop's head the days from i on are carried (`Backing` of Laws); the measure is i. What a turn leaves is said once.
--- ---- the places of a turn: its head, the rise is read, the level is read, the new level is known
--- ---- the needs
 use Prim.Native.Nat.{ℕ, ◌+◌, ◌-◌, ◌<◌, min, max}
 use mathlib.Core.Path.{◌≡◌, ap, ◌∙◌}
 use lib.ListN.{set}

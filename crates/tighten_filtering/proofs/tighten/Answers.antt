@@ -1,8 +1,5 @@
 -- `tighten` meets its contract: what each stage leaves is said once, as a record of Stage at the place where it is done, from the record before it;
 -- a law for each return.
--- ---- the places on the way: no day is crossed, the total is not over, the ceilings are lowered, the total's range is narrowed
--- ---- what each stage leaves
--- ---- the needs
 use Rattle.tighten_filtering.specs.Boxed.{boxed}
 use Rattle.tighten_filtering.proofs.Stage.{Carried, Lowered, Narrowed, carries, tight_crossed, carried-ready, tight_over, lowered_raisable, tight_apart, tight_found}
 use native.Mathlib.Omega.{arith}
@@ -16,9 +13,22 @@ lowered : (c : After-lower_ceilings) → let a = c.args in Lowered (boxed a.floo
 lowered c =
     record { before = (carries c.requires c.carry.ensures.value c.carry.ensures.floors_after c.if-carry-n.false); bottom = c.held_total-bottom.ensures.0; under = c.if-highest-bottom.false; ceilings = c.lower_ceilings.ensures }
 
-narrowed : (c : After-min-high) → let a = c.args in Narrowed (boxed a.floors.now a.ceilings.now a.rises.now a.numbers) c.carry.new.floors c.held_total-bottom.result c.lower_ceilings.new.ceilings c.held_total-top.result c.max-low.result c.min-high.result
+narrowed : (c : After-min-high) → let a = c.args in Narrowed (boxed a.floors.now a.ceilings.now a.rises.now a.numbers) c.carry.new.floors
+    c.held_total-bottom.result c.lower_ceilings.new.ceilings c.held_total-top.result c.max-low.result c.min-high.result
 narrowed c =
-    record { before = (record { before = (carries c.requires c.carry.ensures.value c.carry.ensures.floors_after c.if-carry-n.false); bottom = c.held_total-bottom.ensures.0; under = c.if-highest-bottom.false; ceilings = c.lower_ceilings.ensures }); top = c.held_total-top.ensures.0; low = c.max-low.ensures; high = c.min-high.ensures }
+    record {
+      before = (record {
+        before = (carries c.requires c.carry.ensures.value c.carry.ensures.floors_after c.if-carry-n.false);
+        bottom =
+            c.held_total-bottom.ensures.0;
+        under = c.if-highest-bottom.false;
+        ceilings = c.lower_ceilings.ensures;
+      });
+      top =
+          c.held_total-top.ensures.0;
+      low = c.max-low.ensures;
+      high = c.min-high.ensures;
+    }
 
 pub returns-then-carry-n : goal.returns-then-carry-n
 returns-then-carry-n c =

@@ -1,5 +1,4 @@
 -- `drop_last` meets its contract: what it reads is the day before the last.
--- ---- the places on the way: the rise is read, the shift is known, the floor is read
 use Prim.Native.Nat.{◌-◌}
 use mathlib.Core.Path.{◌≡◌, refl}
 use Rattle.theory_lists.specs.Sum.{at}

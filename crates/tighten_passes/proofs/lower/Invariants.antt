@@ -1,5 +1,4 @@
 -- `lower` meets its contract. At its loop's head each level above, up to the first, is over the margin; the measure is the level.
--- ---- the places on the way: before the loop, and a turn's head
 use Rattle.tighten_passes.specs.View.{viewed, viewed_rises}
 use Rattle.tighten_passes.proofs.Laws.{Stand}
 use Rattle.tighten_passes.proofs.lower.Given as goal

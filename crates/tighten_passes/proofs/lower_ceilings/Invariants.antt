@@ -1,7 +1,5 @@
 -- `lower_ceilings` meets its contract. At its loop's head the days past i hold the definition's ceilings; the measure is i.
--- ---- the places on the way: the last day's shift is known, its ceiling is read, the loop's head; then in a turn: the ceiling is read, the floor is read, the
 -- day is lowered
--- ---- the needs
 use Rattle.tighten_passes.proofs.Laws.{Lowering}
 use Rattle.tighten_passes.proofs.lower_ceilings.Given as goal
 

@@ -1,6 +1,4 @@
 -- `raise_floors` meets its contract. At its loop's head the days before i hold the definition's floors; the measure is what is left of the days.
--- ---- the places on the way: the first counted day's floor is read, the loop's head; then in a turn: the floor is read, the ceiling is read, the day is raised
--- ---- the needs
 use Prim.Native.Nat.{◌-◌}
 use Rattle.tighten_passes.proofs.Laws.{Raising}
 use Rattle.tighten_passes.proofs.raise_floors.Given as goal

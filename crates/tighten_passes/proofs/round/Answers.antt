@@ -1,5 +1,4 @@
 -- `round` meets its contract: what it lowers the level to is document 01's round.
--- ---- the places on the way: what the room has for each day is above top, or not
 use mathlib.Core.Path.{refl}
 use Rattle.tighten_passes.proofs.Laws.{round_even, top_open, round_top}
 use Rattle.tighten_passes.proofs.round.Goals as goal

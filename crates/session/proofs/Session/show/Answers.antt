@@ -1,5 +1,4 @@
 -- `show` meets its contract: a law of Shows for each return. Every level shown fits 16 bits, since the session is sane.
--- ---- the places on the way: both lists are long enough, the floors are shown, the ceilings are shown
 use mathlib.Core.Path.{refl, sym, ◌∙◌}
 use Rattle.theory_lists.specs.Lent.{list-filled}
 use Rattle.session.proofs.Shows.{first_short, second_short, both_long, left, total_seen}
@@ -15,11 +14,17 @@ pub returns-then-ceilings-n : goal.returns-then-ceilings-n
 returns-then-ceilings-n c = let e = c.too_short-then-ceilings-n.ensures in record { value = e ∙ second_short _ _ _ c.if-ceilings-n.true; floors_after = left _ _ _ e; ceilings_after = left _ _ _ e }
 
 pub decode_all-requires : goal.decode_all-requires
-decode_all-requires c = let p = (c.requires.present) in (refl, omega (arith, p.most), search rules, λ k h. omega (arith, p.floor k h))
+decode_all-requires c = let p = c.requires.present in (refl, omega (arith, p.most), search rules, λ k h. omega (arith, p.floor k h))
 
 pub decode_all-requires-2 : goal.decode_all-requires-2
-decode_all-requires-2 c = let p = (c.requires.present) in (refl, omega (arith, p.most), search rules, λ k h. omega (arith, p.ceiling k h))
+decode_all-requires-2 c = let p = c.requires.present in (refl, omega (arith, p.most), search rules, λ k h. omega (arith, p.ceiling k h))
 
 pub returns : goal.returns
 returns c =
-    let p = (c.requires.present) in record { value = rw (total_seen c.decode.ensures p.lowest, total_seen c.decode-2.ensures p.highest) (both_long _ _ _ c.if-floors-n.false c.if-ceilings-n.false); floors_after = c.decode_all.ensures ∙ sym (list-filled 0 _ _ _ refl); ceilings_after = c.decode_all-2.ensures ∙ sym (list-filled 0 _ _ _ refl) }
+    let p = c.requires.present in record {
+      value = rw (total_seen c.decode.ensures p.lowest, total_seen c.decode-2.ensures p.highest)
+          (both_long _ _ _ c.if-floors-n.false c.if-ceilings-n.false);
+      floors_after = c.decode_all.ensures ∙
+          sym (list-filled 0 _ _ _ refl);
+      ceilings_after = c.decode_all-2.ensures ∙ sym (list-filled 0 _ _ _ refl);
+    }
