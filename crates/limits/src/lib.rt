@@ -2,7 +2,6 @@
 // has the offset as its code and the highest bound the highest code.
 #![tactic(auto)]
 
-
 // ---- entries
 
 pub const MOST_DAYS: usize = 512;
