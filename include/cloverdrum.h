@@ -36,7 +36,8 @@
  *     on x86-64       memcpy, memset
  *     on Cortex-M     __aeabi_memclr, __aeabi_memclr4, and on Cortex-M0+ __aeabi_lmul, __aeabi_uidiv
  *     on ARMv7 Linux  memset
- * The archive for x86-64 is that of the kit, the others are those of board/build; docs/BOARD.md says what is proved of them and what is tested.
+ * The archive for x86-64 is that of the kit, for processors from x86-64-v2 on; the others are those of board/build, and docs/BOARD.md says what is proved of
+ * them and what is tested.
  *
  * Stack. An entry takes at most so many bytes, with the arguments that are passed on the stack, on x86-64 and on Cortex-M. Nothing stops it on a stack that is
  * shorter, where no guard page lies below.
