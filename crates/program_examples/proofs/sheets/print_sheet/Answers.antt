@@ -14,10 +14,8 @@ use Rattle.session_sheets.specs.Sheets.{answers_to, sheet_refusal, asked_on, tak
 use Rattle.session_sheets.specs.declared.AskedSheet.{AskedSheet}
 use Rattle.session_sheets.specs.declared.AfterSheet.{AfterSheet}
 use Rattle.session_sheets.proofs.Laws.{after-bounds, sheet_passed}
-use Rattle.program_examples.proofs.sheets.print_sheet.Statement.{statement}
-use Rattle.program_examples.proofs.sheets.print_sheet.Tie as tie
-
--- ---- what a sheet gives
+use Rattle.program_examples.proofs.sheets.print_sheet.Goals as goal
+use Rattle.program_examples.proofs.sheets.print_sheet.Goals.{After-cut_sheet-after}
 
 abbrev Printable : AfterSheet → Type 0
 Printable r = (r.answers.count ≤ 512) × SessionInBounds r.session
@@ -35,32 +33,14 @@ given s t answers changed b = go (eqb (sheet_refusal s.days t.count answers chan
     go true e = taken s (asked_on t) t.count b (sheet_passed s.days t.count answers changed (eqb-true _ _ e)).0
     go false e = (omega arith, b)
 
--- ---- the places on the way: the cuts are made, what they give is printed
+printable : (c : After-cut_sheet-after) → Printable c.cut_sheet-after.result
+printable c = rw c.cut_sheet-after.ensures.value (given _ _ _ _ c.requires.0)
 
-abbrev at-start : tie.After-cut-sheet → tie.Start
-at-start c = c.before.before.before
+pub slice_bounds-cut_sheet-end : goal.slice_bounds-cut_sheet-end
+slice_bounds-cut_sheet-end c = sym (length-take-le _ _ (omega arith))
 
-abbrev at-cuts : tie.After-result → tie.After-cut-sheet
-at-cuts c = c.before.before.before.before
+pub print_after-requires : goal.print_after-requires
+print_after-requires c = printable (goal.at.print_after-requires c).After-cut_sheet-after
 
-printable : (c : tie.After-cut-sheet) → Printable c.cut-sheet.result
-printable c = rw c.cut-sheet.ensures.0 (given _ _ _ _ (at-start c).requires.0)
-
-slice-aggregate-cut-sheet : tie.Need-slice-aggregate-cut-sheet
-slice-aggregate-cut-sheet c = sym (length-take-le _ _ (omega arith))
-
-print-after-requires : tie.Need-print-after-requires
-print-after-requires c κs = printable c.before.before
-
-returns : tie.Need-returns
-returns c = (printable (at-cuts c)).1
-
-pub print-sheet-spec : {M : Type 1} → statement M
-print-sheet-spec =
-    tie.close
-    (tie.spec
-    (λ c. search rules)
-    slice-aggregate-cut-sheet
-    (λ c. search rules)
-    print-after-requires
-    returns)
+pub returns : goal.returns
+returns c = (printable (goal.at.returns c).After-cut_sheet-after).1
