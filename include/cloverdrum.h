@@ -49,7 +49,7 @@
  *     cloverdrum_write_total    3,328   3,584
  *     cloverdrum_inspect        4,352   4,352
  *     cloverdrum_write_file     5,376   5,632
- *     cloverdrum_read_file      3,328   3,584
+ *     cloverdrum_read_file      3,584   3,584
  *     cloverdrum_session_bytes    256     256
  */
 #ifndef CLOVERDRUM_H
@@ -73,7 +73,7 @@ extern "C" {
 
 /* The version, 100 for 1.00. The hundreds change where a session's bytes, the profile file or the parameters of an entry do, else the last two digits:
  * versions with the same hundreds take each other's sessions and files. CHANGELOG.md has an entry for each. */
-#define CLOVERDRUM_VERSION 202
+#define CLOVERDRUM_VERSION 203
 
 /* Bounds of an entry. */
 #define CLOVERDRUM_MOST_DAYS 512
