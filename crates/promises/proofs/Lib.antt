@@ -30,5 +30,7 @@ pub mod Demands
 pub mod SheetsInBytes
 pub mod Schedules
 pub mod Files
+-- The tables.
+pub mod Starred
 -- All of it.
 pub mod Promised

@@ -5,7 +5,7 @@ use Rattle.file_printing.proofs.Longer.{printed-long}
 use Rattle.c_layout.proofs.Inverse.{decoding_in_bounds, decoding-encoding}
 use Rattle.c_layout.proofs.Patching.{patched-encoding}
 use Rattle.promises.specs.Promises.{Promises}
-use Rattle.promises.specs.Starred.{starred, starred-sheets}
+use Rattle.promises.proofs.Starred.{starred, starred-sheets}
 use Rattle.promises.proofs.Demand1.{demand_1}
 use Rattle.promises.proofs.Demand2.{demand_2}
 use Rattle.promises.proofs.Demand3.{demand_3}

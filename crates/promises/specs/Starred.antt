@@ -259,14 +259,5 @@ sheet_table =
 abbrev pub Starred : Type 0
 Starred = map (λ (r : Row). replies r.given r.cuts r.asked) table ≡ map (λ (r : Row). r.gives) table
 
-pub starred : Starred
-unfolding counted spare rounds_from rounded below opened early_opening tightened tight_ceilings tight_floors raised lowered_from first_where carried written sum_for fit_from shift_from after_cut early_cutting clipped list_after in_front days_where settled_order insert_day
-starred = refl
-
 abbrev pub StarredSheets : Type 0
 StarredSheets = map (λ (r : SheetRow). sheet_reply r.given r.asked) sheet_table ≡ map (λ (r : SheetRow). r.gives) sheet_table
-
-pub starred-sheets : StarredSheets
-unfolding counted spare opened early_opening tightened tight_ceilings tight_floors raised lowered_from first_where carried written sum_for fit_from shift_from after_cut after_numbered early_cutting clipped in_front days_where settled_order insert_day
-    after_cuts sheet_refusal answers_to after_sheet list_after_sheet
-starred-sheets = refl
