@@ -36,7 +36,8 @@
  *     on x86-64       memcpy, memset
  *     on Cortex-M     __aeabi_memclr, __aeabi_memclr4, and on Cortex-M0+ __aeabi_lmul, __aeabi_uidiv
  *     on ARMv7 Linux  memset
- * The archive for x86-64 is that of the kit, the others are those of board/build; docs/BOARD.md says what is proved of them and what is tested.
+ * The archive for x86-64 is that of the kit, for processors from x86-64-v2 on; the others are those of board/build, and docs/BOARD.md says what is proved of
+ * them and what is tested.
  *
  * Stack. An entry takes at most so many bytes, with the arguments that are passed on the stack, on x86-64 and on Cortex-M. Nothing stops it on a stack that is
  * shorter, where no guard page lies below.
@@ -48,7 +49,7 @@
  *     cloverdrum_write_total    3,328   3,584
  *     cloverdrum_inspect        4,352   4,352
  *     cloverdrum_write_file     5,376   5,632
- *     cloverdrum_read_file      3,328   3,584
+ *     cloverdrum_read_file      3,584   3,584
  *     cloverdrum_session_bytes    256     256
  */
 #ifndef CLOVERDRUM_H
@@ -72,7 +73,7 @@ extern "C" {
 
 /* The version, 100 for 1.00. The hundreds change where a session's bytes, the profile file or the parameters of an entry do, else the last two digits:
  * versions with the same hundreds take each other's sessions and files. CHANGELOG.md has an entry for each. */
-#define CLOVERDRUM_VERSION 202
+#define CLOVERDRUM_VERSION 203
 
 /* Bounds of an entry. */
 #define CLOVERDRUM_MOST_DAYS 512
