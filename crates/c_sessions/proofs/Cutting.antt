@@ -22,7 +22,7 @@ use Rattle.session_cuts.specs.declared.Cut.TheVariants.{DayFloor, DayCeiling, To
 use Rattle.session_cuts.specs.declared.Numbered.{Numbered}
 use Rattle.session_order.specs.Order.{settled_losers, day_cells}
 use Rattle.session_changed.specs.Changes.{lost}
-use Rattle.session_changed.proofs.Laws.{narrowed-losers}
+use Rattle.session_changed.proofs.Laws.{narrowed-losers, narrowed_same}
 use Rattle.session_cutting.specs.Cutting.{malformed, clipped, retightened, spend, refusing, changed_days, after_numbered}
 use Rattle.session_cutting.proofs.Laws.{clipped_in_bounds, tightened_narrows}
 use Rattle.session_cutting.proofs.Stages.{again-found, again-none}
@@ -72,7 +72,7 @@ module _ (b : List ℕ) (c : Cut) {t : Tight} (e : t ≡ retightened (decoding b
     -- the days that lost points are those that changed
     changes : settled_losers (lost (decoding b).present.floors (decoding b).present.ceilings t.floors t.ceilings) (decoding b).days
         ≡ changed_days (decoding b).days (decoding b).present (ranges_of t)
-    changes = sym (narrowed-losers (tightened_narrows (decoding b) c (decoding_in_bounds b) formed e some))
+    changes = sym (narrowed-losers (narrowed_same (tightened_narrows (decoding b) c (decoding_in_bounds b) formed e some)))
 
     pub made_found : (l : List ℕ) {n count : ℕ} {bytes list : List ℕ} → Stored b l n t count bytes list
         → Cuts b (made_of b c) l (record { refusal = 0; changed = count }) bytes list

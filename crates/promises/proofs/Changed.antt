@@ -28,8 +28,8 @@ use Rattle.session_order.proofs.Settled.{Ahead, settled-mem, settled_pairs, ahea
 use Rattle.session_cutting.specs.Cutting.{changed_days, after_numbered, list_after}
 use Rattle.session_cutting.proofs.Laws.{changed_few, accepted-list, numbered-accepted, Narrows, numbered_narrows}
 use Rattle.session_cutting.specs.declared.AfterCut.{AfterCut}
-use Rattle.promises.specs.Demands.{lost_on, Before, DaysListed, DaysOrdered, Stays, Changes}
-use Rattle.promises.specs.DemandsInBytes.{Changed}
+use Rattle.promises.specs.Demands.{lost_on, Before, Changes, DaysListed, DaysOrdered, Stays, ListedChanges}
+use Rattle.promises.specs.DemandsInBytes.{ListedBytes}
 use Rattle.base_little_endian.specs.Fields.{u16_at}
 
 -- two levels are the same where their points are
@@ -136,7 +136,7 @@ pub front_stays : (xs l : List ℕ) {count : ℕ} → count ≡ length xs → le
 front_stays xs l e h = record { rest = λ i k. front-past xs l i 0 (omega arith); long = front_length xs l h }
 
 pub changes : (s u : Session) {count : ℕ} {l out : List ℕ} → count ≡ length (changed_days s.days s.present u.present) → out ≡ in_front (changed_days s.days s.present u.present) l
-    → s.days ≤ length l → (SessionInBounds s → Narrows s u) → Changes s u count l out
+    → s.days ≤ length l → (SessionInBounds s → Narrows s u) → ListedChanges s u count l out
 changes s u {count} {l} counted front room narrows =
     let held : (i : ℕ) → i < count → at (in_front (days s u) l) i ≡ at (days s u) i = λ i h. front_at (days s u) l i 0 (omega arith) in
     rw front (record {
@@ -146,16 +146,16 @@ changes s u {count} {l} counted front room narrows =
     })
 
 -- an accepted cut's
-pub cut-changes : (s : Session) (t : Numbered) (l : List ℕ) → let r : AfterCut = after_numbered s t (length l) in
-    r.answer.refusal ≡ 0 → Changes s r.session r.answer.changed l (list_after s r l)
+pub cut-changes : (s : Session) (t : Numbered) (l : List ℕ) → (after_numbered s t (length l)).answer.refusal ≡ 0 → Changes s l (after_numbered s t (length l))
 cut-changes s t l z =
     let r : AfterCut = after_numbered s t (length l) in
     let a = numbered-accepted s t (length l) z in
-    changes s r.session a.counted (accepted-list s r l z) a.roomy (λ b. numbered_narrows s t (length l) b z)
+    let d = changes s r.session a.counted (accepted-list s r l z) a.roomy (λ b. numbered_narrows s t (length l) b z) in
+    record { listed = d.days.listed; once = d.days.once; order = d.order; rest = d.past.rest; long = d.past.long }
 
 -- the same where the list holds the days as bytes
 pub bytes-changed : (s u : Session) {count : ℕ} {l out : List ℕ} → count ≡ length (changed_days s.days s.present u.present)
-    → out ≡ in_front (day_cells (changed_days s.days s.present u.present)) l → s.days ≤ length l / 2 → Narrows s u → Changed s u count l out
+    → out ≡ in_front (day_cells (changed_days s.days s.present u.present)) l → s.days ≤ length l / 2 → Narrows s u → ListedBytes s u count l out
 bytes-changed s u {count} {l} counted front room narrows =
     let held : (i : ℕ) → i < count → u16_at (in_front (day_cells (days s u)) l) (i * 2) ≡ at (days s u) i = λ i h. cell_read (days s u) l i (omega arith) in
     let wide = days-length (days s u) in

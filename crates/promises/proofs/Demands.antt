@@ -40,7 +40,7 @@ use Rattle.c_lists.proofs.Laws.{points_left}
 use Rattle.c_layout.specs.Layout.{encoding, decoding}
 use Rattle.c_sessions.specs.Sessions.{is_session, open_refusal, bytes_opened, bytes_for, list_for, cut_answer, bytes_cut, changed_bytes, shown_over}
 use Rattle.promises.specs.InBytes.{ByteCutCall, calls_by_value, CameFrom}
-use Rattle.promises.specs.DemandsInBytes.{BytesLeft, Changed, Unchanged, AfterBytes, read_ranges, Read, Reading, NoneAtOpening, NoneAtCutOver, DemandsInBytes}
+use Rattle.promises.specs.DemandsInBytes.{BytesLeft, Changed, ListedBytes, Unchanged, AfterBytes, read_ranges, Read, Reading, NoneAtOpening, NoneAtCutOver, DemandsInBytes}
 use Rattle.promises.proofs.Bytes.{Came, came, cut-held}
 use Rattle.promises.proofs.Points.{point_fits, lent_point, lent-rest}
 
@@ -216,14 +216,16 @@ module _ (p : Profile) (hs : List ByteCutCall) (b : List ℕ) (c : CameFrom p hs
       unfolding changed_bytes list_for
       front = rw (w.sized, eq-eqb r.answer.refusal 0 z) refl
 
-      changed : Changed (decoding b) (decoding (bytes_cut b t (length l))) (cut_answer b t (length l)).changed l (changed_bytes b t l)
+      changed : ListedBytes (decoding b) (decoding (bytes_cut b t (length l))) (cut_answer b t (length l)).changed l (changed_bytes b t l)
       changed =
           rw (answers, (cut-held p hs b c t (length l)).after-held)
           (bytes-changed (decoding b) r.session accepted.counted front accepted.roomy
           (numbered_narrows (decoding b) t (length l / 2) w.storable.bounds z))
 
-  changed-over : (t : Numbered) (l : List ℕ) → (cut_answer b t (length l)).refusal ≡ 0 → Changed (decoding b) (decoding (bytes_cut b t (length l))) (cut_answer b t (length l)).changed l (changed_bytes b t l)
-  changed-over t l z = changed t l (rw (answers t l) at z)
+  changed-over : (t : Numbered) (l : List ℕ) → (cut_answer b t (length l)).refusal ≡ 0 → Changed b t l
+  changed-over t l z =
+      let d = changed t l (rw (answers t l) at z) in
+      record { listed = d.days.listed; once = d.days.once; order = d.order; rest = d.past.rest; long = d.past.long }
 
   looser : (decoding b).spent ≡ false → (e : Cut) → WellFormed p e → Looser (decoding b) e → (l : List ℕ) → p.days ≤ length l / 2 → Unchanged b (Known e) l
   unfolding after_numbered day_cells in_front rows

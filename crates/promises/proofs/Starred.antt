@@ -34,17 +34,20 @@ F = starred_profile (1 ⋯ 5 ∷ 4 ⋯ 5 ∷ 6 ⋯ 6 ∷ 6 ⋯ 7 ∷ []) (pos 0 
 
 -- from 5 points: both day 0's own ceiling and the next day's lowered one
 rounds_of_F : rounds_on F 0 ≡ 2
-unfolding counted spare rounded below opened early_opening tightened tight_ceilings tight_floors raised lowered_from first_where carried written sum_for fit_from shift_from after_cut early_cutting clipped list_after in_front days_where settled_order insert_day
+unfolding counted spare rounded below opened early_opening tightened tight_ceilings tight_floors raised lowered_from first_where carried
+    written sum_for fit_from shift_from after_cut early_cutting clipped list_after in_front days_where settled_order insert_day
 rounds_of_F = two _ _ _ _ _ 1023002 1023005 refl refl refl
 
 pub starred : Starred
-unfolding counted spare opened early_opening tightened tight_ceilings tight_floors raised lowered_from first_where carried written sum_for fit_from shift_from after_cut early_cutting clipped list_after in_front days_where settled_order insert_day
+unfolding counted spare opened early_opening tightened tight_ceilings tight_floors raised lowered_from first_where carried written sum_for
+    fit_from shift_from after_cut early_cutting clipped list_after in_front days_where settled_order insert_day
 starred =
     row refl (row refl (row refl (row refl (row refl (row (ap (λ r. opening (opened F) ∷ takes 0 r ∷ []) rounds_of_F) (row refl (
     row refl (row refl (row refl (row refl (row refl (row refl (row refl (
     row refl (row refl (row refl (row refl (row refl (row refl (row refl (refl)))))))))))))))))))))
 
 pub starred-sheets : StarredSheets
-unfolding counted spare opened early_opening tightened tight_ceilings tight_floors raised lowered_from first_where carried written sum_for fit_from shift_from after_cut after_numbered early_cutting clipped in_front days_where settled_order insert_day
+unfolding counted spare opened early_opening tightened tight_ceilings tight_floors raised lowered_from first_where carried written sum_for
+    fit_from shift_from after_cut after_numbered early_cutting clipped in_front days_where settled_order insert_day
     after_cuts sheet_refusal answers_to after_sheet list_after_sheet
 starred-sheets = refl

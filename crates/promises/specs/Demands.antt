@@ -32,6 +32,23 @@ lost_on s u k = width_on s k -ℤ width_on u k
 abbrev pub Before : Session → Session → ℕ → ℕ → Type 0
 Before s u j k = (lost_on s u k <ℤ lost_on s u j) ⊎ ((lost_on s u j ≡ lost_on s u k) × (j < k))
 
+-- what an accepted cut answers: the first places of the list, as many as days changed, hold exactly the days whose shown range is another than
+-- before, each one time, and where the session's numbers are in bounds (SessionsInBounds, below) the largest loss first and equal losses by day; the rest of
+-- the list is as before, and so is its length
+pub record Changes (s : Session) (l : List ℕ) (r : AfterCut) : Type 0 where
+  pub listed : (k : ℕ) → ((i : ℕ) × (i < r.answer.changed) × (at (list_after s r l) i ≡ k)) ↔ (k < s.days) × ((floor_on s k ≡ floor_on r.session k) × (ceiling_on s k ≡ ceiling_on r.session k) → ⊥)
+  pub once : (i j : ℕ) → i < j → j < r.answer.changed → at (list_after s r l) i ≡ at (list_after s r l) j → ⊥
+  pub order : SessionInBounds s → (i j : ℕ) → i < j → j < r.answer.changed → Before s r.session (at (list_after s r l) i) (at (list_after s r l) j)
+  pub rest : (i : ℕ) → r.answer.changed ≤ i → at (list_after s r l) i ≡ at l i
+  pub long : length (list_after s r l) ≡ length l
+
+-- for whatever session, cut and lent list
+pub record Demand1 : Type 0 where
+  pub refused : (s : Session) (t : Numbered) (l : List ℕ) → Leaves s l (after_numbered s t (length l))
+  pub accepted : (s : Session) (t : Numbered) (l : List ℕ) → (after_numbered s t (length l)).answer.refusal ≡ 0 → Changes s l (after_numbered s t (length l))
+
+-- ---- a list for changed days, for a sheet of cuts too
+
 -- the first places of a list, `count` of them, hold exactly the days whose shown range in session u is another than in session s, each one time; `day i` is what
 -- place i holds
 pub record DaysListed (s u : Session) (count : ℕ) (day : ℕ → ℕ) : Type 0 where
@@ -49,16 +66,10 @@ pub record Stays (count : ℕ) (l out : List ℕ) : Type 0 where
 
 -- what a list l for changed days is afterwards, from session s to session u: its first places, as many as days changed, hold those days, in their order where the
 -- session's numbers are in bounds (SessionsInBounds, below); the rest of it stays
-pub record Changes (s u : Session) (count : ℕ) (l out : List ℕ) : Type 0 where
+pub record ListedChanges (s u : Session) (count : ℕ) (l out : List ℕ) : Type 0 where
   pub days : DaysListed s u count (at out)
   pub order : SessionInBounds s → DaysOrdered s u count (at out)
   pub past : Stays count l out
-
--- for whatever session, cut and lent list
-pub record Demand1 : Type 0 where
-  pub refused : (s : Session) (t : Numbered) (l : List ℕ) → Leaves s l (after_numbered s t (length l))
-  pub accepted : (s : Session) (t : Numbered) (l : List ℕ) → let r : AfterCut = after_numbered s t (length l) in
-      r.answer.refusal ≡ 0 → Changes s r.session r.answer.changed l (list_after s r l)
 
 -- ---- document 01's cases
 

@@ -12,7 +12,7 @@ use Rattle.session_cuts.specs.declared.Numbered.{Numbered}
 use Rattle.session_cuts.specs.declared.Numbered.TheVariants.{Known}
 use Rattle.session_cutting.specs.Cutting.{spend, early_numbered}
 use Rattle.promises.specs.Cuts.{WellFormed, Looser, ValidIn, Kept}
-use Rattle.promises.specs.Demands.{DaysListed, DaysOrdered, Stays, Exact}
+use Rattle.promises.specs.Demands.{Before, DaysListed, DaysOrdered, Stays, Exact}
 use Rattle.base_little_endian.specs.Fields.{u16_at}
 use Rattle.c_lists.specs.Lists.{point_at, lent_points}
 use Rattle.c_lists.specs.Profiles.{ByteProfile, byte_length_refusal, profile_of}
@@ -41,9 +41,21 @@ pub record BytesLeft : Type 0 where
       → bytes_cut b t (length l) ≡ b
   pub reading : (b fs cs : List ℕ) → ((read_ranges b fs cs).refusal ≡ 0 → ⊥) → (floors_read b fs cs ≡ fs) × (ceilings_read b fs cs ≡ cs)
 
+-- what an accepted cut answers: the first places of the list, as many as days changed, hold exactly the days whose shown range is another than
+-- before, each one time, the largest loss first and equal losses by day; the rest of the list's bytes are as before
+pub record Changed (b : List ℕ) (t : Numbered) (l : List ℕ) : Type 0 where
+  pub listed : (k : ℕ)
+      → ((i : ℕ) × (i < (cut_answer b t (length l)).changed) × (u16_at (changed_bytes b t l) (i * 2) ≡ k))
+      ↔ (k < (decoding b).days) × ((floor_on (decoding b) k ≡ floor_on (decoding (bytes_cut b t (length l))) k) × (ceiling_on (decoding b) k ≡ ceiling_on (decoding (bytes_cut b t (length l))) k) → ⊥)
+  pub once : (i j : ℕ) → i < j → j < (cut_answer b t (length l)).changed → u16_at (changed_bytes b t l) (i * 2) ≡ u16_at (changed_bytes b t l) (j * 2) → ⊥
+  pub order : (i j : ℕ) → i < j → j < (cut_answer b t (length l)).changed
+      → Before (decoding b) (decoding (bytes_cut b t (length l))) (u16_at (changed_bytes b t l) (i * 2)) (u16_at (changed_bytes b t l) (j * 2))
+  pub rest : (i : ℕ) → (cut_answer b t (length l)).changed * 2 ≤ i → at (changed_bytes b t l) i ≡ at l i
+  pub long : length (changed_bytes b t l) ≡ length l
+
 -- what a list l for changed days is afterwards, from session s to session u: its first places, as many as days changed, hold those days, 2 bytes each, the largest
 -- loss first and equal losses by day; the rest of its bytes stays
-pub record Changed (s u : Session) (count : ℕ) (l out : List ℕ) : Type 0 where
+pub record ListedBytes (s u : Session) (count : ℕ) (l out : List ℕ) : Type 0 where
   pub days : DaysListed s u count (λ i. u16_at out (i * 2))
   pub order : DaysOrdered s u count (λ i. u16_at out (i * 2))
   pub past : Stays (count * 2) l out
@@ -103,7 +115,6 @@ pub record DemandsInBytes : Type 0 where
   pub after : (p : Profile) (hs : List ByteCutCall) (b : List ℕ) → CameFrom p hs b → AfterBytes p hs b
   pub read : (p : Profile) (hs : List ByteCutCall) (b : List ℕ) → CameFrom p hs b → (fs cs : List ℕ) → Reading p hs b fs cs
   pub none_at_cut : (p : Profile) (hs : List ByteCutCall) (b : List ℕ) → CameFrom p hs b → (h : ByteCutCall) → NoneAtCutOver p hs b h
-  pub changed : (p : Profile) (hs : List ByteCutCall) (b : List ℕ) → CameFrom p hs b → (t : Numbered) (l : List ℕ) → (cut_answer b t (length l)).refusal ≡ 0
-      → Changed (decoding b) (decoding (bytes_cut b t (length l))) (cut_answer b t (length l)).changed l (changed_bytes b t l)
+  pub changed : (p : Profile) (hs : List ByteCutCall) (b : List ℕ) → CameFrom p hs b → (t : Numbered) (l : List ℕ) → (cut_answer b t (length l)).refusal ≡ 0 → Changed b t l
   pub looser : (p : Profile) (hs : List ByteCutCall) (b : List ℕ) → CameFrom p hs b → (decoding b).spent ≡ false
       → (c : Cut) → WellFormed p c → Looser (decoding b) c → (l : List ℕ) → p.days ≤ length l / 2 → Unchanged b (Known c) l

@@ -11,7 +11,7 @@ use Rattle.session_sheets.specs.Sheets.{not_answered, asked_on, after_sheet, lis
 use Rattle.session_sheets.specs.declared.AskedSheet.{AskedSheet}
 use Rattle.session_sheets.specs.declared.AfterSheet.{AfterSheet}
 use Rattle.promises.specs.Cuts.{CutCall, after}
-use Rattle.promises.specs.Demands.{Changes, AfterList}
+use Rattle.promises.specs.Demands.{ListedChanges, AfterList}
 
 -- ---- a sheet that is refused
 
@@ -46,7 +46,7 @@ pub record SingleCalls (s : Session) (t : AskedSheet) (r : AfterSheet) : Type 0 
 -- the list gives the days that differ between the start and the end, in the order of request Two, with their number; if the session ends spent it is left as it came,
 -- the number 0
 pub record SheetChanges (s : Session) (l : List ℕ) (r : AfterSheet) : Type 0 where
-  pub unspent : r.session.spent ≡ false → Changes s r.session r.changed l (list_after_sheet s r l)
+  pub unspent : r.session.spent ≡ false → ListedChanges s r.session r.changed l (list_after_sheet s r l)
   pub spent : r.session.spent ≡ true → (r.changed ≡ 0) × (list_after_sheet s r l ≡ l)
 
 -- ---- demand 3: a sheet in place of its single calls changes nothing

@@ -9,7 +9,7 @@ use Rattle.session_cutting.specs.declared.CutAnswer.{CutAnswer}
 use Rattle.file_format.specs.Format.{cut_length}
 use Rattle.promises.specs.Demands.{Stays}
 use Rattle.promises.specs.InBytes.{ByteCutCall, bytes_after, CameFrom}
-use Rattle.promises.specs.DemandsInBytes.{Changed}
+use Rattle.promises.specs.DemandsInBytes.{ListedBytes}
 use Rattle.c_layout.specs.Layout.{decoding}
 use Rattle.c_sessions.specs.Sessions.{is_session, cut_answer}
 use Rattle.c_sheets.specs.Sheets.{asked_in, asked_at, answer_length, sheet_answer, bytes_after_sheet, answers_after, days_after}
@@ -78,7 +78,7 @@ pub record SheetTaken (p : Profile) (hs : List ByteCutCall) (t : LentSheet) : Ty
   pub roomy : (session_in t).days ≡ p.days
   pub answer : (j : ℕ) → j < sheet_count t → answer_at (sheet_left t).answers j ≡ cut_answer (bytes_after t.session (calls_in t j)) (asked_at t.cuts j) ((session_in t).days * 2)
   pub past : Stays (sheet_count t * answer_length) t.answers (sheet_left t).answers
-  pub unspent : (session_in (sheet_left t)).spent ≡ false → Changed (session_in t) (session_in (sheet_left t)) (sheet_given t).changed t.days (sheet_left t).days
+  pub unspent : (session_in (sheet_left t)).spent ≡ false → ListedBytes (session_in t) (session_in (sheet_left t)) (sheet_given t).changed t.days (sheet_left t).days
   pub spent : (session_in (sheet_left t)).spent ≡ true → ((sheet_given t).changed ≡ 0) × ((sheet_left t).days ≡ t.days)
 
 -- ---- all of it; a sheet that is taken, for bytes that came from opening and cuts

@@ -21,7 +21,7 @@ use Rattle.base_little_endian.proofs.Laws.{u16-length, u16-read}
 use Rattle.session_order.specs.Order.{days_where, settled_order, settled_losers, day_cells, Losses}
 use Rattle.session_order.proofs.Days.{days-same}
 use Rattle.session_order.proofs.Losers.{settled_few, losers-same}
-use Rattle.session_changed.specs.Changes.{differs, lost, Narrowed}
+use Rattle.session_changed.specs.Changes.{differs, lost, Narrowed, NarrowedOrSame}
 
 -- what one range lost, from its widths before and after
 pub widths_lost : (f c f' c' : ℕ) {w w' r : ℕ} → w ≡ c - f → w' ≡ c' - f' → r ≡ w - w' → r ≡ (c - f) - (c' - f')
@@ -41,7 +41,7 @@ range-lost : (f c f' c' : ℕ) → f ≤ f' → (f' ≤ c') ⊎ ((f ≡ f') × (
 range-lost f c f' c' l (inl s) u = within-lost f c f' c' l s u
 range-lost f c f' c' l (inr e) u = rw (eq-eqb f f' e.0, eq-eqb c c' e.1) (sym (le-ltb 0 ((c - f) - (c' - f')) (omega (arith, e.0, e.1))))
 
-module _ {fs cs fs' cs' : List ℕ} {n : ℕ} (w : Narrowed fs cs fs' cs' n) where
+module _ {fs cs fs' cs' : List ℕ} {n : ℕ} (w : NarrowedOrSame fs cs fs' cs' n) where
   pub narrowed-losers : settled_order (lost fs cs fs' cs') (days_where (differs fs cs fs' cs') n) ≡ settled_losers (lost fs cs fs' cs') n
   narrowed-losers =
       ap (settled_order (lost fs cs fs' cs'))
@@ -49,7 +49,7 @@ module _ {fs cs fs' cs' : List ℕ} {n : ℕ} (w : Narrowed fs cs fs' cs' n) whe
       (λ k h. range-lost (at fs k) (at cs k) (at fs' k) (at cs' k) (w.floor k h) (w.some k h) (w.ceiling k h)))
 
   -- a range within one that lies within another
-  pub narrowed-again : {fs'' cs'' : List ℕ} → Narrowed fs' cs' fs'' cs'' n → Narrowed fs cs fs'' cs'' n
+  pub narrowed-again : {fs'' cs'' : List ℕ} → NarrowedOrSame fs' cs' fs'' cs'' n → NarrowedOrSame fs cs fs'' cs'' n
   narrowed-again {fs''} {cs''} v =
       record {
         floor = λ k h. omega (arith, w.floor k h, v.floor k h);
@@ -78,8 +78,12 @@ module _ {fs cs fs' cs' : List ℕ} {n : ℕ} (w : Narrowed fs cs fs' cs' n) whe
     losses_settled : settled_losers (at (written (lost fs cs fs' cs') n l)) n ≡ settled_order (lost fs cs fs' cs') (days_where (differs fs cs fs' cs') n)
     losses_settled = losers-same (at (written (lost fs cs fs' cs') n l)) (lost fs cs fs' cs') n loss_at ∙ sym narrowed-losers
 
--- ranges lie within themselves
-pub narrowed_none : (fs cs : List ℕ) (n : ℕ) → ((k : ℕ) → k < n → at cs k ≤ highest_level) → Narrowed fs cs fs cs n
+-- ranges that lie within those before
+pub narrowed_same : {fs cs fs' cs' : List ℕ} {n : ℕ} → Narrowed fs cs fs' cs' n → NarrowedOrSame fs cs fs' cs' n
+narrowed_same w = record { floor = w.floor; some = λ k h. inl (w.some k h); ceiling = w.ceiling; most = w.most }
+
+-- ranges that stay
+pub narrowed_none : (fs cs : List ℕ) (n : ℕ) → ((k : ℕ) → k < n → at cs k ≤ highest_level) → NarrowedOrSame fs cs fs cs n
 narrowed_none fs cs n most = record { floor = λ k h. omega arith; some = λ k h. inr (refl, refl); ceiling = λ k h. omega arith; most = most }
 
 -- ---- days that are listed as bytes, read back
@@ -101,10 +105,10 @@ days-read ds l out room =
     go k (yes h) = written_below cell 0 (length ds) out k h room ∙ cell_read ds l k h ∙ sym (front_at ds out k 0 h)
     go k (no h) = written-past cell 0 (length ds) out k (omega arith) ∙ sym (front-past ds out k 0 (omega arith))
 
--- ---- what `list_changes` leaves: losses are written over a blank list, the days are listed as bytes, and read from there
+-- ---- what `list_differences` leaves: losses are written over a blank list, the days are listed as bytes, and read from there
 
 pub record Listing (fs cs fs' cs' : List ℕ) (n : ℕ) (blank losses bytes cells : List ℕ) (count : ℕ) (l out : List ℕ) : Type 0 where
-  pub narrowed : Narrowed fs cs fs' cs' n
+  pub narrowed : NarrowedOrSame fs cs fs' cs' n
   pub wide : n ≤ length blank
   pub room : n ≤ length l
   pub lose : losses ≡ written (lost fs cs fs' cs') n blank

@@ -7,7 +7,7 @@ ghost use Rattle.theory_lists.specs.Front.{in_front};
 ghost use Rattle.theory_lists.specs.Written.{written};
 ghost use Rattle.base_little_endian.specs.Fields.{u16_at};
 ghost use Rattle.session_order.specs.Order.{days_where, settled_order};
-ghost use Rattle.session_changed.specs.Changes.{differs, lost, Narrowed};
+ghost use Rattle.session_changed.specs.Changes.{differs, lost, Narrowed, NarrowedOrSame};
 
 use base_little_endian::u16_at;
 use base_numbers::less;
@@ -50,6 +50,29 @@ fn read_days(cells: &[u8], count: usize, days: &mut [u16])
 }
 
 // Writes each day whose floor or ceiling differs at the front of the list, the largest loss first and equal losses by day, and gives their number.
+pub fn list_differences(
+    floors: &[u16; MOST_DAYS],
+    ceilings: &[u16; MOST_DAYS],
+    low: &[u16; MOST_DAYS],
+    high: &[u16; MOST_DAYS],
+    n: usize,
+    changed: &mut [u16],
+) -> usize
+    requires { (n ≤ most_days) × (n ≤ length changed.old) × NarrowedOrSame floors.now ceilings.now low.now high.now n }
+    ensures value { result ≡ length (settled_order (lost floors.now ceilings.now low.now high.now) (days_where (differs floors.now ceilings.now low.now high.now) n)) }
+    ensures changed_after { changed.new ≡ in_front (settled_order (lost floors.now ceilings.now low.now high.now) (days_where (differs floors.now ceilings.now low.now high.now) n)) changed.old }
+{
+    let mut losses = [0u16; MOST_DAYS];
+    write_losses(floors, ceilings, low, high, n, &mut losses);
+    let mut next = [0u16; MOST_DAYS];
+    let mut links = [0u16; MOST_DAYS];
+    let mut cells = [0u8; LIST_BYTES];
+    let count = list_losers(&losses, n, &mut next, &mut links, &mut cells);
+    read_days(&cells, count, changed);
+    count
+}
+
+// The same where each range lies within the one before, as a cut leaves them.
 pub fn list_changes(
     floors: &[u16; MOST_DAYS],
     ceilings: &[u16; MOST_DAYS],
@@ -62,12 +85,5 @@ pub fn list_changes(
     ensures value { result ≡ length (settled_order (lost floors.now ceilings.now low.now high.now) (days_where (differs floors.now ceilings.now low.now high.now) n)) }
     ensures changed_after { changed.new ≡ in_front (settled_order (lost floors.now ceilings.now low.now high.now) (days_where (differs floors.now ceilings.now low.now high.now) n)) changed.old }
 {
-    let mut losses = [0u16; MOST_DAYS];
-    write_losses(floors, ceilings, low, high, n, &mut losses);
-    let mut next = [0u16; MOST_DAYS];
-    let mut links = [0u16; MOST_DAYS];
-    let mut cells = [0u8; LIST_BYTES];
-    let count = list_losers(&losses, n, &mut next, &mut links, &mut cells);
-    read_days(&cells, count, changed);
-    count
+    list_differences(floors, ceilings, low, high, n, changed)
 }

@@ -31,8 +31,8 @@ use Rattle.theory_lists.specs.Front.{in_front}
 use Rattle.session_order.specs.Order.{days_where}
 use Rattle.session_order.proofs.Days.{days_few}
 use Rattle.session_order.proofs.Settled.{settled-length}
-use Rattle.session_changed.specs.Changes.{differs, lost, Narrowed}
-use Rattle.session_changed.proofs.Laws.{narrowed_none}
+use Rattle.session_changed.specs.Changes.{differs, lost, Narrowed, NarrowedOrSame}
+use Rattle.session_changed.proofs.Laws.{narrowed_none, narrowed_same}
 use Rattle.session_cutting.specs.Cutting.{day_cut_refusal, total_cut_refusal, malformed, early_cutting, clipped, retightened, tightened_to, refusing, changed_days, after_cut, after_numbered, list_after}
 use Rattle.session_cutting.specs.declared.AfterCut.{AfterCut}
 
@@ -187,21 +187,21 @@ tightened_narrows s c b e {t} is found =
     rw is (exact (clipped_in_bounds s.rises s.days s.first s.present c fits e) (rw is at found)) in
     record {
       floor = λ k h. omega (arith, clipped-floor s.days s.present c e (omega (arith, fits.floors, fits.most)) k, floor-kept x k h);
-      some = λ k h. inl (x.day k h).some;
+      some = λ k h. (x.day k h).some;
       ceiling = λ k h. omega (arith, clipped-ceiling s.days s.present c e (omega (arith, fits.ceilings, fits.most)) k, ceiling-kept x k h);
       most = fits.ceiling;
     }
 
 -- so does an accepted cut
 abbrev pub Narrows : Session → Session → Type 0
-Narrows s u = Narrowed s.present.floors s.present.ceilings u.present.floors u.present.ceilings s.days
+Narrows s u = NarrowedOrSame s.present.floors s.present.ceilings u.present.floors u.present.ceilings s.days
 
 cut_narrows : (s : Session) (c : Cut) (room : ℕ) → SessionInBounds s → (after_cut s c room).answer.refusal ≡ 0 → Narrows s (after_cut s c room).session
 cut_narrows s c room b = go (eqb (early_cutting s c room) 0) (retightened s (clipped s.present c)).found refl refl
   where
     go : (early found : Bool) → eqb (early_cutting s c room) 0 ≡ early → (retightened s (clipped s.present c)).found ≡ found
         → (after_cut s c room).answer.refusal ≡ 0 → Narrows s (after_cut s c room).session
-    go true true e f z = rw (accepted s c room e, f) (tightened_narrows s c b (passed s c room e).formed refl f)
+    go true true e f z = rw (accepted s c room e, f) (narrowed_same (tightened_narrows s c b (passed s c room e).formed refl f))
     go true false e f z = absurd (omega (arith, rw (accepted s c room e, f) at z))
     go false found e f z = absurd (eqb-false (early_cutting s c room) 0 e (rw (refused-same s c room e) at z))
 

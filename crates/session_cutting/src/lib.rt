@@ -262,10 +262,10 @@ pub fn cut_asked(session: Session, asked: Numbered, changed: &mut [u16]) -> Afte
     ensures value { result ≡ after_numbered session asked (length changed.old) }
     ensures changed_after { changed.new ≡ list_after session result changed.old }
 {
-    let Numbered::Known(known) = asked else {
-        return refuse(session, 12);
-    };
-    cut(session, known, changed)
+    match asked {
+        Numbered::Known(known) => cut(session, known, changed),
+        Numbered::Unknown => refuse(session, 12),
+    }
 }
 
 // The same for a cut given by numbers.
@@ -280,5 +280,8 @@ pub fn cut_numbered(
     ensures value { result ≡ after_numbered session (numbered kind day value) (length changed.old) }
     ensures changed_after { changed.new ≡ list_after session result changed.old }
 {
-    cut_asked(session, Cut::numbered(kind, day, value), changed)
+    let Numbered::Known(c) = Cut::numbered(kind, day, value) else {
+        return refuse(session, 12);
+    };
+    cut(session, c, changed)
 }

@@ -4,7 +4,7 @@
 ghost use Rattle.std.specs.Prelude.{◌≡◌, false, ◌≤◌, length, get_or};
 ghost use Rattle.limits.specs.Limits.{most_cuts};
 ghost use Rattle.session.specs.Showing.{SessionInBounds};
-ghost use Rattle.session_changed.specs.Changes.{Narrowed};
+ghost use Rattle.session_changed.specs.Changes.{NarrowedOrSame};
 ghost use Rattle.session_cutting.specs.Cutting.{after_numbered};
 ghost use Rattle.theory_lists.specs.Front.{in_front};
 ghost use Rattle.session_sheets.specs.Sheets.{not_asked, after_cuts, answers_to, sheet_refusal, sheet_days, refused_sheet, after_sheet, list_after_sheet};
@@ -145,7 +145,7 @@ fn cut_all(session: Session, count: usize, asked: [Asked; MOST_CUTS]) -> Made
 
 // Lists the days that differ between the start and the end, unless the session ends spent; gives their number.
 fn list_end(start: Session, end: Session, changed: &mut [u16]) -> usize
-    requires { SessionInBounds start × (end.spent ≡ false → Narrowed start.present.floors start.present.ceilings end.present.floors end.present.ceilings start.days) × (start.days ≤ length changed.old) }
+    requires { SessionInBounds start × (end.spent ≡ false → NarrowedOrSame start.present.floors start.present.ceilings end.present.floors end.present.ceilings start.days) × (start.days ≤ length changed.old) }
     ensures value { result ≡ length (sheet_days start end) }
     ensures changed_after { changed.new ≡ in_front (sheet_days start end) changed.old }
 {
@@ -158,7 +158,7 @@ fn list_end(start: Session, end: Session, changed: &mut [u16]) -> usize
     let ceilings = was.ceilings;
     let low = is.floors;
     let high = is.ceilings;
-    session_changed::list_changes(&floors, &ceilings, &low, &high, start.days, changed)
+    session_changed::list_differences(&floors, &ceilings, &low, &high, start.days, changed)
 }
 
 fn refuse(number: u8, session: Session) -> AfterSheet

@@ -14,7 +14,7 @@ use Rattle.session_order.specs.Order.{days_where, losers}
 use Rattle.session_order.proofs.Days.{days_few, days-same}
 use Rattle.session_order.proofs.Settled.{settled-length}
 use Rattle.session_changed.specs.Changes.{lost}
-use Rattle.session_changed.proofs.Laws.{narrowed-losers}
+use Rattle.session_changed.proofs.Laws.{narrowed-losers, narrowed_same}
 use Rattle.theory_method.specs.Filter.{InBounds, Tight, tightened}
 use Rattle.tighten_filtering.specs.Boxed.{boxed}
 use Rattle.session.specs.Opening.{ranges_of}
@@ -132,7 +132,7 @@ module _ {s : Session} {p : Step} {rs fs cs ws : List ℕ} (h : Holds s p rs fs 
         let same : (i : ℕ) → i < s.days → fallen k.floors k.ceilings ws i ≡ loss i =
         λ i u. ap (λ x. x - width k.floors k.ceilings i) (h.widths_held d.unspent i u ∙ ap (λ o. width o.floors o.ceilings i) r) in
         let few : count ≡ length (losers (fallen k.floors k.ceilings ws) s.days) = rw h.days at e in
-        let narrows = tightened_narrows s d.cut d.bounds d.formed d.tight some in
+        let narrows = narrowed_same (tightened_narrows s d.cut d.bounds d.formed d.tight some) in
         few
         ∙ ap length (days-same (λ i. ltb 0 (fallen k.floors k.ceilings ws i)) (λ i. ltb 0 (loss i)) s.days (λ i u. ap (ltb 0) (same i u)))
         ∙ sym (settled-length loss (losers loss s.days))

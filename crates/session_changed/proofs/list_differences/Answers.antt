@@ -1,4 +1,4 @@
--- `list_changes` meets its contract: no loss is more than there are levels (`losses_most`), and the days that are read are those that differ (`listing` of Laws).
+-- `list_differences` meets its contract: no loss is more than there are levels (`losses_most`), and the days that are read are those that differ (`listing` of Laws).
 use mathlib.Core.Path.{refl}
 use Prim.Native.Nat.{◌≤◌}
 use native.Mathlib.Omega.{arith}
@@ -6,8 +6,8 @@ use Rattle.theory_lists.specs.Sum.{at}
 use Rattle.session_order.proofs.Losers.{settled_few}
 use Rattle.session_changed.proofs.Laws.{losses_most, listing}
 use borrow.Author.Rules.{rules}
-use Rattle.session_changed.proofs.list_changes.Goals as goal
-use Rattle.session_changed.proofs.list_changes.Goals.{After-list_losers-count}
+use Rattle.session_changed.proofs.list_differences.Goals as goal
+use Rattle.session_changed.proofs.list_differences.Goals.{After-list_losers-count}
 
 pub list_losers-count-requires : goal.list_losers-count-requires
 list_losers-count-requires c =
