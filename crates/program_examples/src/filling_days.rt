@@ -10,7 +10,7 @@ use session::{Numbers, Opened, Session};
 // ---- ranges
 
 // A sign and ten digits.
-pub(crate) fn print_number(out: &mut Output, x: i32) {
+fn print_number(out: &mut Output, x: i32) {
     let mut text = [0u8; 11];
     let end = base_text::put_number(&mut text, 0, x);
     out.text(&text[..end]);
@@ -37,7 +37,7 @@ fn print_days(out: &mut Output, floors: &[i16; 512], ceilings: &[i16; 512], n: u
     }
 }
 
-pub(crate) fn print_ranges(out: &mut Output, session: Session)
+fn print_ranges(out: &mut Output, session: Session)
     requires { SessionInBounds session }
 {
     let n = session.days;

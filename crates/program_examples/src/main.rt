@@ -1,5 +1,5 @@
-// What opening, a cut, writing a schedule and inspecting one answer at the bounds of an entry, for profiles with filling days, the order of changed days, and sheets
-// of cuts: the documents' examples that are run and not proved.
+// What opening, a cut, writing a schedule and inspecting one answer at the bounds of an entry, for profiles with filling days, and the order of changed days: the
+// documents' examples that are run and not proved.
 #![tactic(auto)]
 
 mod cut_refusals;
@@ -8,7 +8,6 @@ mod output;
 mod refusals;
 mod schedule_refusals;
 mod settled_order;
-mod sheets;
 
 ghost use Rattle.session.specs.Showing.{SessionInBounds};
 
@@ -39,7 +38,6 @@ fn main(rt: HostRuntime) -> io::Result<()> {
     filling_days::print_profiles(&mut out);
     cut_refusals::print(&mut out);
     settled_order::print(&mut out);
-    sheets::print(&mut out);
     schedule_refusals::print(&mut out);
     filling_days::print_schedules(&mut out);
     out.end()

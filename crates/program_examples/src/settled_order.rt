@@ -12,7 +12,7 @@ use session_cuts::Cut;
 
 // ---- a few days
 
-pub const PLACES: usize = 4;
+const PLACES: usize = 4;
 
 fn print_place(out: &mut Output, day: u16) {
     out.text(b" ");
@@ -27,7 +27,7 @@ fn print_places(out: &mut Output, list: &[u16; PLACES]) {
     }
 }
 
-pub(crate) fn print_list(out: &mut Output, text: &[u8], changed: usize, list: &[u16; PLACES]) {
+fn print_list(out: &mut Output, text: &[u8], changed: usize, list: &[u16; PLACES]) {
     out.text(text);
     out.decimal(changed as u64);
     out.text(b" changed,");
@@ -48,7 +48,7 @@ fn print_cut(out: &mut Output, text: &[u8], session: Session, cut: Cut) -> Sessi
 }
 
 // 0..4, 0..10, 0..6, rises -10, total 0..20.
-pub(crate) fn three_days() -> Session
+fn three_days() -> Session
     ensures { SessionInBounds result }
 {
     let floors = [0i16; 3];

@@ -1,6 +1,5 @@
 -- `open` meets its contract: every opening's session has its numbers in bounds.
 use Rattle.session.proofs.SessionBounds.{opened_in_bounds}
-use borrow.Author.Rules.{rules}
 use Rattle.program_examples.proofs.open.Goals as goal
 
 pub returns : goal.returns

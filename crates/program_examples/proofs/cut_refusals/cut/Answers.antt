@@ -2,7 +2,6 @@
 use lib.Seq.{length-take-le}
 use mathlib.Core.Path.{sym}
 use Rattle.session_cutting.proofs.Laws.{numbered_in_bounds}
-use borrow.Author.Rules.{rules}
 use native.Mathlib.Omega.{arith}
 use Rattle.program_examples.proofs.cut_refusals.cut.Goals as goal
 

@@ -3,7 +3,6 @@ use lib.IntN.{ℤ}
 use mir.Facts.{to_z-of_z, sfits_widen}
 use mir.Syntax.{w16, w32}
 use mir.Val.{SFits, to_z, of_z}
-use borrow.Author.Rules.{rules}
 use Rattle.program_examples.proofs.filling_days.print_day.Goals as goal
 
 wide : {z : ℤ} → SFits w16 z → SFits w32 (to_z w16 (of_z w16 z))

@@ -1,6 +1,5 @@
 -- `filling_days::print_days` meets its contract: k is at most n. The measure is the days left.
 use Prim.Native.Nat.{◌-◌, ◌≤◌}
-use borrow.Author.Rules.{rules}
 use Rattle.program_examples.proofs.filling_days.print_days.Given as goal
 
 abbrev pub invariant-loop-k : goal.invariant-loop-k

@@ -11,7 +11,6 @@ use mir.Val.{to_z, of_z}
 use native.Mathlib.Omega.{arith}
 use Rattle.base_text.specs.Numbers.{number}
 use Rattle.base_text.proofs.Digits.{decimal-length}
-use borrow.Author.Rules.{rules}
 use Rattle.program_examples.proofs.filling_days.print_number.Goals as goal
 use Rattle.program_examples.proofs.filling_days.print_number.Goals.{After-put_number-end, Start}
 

@@ -1,7 +1,6 @@
 -- `refusals::lengths` meets its contract. Each list is as long as asked, since there are zeros enough.
 use lib.Seq.{length-take-le}
 use mathlib.Core.Path.{sym}
-use borrow.Author.Rules.{rules}
 use Rattle.program_examples.proofs.refusals.lengths.Goals as goal
 
 pub slice_bounds-refusal-end : goal.slice_bounds-refusal-end

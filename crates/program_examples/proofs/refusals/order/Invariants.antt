@@ -1,6 +1,5 @@
 -- `refusals::order` meets its contract: `place` is at most 10. The measure is the causes left.
 use Prim.Native.Nat.{◌-◌, ◌≤◌}
-use borrow.Author.Rules.{rules}
 use Rattle.program_examples.proofs.refusals.order.Given as goal
 
 abbrev pub invariant-loop-place : goal.invariant-loop-place

@@ -1,7 +1,6 @@
 -- `on_day` meets its contract. The list is as long as asked.
 use lib.Seq.{length-take-le}
 use mathlib.Core.Path.{sym}
-use borrow.Author.Rules.{rules}
 use native.Mathlib.Omega.{arith}
 use Rattle.program_examples.proofs.schedule_refusals.on_day.Goals as goal
 

@@ -1,7 +1,6 @@
 -- `with_total` meets its contract. The list is as long as asked.
 use lib.Seq.{length-take-le}
 use mathlib.Core.Path.{sym}
-use borrow.Author.Rules.{rules}
 use native.Mathlib.Omega.{arith}
 use Rattle.program_examples.proofs.schedule_refusals.with_total.Goals as goal
 

@@ -1,9 +1,7 @@
 -- `settled_order::fill` meets its contract: k is at most 512, and there are as many ceilings as before. The measure is the days left.
 use Prim.Native.Nat.{◌-◌, ◌≤◌}
-use mathlib.Core.Path.{◌≡◌, refl}
-use native.Mathlib.Omega.{arith}
+use mathlib.Core.Path.{◌≡◌}
 use lib.ListN.{length}
-use borrow.Author.Rules.{rules}
 use Rattle.program_examples.proofs.settled_order.fill.Given as goal
 
 abbrev pub invariant-loop-k : goal.invariant-loop-k

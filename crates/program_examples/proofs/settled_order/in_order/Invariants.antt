@@ -1,6 +1,5 @@
 -- `settled_order::in_order` meets its contract: i is from 1 to 512, and the count below it. The measure is the places left.
 use Prim.Native.Nat.{◌-◌, ◌≤◌, ◌<◌}
-use borrow.Author.Rules.{rules}
 use Rattle.program_examples.proofs.settled_order.in_order.Given as goal
 
 abbrev pub invariant-loop-i : goal.invariant-loop-i

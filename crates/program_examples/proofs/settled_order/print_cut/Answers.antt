@@ -1,6 +1,5 @@
 -- `settled_order::print_cut` meets its contract: a cut keeps the numbers in bounds.
 use Rattle.session_cutting.proofs.Laws.{cut_in_bounds}
-use borrow.Author.Rules.{rules}
 use Rattle.program_examples.proofs.settled_order.print_cut.Goals as goal
 
 pub returns : goal.returns

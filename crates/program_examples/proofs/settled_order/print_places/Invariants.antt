@@ -1,6 +1,5 @@
 -- `settled_order::print_places` meets its contract: i is at most 4. The measure is the places left.
 use Prim.Native.Nat.{◌-◌, ◌≤◌}
-use borrow.Author.Rules.{rules}
 use Rattle.program_examples.proofs.settled_order.print_places.Given as goal
 
 abbrev pub invariant-loop-i : goal.invariant-loop-i

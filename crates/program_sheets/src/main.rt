@@ -1,15 +1,21 @@
-// Sheets of cuts (document 02, request Three): a line for each with its refusal and the places of a list that held 99 before; a line for each answer, with its cut
-// as it was asked for; and a line with the ranges after them.
+// Sheets of cuts (document 02, request Three), run and not proved: a line for each with its refusal and the places of a list that held 99 before; a line for each
+// answer, with its cut as it was asked for; and a line with the ranges after them.
+#![tactic(auto)]
+
+mod output;
+mod printing;
+mod profiles;
+
 ghost use Rattle.std.specs.Prelude.{◌≤◌};
 ghost use Rattle.session.specs.Showing.{SessionInBounds};
 
-use crate::cut_refusals::profile_a;
-use crate::filling_days::{print_number, print_ranges};
-use crate::output::Output;
-use crate::settled_order::{PLACES, print_list, three_days};
+use output::Output;
+use printing::{PLACES, print_list, print_number, print_ranges};
+use profiles::{profile_a, three_days};
 use session::Session;
 use session_cuts::{Cut, Numbered};
 use session_sheets::{AfterSheet, Answered, Asked, AskedSheet};
+use std::io;
 
 // ---- what a sheet gives
 
@@ -207,7 +213,9 @@ fn refused(out: &mut Output) {
     print_sheet(out, b"1 answer, 2 days: ", profile_a(), repeated(1), 1, 2);
 }
 
-pub(crate) fn print(out: &mut Output) {
-    taken(out);
-    refused(out);
+fn main(rt: HostRuntime) -> io::Result<()> {
+    let mut out = Output::new(rt.stdout());
+    taken(&mut out);
+    refused(&mut out);
+    out.end()
 }

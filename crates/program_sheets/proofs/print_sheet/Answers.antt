@@ -1,11 +1,10 @@
--- `sheets::print_sheet` meets its contract: a sheet keeps the numbers in bounds, and gives at most 512 answers. The list is as long as asked.
+-- `print_sheet` meets its contract: a sheet keeps the numbers in bounds, and gives at most 512 answers. The list is as long as asked.
 use mathlib.Core.Path.{◌≡◌, refl, sym}
 use mathlib.Core.Bool.{Bool, true, false, cond}
 use Prim.Native.Nat.{ℕ, ◌≤◌}
 use native.Mathlib.Omega.{arith}
 use lib.Dec.{eqb}
 use lib.Seq.{length-take-le}
-use borrow.Author.Rules.{rules}
 use borrow.Author.Tests.{eqb-true}
 use Rattle.session.specs.Showing.{SessionInBounds}
 use Rattle.session.specs.declared.Session.{Session}
@@ -14,8 +13,8 @@ use Rattle.session_sheets.specs.Sheets.{answers_to, sheet_refusal, asked_on, tak
 use Rattle.session_sheets.specs.declared.AskedSheet.{AskedSheet}
 use Rattle.session_sheets.specs.declared.AfterSheet.{AfterSheet}
 use Rattle.session_sheets.proofs.Laws.{after-bounds, sheet_passed}
-use Rattle.program_examples.proofs.sheets.print_sheet.Goals as goal
-use Rattle.program_examples.proofs.sheets.print_sheet.Goals.{After-cut_sheet-after}
+use Rattle.program_sheets.proofs.print_sheet.Goals as goal
+use Rattle.program_sheets.proofs.print_sheet.Goals.{After-cut_sheet-after}
 
 abbrev Printable : AfterSheet → Type 0
 Printable r = (r.answers.count ≤ 512) × SessionInBounds r.session

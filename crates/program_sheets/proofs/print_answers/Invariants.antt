@@ -1,7 +1,6 @@
--- `sheets::print_answers` meets its contract: j is at most the count. The measure is the answers left.
+-- `print_answers` meets its contract: j is at most the count. The measure is the answers left.
 use Prim.Native.Nat.{◌-◌, ◌≤◌}
-use borrow.Author.Rules.{rules}
-use Rattle.program_examples.proofs.sheets.print_answers.Given as goal
+use Rattle.program_sheets.proofs.print_answers.Given as goal
 
 abbrev pub invariant-loop-j : goal.invariant-loop-j
 invariant-loop-j l = l.j ≤ l.count
