@@ -70,12 +70,10 @@ pub fn code_all(xs: &[i16], low: i32, high: i32, out: &mut [u16; MOST_DAYS]) -> 
     ensures xs_value { every (within lowest_setpoint highest_setpoint) xs.now ≡ true }
 {
     let mut outside = false;
-    let mut i = 0;
-    while i < xs.len() {
+    for i in 0..xs.len() {
         let cell = code_cell(xs[i], low, high);
         out[i] = cell.code;
         outside = outside | cell.outside;
-        i += 1;
     }
     outside
 }
@@ -101,9 +99,7 @@ pub fn decode_all(codes: &[u16; MOST_DAYS], n: usize, low: i32, out: &mut [i16])
     requires { (within lowest_setpoint (pos 0) low ≡ true) × (n ≤ most_days) × (n ≤ length out.old) × ((k : ℕ) → k < n → get_or codes.now k 0 ≤ 32767) }
     ensures { out.new ≡ written (λ k. decoded low (get_or codes.now k 0)) n out.old }
 {
-    let mut k = 0;
-    while k < n {
+    for k in 0..n {
         out[k] = decode_short(codes[k], low);
-        k += 1;
     }
 }

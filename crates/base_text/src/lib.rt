@@ -11,12 +11,8 @@ pub fn put(out: &mut [u8], at: usize, text: &[u8]) -> usize
     ensures out_after { out.new ≡ sets out.old at text.now }
     ensures value { result ≡ at + length text.now }
 {
-    let mut i = 0;
-    while i < text.len() {
-        out[at + i] = text[i];
-        i += 1;
-    }
-    at + i
+    out[at..at + text.len()].copy_from_slice(text);
+    at + text.len()
 }
 
 pub fn put_decimal(out: &mut [u8], at: usize, n: usize) -> usize

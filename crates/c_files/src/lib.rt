@@ -36,12 +36,8 @@ fn put_rest(from: &[u8], start: usize, out: &mut [u8], place: usize)
     requires { (start ≤ length from.now) × (place + (length from.now - start) ≤ length out.old) }
     ensures { out.new ≡ sets out.old place (drop start from.now) }
 {
-    let count = from.len() - start;
-    let mut i = 0;
-    while i < count {
-        out[place + i] = from[start + i];
-        i += 1;
-    }
+    let rest = &from[start..];
+    out[place..place + rest.len()].copy_from_slice(rest);
 }
 
 // ---- reading
@@ -134,13 +130,11 @@ fn cuts_refusal(cuts: &[u8], count: usize, days: usize) -> u8
     requires { (count ≤ most_cuts) × (count * cut_length ≤ length cuts.now) }
     ensures { result ≡ first_nonzero (λ j. numbered_refusal days (numbered_at cuts.now (j * cut_length))) count }
 {
-    let mut j = 0;
-    while j < count {
+    for j in 0..count {
         let refusal = numbered_refusal(numbered_at(cuts, j * CUT_BYTES), days);
         if refusal != 0 {
             return refusal;
         }
-        j += 1;
     }
     0
 }

@@ -28,10 +28,8 @@ pub fn points(bytes: &[u8], n: usize, out: &mut [i16; MOST_DAYS])
     requires { (n ≤ most_days) × (n * 2 ≤ length bytes.now) }
     ensures { out.new ≡ written (point_at bytes.now) n out.old }
 {
-    let mut k = 0;
-    while k < n {
+    for k in 0..n {
         out[k] = i16_at(bytes, k * 2);
-        k += 1;
     }
 }
 
@@ -43,14 +41,11 @@ pub fn code_points(bytes: &[u8], n: usize, low: i32, high: i32, out: &mut [u16; 
     ensures n_value { every (within lowest_setpoint highest_setpoint) (points_in bytes.now n) ≡ true }
 {
     let mut outside = false;
-    let mut j = 0u32;
-    let end = n as u32;
-    while j < end {
+    for j in 0..n as u32 {
         let k = j as usize;
         let cell = code_cell(i16_at(bytes, k * 2), low, high);
         out[k] = cell.code;
         outside = outside | cell.outside;
-        j += 1;
     }
     outside
 }
@@ -71,9 +66,7 @@ pub fn code_ranges(
 {
     let mut outside = false;
     let mut crossed = false;
-    let mut j = 0u32;
-    let end = n as u32;
-    while j < end {
+    for j in 0..n as u32 {
         let k = j as usize;
         let floor = code_cell(i16_at(floors, k * 2), LOWEST_POINT, HIGHEST_POINT);
         let ceiling = code_cell(i16_at(ceilings, k * 2), LOWEST_POINT, HIGHEST_POINT);
@@ -81,7 +74,6 @@ pub fn code_ranges(
         high[k] = ceiling.code;
         outside = outside | (floor.outside | ceiling.outside);
         crossed = crossed | (ceiling.code < floor.code);
-        j += 1;
     }
     CodedRanges { outside, crossed }
 }
@@ -91,10 +83,8 @@ pub fn put_points(points: &[i16; MOST_DAYS], n: usize, out: &mut [u8])
     requires { (n ≤ most_days) × (n * 2 ≤ length out.old) }
     ensures { out.new ≡ sets out.old 0 (point_bytes (on points.now) n) }
 {
-    let mut k = 0;
-    while k < n {
+    for k in 0..n {
         put_i16(out, k * 2, points[k]);
-        k += 1;
     }
 }
 
@@ -103,10 +93,8 @@ pub fn put_levels(levels: &[u16; MOST_DAYS], n: usize, out: &mut [u8])
     requires { (n ≤ most_days) × (n * 2 ≤ length out.old) × ((k : ℕ) → k < n → at levels.now k ≤ highest_level) }
     ensures { out.new ≡ sets out.old 0 (point_bytes (λ k. decoded lowest_point (at levels.now k)) n) }
 {
-    let mut k = 0;
-    while k < n {
+    for k in 0..n {
         put_i16(out, k * 2, decode_short(levels[k], LOWEST_POINT));
-        k += 1;
     }
 }
 
@@ -115,12 +103,9 @@ pub fn put_cells(cells: &[u16; MOST_DAYS], n: usize, place: usize, out: &mut [u8
     requires { (n ≤ most_days) × (place + n * 2 ≤ length out.old) }
     ensures { out.new ≡ sets out.old place (cell_bytes (at cells.now) n) }
 {
-    let mut j = 0u32;
-    let end = n as u32;
-    while j < end {
+    for j in 0..n as u32 {
         let k = j as usize;
         put_u16(out, place + k * 2, cells[k]);
-        j += 1;
     }
 }
 

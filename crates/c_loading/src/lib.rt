@@ -42,10 +42,8 @@ fn cells(bytes: &[u8], place: usize, n: usize, most: u16, out: &mut [u16; MOST_D
     requires { (n ≤ most_days) × (place + n * cell_length ≤ length bytes.now) }
     ensures { out.new ≡ written (λ k. min (u16_at bytes.now (place + k * cell_length)) most) n out.old }
 {
-    let mut k = 0;
-    while k < n {
+    for k in 0..n {
         out[k] = at_most(u16_at(bytes, place + k * CELL_BYTES), most);
-        k += 1;
     }
 }
 
@@ -161,11 +159,9 @@ fn show_levels(bytes: &[u8], place: usize, n: usize, out: &mut [u8])
     requires { (n ≤ most_days) × (place + n * cell_length ≤ length bytes.now) × (n * cell_length ≤ length out.old) }
     ensures { out.new ≡ sets out.old 0 (point_bytes (λ k. decoded lowest_point (min (u16_at bytes.now (place + k * cell_length)) highest_level)) n) }
 {
-    let mut k = 0;
-    while k < n {
+    for k in 0..n {
         let point = decode_short(level(bytes, place + k * CELL_BYTES), Session::LOWEST_POINT);
         put_i16(out, k * CELL_BYTES, point);
-        k += 1;
     }
 }
 

@@ -74,10 +74,8 @@ fn cut_all(
     ensures { (s : Session) → SessionInBounds s → Holds s step rises.now floors.old ceilings.old widths.old → Made s cuts.now count answers.old result rises.now floors.new ceilings.new widths.new answers.new }
 {
     let mut at = step;
-    let mut j = 0;
-    while j < count {
+    for j in 0..count {
         at = cut_listed(at, cuts, j, rises, floors, ceilings, widths, answers);
-        j += 1;
     }
     at
 }

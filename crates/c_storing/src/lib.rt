@@ -53,11 +53,7 @@ fn put_zeros(out: &mut [u8], from: usize, to: usize)
     requires { (from ≤ to) × (to ≤ length out.old) }
     ensures { out.new ≡ sets out.old from (replicate (to - from) 0) }
 {
-    let mut i = from;
-    while i < to {
-        out[i] = 0;
-        i += 1;
-    }
+    out[from..to].fill(0);
 }
 
 // The cells of n days, and 0 past the last.
@@ -122,9 +118,7 @@ fn store_days(
     ensures losses_after { losses.new ≡ written (λ k. (min (u16_at out.old (present_place + block_length + k * cell_length)) highest_level - min (u16_at out.old (present_place + k * cell_length)) highest_level) - (at ceilings.now k - at floors.now k)) n losses.old }
     ensures out_after { out.new ≡ sets (sets out.old present_place (cell_bytes (at floors.now) n)) (present_place + block_length) (cell_bytes (at ceilings.now) n) }
 {
-    let mut j = 0u32;
-    let end = n as u32;
-    while j < end {
+    for j in 0..n as u32 {
         let k = j as usize;
         let floor = floors[k];
         let ceiling = ceilings[k];
@@ -135,7 +129,6 @@ fn store_days(
         losses[k] = less(before, after);
         put_u16(out, low, floor);
         put_u16(out, high, ceiling);
-        j += 1;
     }
 }
 
@@ -169,11 +162,9 @@ fn copy_levels(bytes: &mut [u8], from: usize, n: usize, place: usize)
     requires { (n ≤ most_days) × (from + n * cell_length ≤ place) × (place + n * cell_length ≤ length bytes.old) }
     ensures { bytes.new ≡ sets bytes.old place (cell_bytes (λ k. min (u16_at bytes.old (from + k * cell_length)) highest_level) n) }
 {
-    let mut k = 0;
-    while k < n {
+    for k in 0..n {
         let held = level(bytes, from + k * CELL_BYTES);
         put_u16(bytes, place + k * CELL_BYTES, held);
-        k += 1;
     }
 }
 

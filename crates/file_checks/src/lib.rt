@@ -44,14 +44,12 @@ fn first_bad(bytes: &[u8], from: usize, count: usize) -> usize
     requires { from + count * cut_length ≤ length bytes.now }
     ensures { result ≡ first_where (λ j. bad_cut (numbered_at bytes.now (from + j * cut_length))) count }
 {
-    let mut j = 0;
-    while j < count {
+    for j in 0..count {
         if is_bad(numbered_at(bytes, from + j * CUT_BYTES)) {
             return j;
         }
-        j += 1;
     }
-    j
+    count
 }
 
 fn counts_refusal(days: usize, cuts: usize) -> u8

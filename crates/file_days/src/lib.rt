@@ -130,10 +130,8 @@ pub fn store_days(
 {
     let last = days - 1;
     let mut at = DAYS_BEGIN;
-    let mut k = 0;
-    while k < last {
+    for k in 0..last {
         at = store_day(bytes, at, k, floors, ceilings, rises);
-        k += 1;
     }
     let taken = day_from(bytes, at);
     let day = taken.day;

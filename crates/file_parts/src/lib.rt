@@ -60,8 +60,7 @@ pub fn put_days(floors: &[i16], ceilings: &[i16], rises: &[i16], days: usize, ou
     requires { (days ≡ length floors.now) × (days ≡ length ceilings.now) × (days ≤ most_days) × (day_offset days ≤ length out.old) }
     ensures { out.new ≡ sets out.old days_begin (rows (λ k. day_bytes (on floors.now k) (on ceilings.now k) (on rises.now k)) days) }
 {
-    let mut k = 0;
-    while k < days {
+    for k in 0..days {
         put_day(
             out,
             day_offset(k),
@@ -69,7 +68,6 @@ pub fn put_days(floors: &[i16], ceilings: &[i16], rises: &[i16], days: usize, ou
             ceilings[k],
             rise_on(rises, k),
         );
-        k += 1;
     }
 }
 
@@ -99,9 +97,7 @@ pub fn put_entries(entries: [Entry; MOST_CUTS], count: usize, from: usize, out: 
     requires { (count ≤ most_cuts) × (from + count * cut_length ≤ length out.old) × ((j : ℕ) → j < count → day_of (get_or entries j blank).cut < 65536) }
     ensures { out.new ≡ sets out.old from (rows (λ j. cut_bytes (get_or entries j blank).cut) count) }
 {
-    let mut j = 0;
-    while j < count {
+    for j in 0..count {
         put_entry(entries[j], from + j * CUT_BYTES, out);
-        j += 1;
     }
 }

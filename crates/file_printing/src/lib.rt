@@ -79,10 +79,8 @@ fn cut_all(opened: Opened, count: usize, entries: [Entry; MOST_CUTS]) -> Opened
     ensures { (result ≡ cut_all opened (λ j. (get_or entries j blank).cut) count) × SessionInBounds result.session }
 {
     let mut after = opened;
-    let mut j = 0;
-    while j < count {
+    for j in 0..count {
         after = cut_once(after, entries[j]);
-        j += 1;
     }
     after
 }
@@ -133,10 +131,8 @@ fn put_days(
     ensures value { result ≡ at + length (rows (λ k. day_line k (on floors.now k) (on ceilings.now k)) days) }
 {
     let mut next = at;
-    let mut k = 0;
-    while k < days {
+    for k in 0..days {
         next = put_day(out, next, k, floors[k], ceilings[k]);
-        k += 1;
     }
     next
 }

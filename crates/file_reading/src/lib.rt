@@ -44,10 +44,8 @@ fn read_sheet(bytes: &[u8], from: usize, count: usize) -> Sheet
         cut: Cut::DayFloor(0, 0),
     };
     let mut entries = [blank; MOST_CUTS];
-    let mut j = 0;
-    while j < count {
+    for j in 0..count {
         entries[j] = entry_at(bytes, from + j * CUT_BYTES);
-        j += 1;
     }
     Sheet { count, entries }
 }

@@ -34,13 +34,11 @@ fn entries_refusal(entries: [Entry; MOST_CUTS], count: usize, days: usize) -> u8
     requires { count ≤ most_cuts }
     ensures { result ≡ first_nonzero (λ j. malformed days (get_or entries j blank).cut) count }
 {
-    let mut j = 0;
-    while j < count {
+    for j in 0..count {
         let refusal = entry_refusal(entries[j], days);
         if refusal != 0 {
             return refusal;
         }
-        j += 1;
     }
     0
 }

@@ -4,22 +4,6 @@ ghost use Rattle.std.specs.Prelude.{◌≡◌, ◌≤◌, true, length};
 // Neither ranges nor a refusal.
 pub const OTHER: usize = 14;
 
-fn starts(text: &[u8], word: &[u8]) -> bool
-    ensures { result ≡ true → length word.now ≤ length text.now }
-{
-    if text.len() < word.len() {
-        return false;
-    }
-    let mut i = 0;
-    while i < word.len() {
-        if text[i] != word[i] {
-            return false;
-        }
-        i += 1;
-    }
-    true
-}
-
 fn one_digit(byte: u8) -> usize {
     match byte {
         b'1'..=b'9' => (byte - b'0') as usize,
@@ -52,10 +36,10 @@ fn number(line: &[u8]) -> usize {
 
 // 0 for ranges, N for `refused N` with N from 1 to 13.
 pub(crate) fn ending(text: &[u8]) -> usize {
-    if starts(text, b"total ") {
+    if text.starts_with(b"total ") {
         return 0;
     }
-    if starts(text, b"refused ") {
+    if text.starts_with(b"refused ") {
         return number(&text[8..]);
     }
     OTHER

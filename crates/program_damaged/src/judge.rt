@@ -24,14 +24,11 @@ fn bad_cut(kind: usize, day: usize) -> bool {
 fn bad_cuts(file: &[u8], from: usize, count: usize) -> bool
     requires { from + 8 * count ≤ length file.now }
 {
-    let mut at = from;
-    let mut left = count;
-    while 0 < left {
+    for k in 0..count {
+        let at = from + 8 * k;
         if bad_cut(field(file, at), field(file, at + 2)) {
             return true;
         }
-        at += 8;
-        left -= 1;
     }
     false
 }

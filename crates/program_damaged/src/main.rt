@@ -38,10 +38,8 @@ const TOO_WARM: [u8; 78] = *b"\
 
 fn truncated(file: &[u8]) -> Tally {
     let mut t = tally::none();
-    let mut k = 0;
-    while k < file.len() {
+    for k in 0..file.len() {
         t = tally::noted(t, &file[..k]);
-        k += 1;
     }
     t
 }
@@ -63,9 +61,7 @@ fn byte_changed(t: Tally, file: &[u8], i: usize) -> Tally
 {
     let byte = file[i];
     let mut after = t;
-    let mut more: u8 = 0;
-    while more < 255 {
-        more += 1;
+    for more in 1..=255u8 {
         after = with_byte(after, file, i, std::num::wrapping_add_u8(byte, more));
     }
     after
@@ -75,10 +71,8 @@ fn changed(file: &[u8]) -> Tally
     requires { length file.now ≤ 78 }
 {
     let mut t = tally::none();
-    let mut i = 0;
-    while i < file.len() {
+    for i in 0..file.len() {
         t = byte_changed(t, file, i);
-        i += 1;
     }
     t
 }

@@ -99,10 +99,8 @@ fn print_refused(out: &mut Stdout, number: usize, times: usize) -> io::Result<()
 
 // The refusals that occur.
 fn print_refusals(out: &mut Stdout, counts: &[usize; 14]) -> io::Result<()> {
-    let mut k = 1;
-    while k < 14 {
+    for k in 1..14 {
         print_refused(out, k, counts[k])?;
-        k += 1;
     }
     Ok(())
 }

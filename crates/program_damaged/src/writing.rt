@@ -10,12 +10,10 @@ fn same(written: &[u8; 78], length: usize, file: &[u8]) -> bool {
     if 78 < length {
         return false;
     }
-    let mut i = 0;
-    while i < length {
+    for i in 0..length {
         if written[i] != file[i] {
             return false;
         }
-        i += 1;
     }
     true
 }

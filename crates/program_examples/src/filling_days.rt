@@ -30,10 +30,8 @@ fn print_day(out: &mut Output, floor: i16, ceiling: i16) {
 fn print_days(out: &mut Output, floors: &[i16; 512], ceilings: &[i16; 512], n: usize)
     requires { n ≤ 512 }
 {
-    let mut k = 0;
-    while k < n {
+    for k in 0..n {
         print_day(out, floors[k], ceilings[k]);
-        k += 1;
     }
 }
 

@@ -157,12 +157,10 @@ fn cause_at(place: u8) -> u8 {
 
 // No cause comes after 8.
 fn order(out: &mut Output) {
-    let mut place = 1;
-    while place < 10 {
+    for place in 1..10 {
         out.text(b"causes from ");
         out.decimal(cause_at(place) as u64);
         line(out, b" on: ", causes_from(place));
-        place += 1;
     }
 }
 

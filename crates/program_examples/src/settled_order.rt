@@ -20,10 +20,8 @@ fn print_place(out: &mut Output, day: u16) {
 }
 
 fn print_places(out: &mut Output, list: &[u16; PLACES]) {
-    let mut i = 0;
-    while i < PLACES {
+    for i in 0..PLACES {
         print_place(out, list[i]);
-        i += 1;
     }
 }
 
@@ -141,10 +139,8 @@ fn fill(equal: bool, ceilings: &mut [i16; 512])
     requires { length ceilings.old ≡ 512 }
     ensures { length ceilings.new ≡ 512 }
 {
-    let mut k = 0;
-    while k < 512 {
+    for k in 0..512 {
         ceilings[k] = decode_short(loss(equal, k), -1000);
-        k += 1;
     }
 }
 
@@ -191,10 +187,8 @@ fn before(equal: bool, day: u16, next: u16) -> usize
 
 fn in_order(equal: bool, list: &[u16; 512]) -> usize {
     let mut count = 0;
-    let mut i = 1;
-    while i < 512 {
+    for i in 1..512 {
         count += before(equal, list[i - 1], list[i]);
-        i += 1;
     }
     count
 }

@@ -69,10 +69,8 @@ fn print_answer(out: &mut Output, answered: Answered) {
 fn print_answers(out: &mut Output, count: usize, entries: [Answered; 512])
     requires { count ≤ 512 }
 {
-    let mut j = 0;
-    while j < count {
+    for j in 0..count {
         print_answer(out, entries[j]);
-        j += 1;
     }
 }
 

@@ -28,10 +28,8 @@ fn print_day(out: &mut Output, floor: i16, ceiling: i16) {
 fn print_days(out: &mut Output, floors: &[i16; 512], ceilings: &[i16; 512], n: usize)
     requires { n ≤ 512 }
 {
-    let mut k = 0;
-    while k < n {
+    for k in 0..n {
         print_day(out, floors[k], ceilings[k]);
-        k += 1;
     }
 }
 
@@ -58,10 +56,8 @@ fn print_place(out: &mut Output, day: u16) {
 }
 
 fn print_places(out: &mut Output, list: &[u16; PLACES]) {
-    let mut i = 0;
-    while i < PLACES {
+    for i in 0..PLACES {
         print_place(out, list[i]);
-        i += 1;
     }
 }
 

@@ -80,12 +80,10 @@ fn first_outside(
     requires { n ≤ most_days }
     ensures { result ≡ first_where (day_outside setpoints.now floors.now ceilings.now) n }
 {
-    let mut day = 0;
-    while day < n {
+    for day in 0..n {
         if is_day_outside(setpoints[day], floors[day], ceilings[day]) {
             return day;
         }
-        day += 1;
     }
     n
 }
@@ -96,13 +94,10 @@ fn first_fallen(setpoints: &[u16; MOST_DAYS], rises: &[u16; MOST_DAYS], n: usize
     ensures { result ≡ first_where (fallen setpoints.now rises.now) (n - 1) }
 {
     let last = n - 1;
-    let mut k = 0;
-    while k < last {
-        let next = k + 1;
-        if is_fallen(setpoints[k], setpoints[next], rises[k]) {
+    for k in 0..last {
+        if is_fallen(setpoints[k], setpoints[k + 1], rises[k]) {
             return k;
         }
-        k = next;
     }
     last
 }

@@ -30,10 +30,8 @@ fn write_losses(
     requires { n ≤ most_days }
     ensures { losses.new ≡ written (lost floors.now ceilings.now low.now high.now) n losses.old }
 {
-    let mut k = 0;
-    while k < n {
+    for k in 0..n {
         losses[k] = less(less(ceilings[k], floors[k]), less(high[k], low[k]));
-        k += 1;
     }
 }
 
@@ -42,10 +40,8 @@ fn read_days(cells: &[u8], count: usize, days: &mut [u16])
     requires { (count ≤ most_days) × (count * 2 ≤ length cells.now) × (count ≤ length days.old) }
     ensures { days.new ≡ written (λ k. u16_at cells.now (k * 2)) count days.old }
 {
-    let mut k = 0;
-    while k < count {
+    for k in 0..count {
         days[k] = u16_at(cells, k * CELL_BYTES);
-        k += 1;
     }
 }
 

@@ -132,11 +132,9 @@ fn cut_all(session: Session, count: usize, asked: [Asked; MOST_CUTS]) -> Made
         },
     };
     let mut entries = [blank; MOST_CUTS];
-    let mut j = 0;
-    while j < count {
+    for j in 0..count {
         after = cut_once(after, asked[j]);
         entries[j] = answer_for(asked[j], after);
-        j += 1;
     }
     gather(count, entries, after)
 }

@@ -45,13 +45,11 @@ pub fn count_narrowed(
     ensures widths_after { widths.new ≡ written (width floors.now ceilings.now) n widths.old }
 {
     let mut count = 0;
-    let mut k = 0;
-    while k < n {
+    for k in 0..n {
         let before = widths[k];
         let after = less(ceilings[k], floors[k]);
         widths[k] = after;
         count = tally(count, before, after);
-        k += 1;
     }
     count
 }

@@ -1,10 +1,12 @@
 -- Rows one after another, and a list stored from a place on.
 use Prim.Native.Nat.{ℕ, zero, suc, ◌+◌, ◌*◌, ◌≤◌, ◌<◌}
 use Rattle.std.specs.Prelude.{◌≡◌, refl, List, [], ◌∷◌, ◌++◌, get_or, take, set}
-use Rattle.std.proofs.Common.{ap, ◌∙◌, add-zero, mul-le-mul_right, length-set, take-suc, length-take-le, take_all}
+use Rattle.std.proofs.Common.{ap, ◌∙◌, append_assoc, add-zero, mul-le-mul_right, length-set, take-suc, length-take-le, take_all}
 use Rattle.std.proofs.Math.Numerals.{add-one}
+use borrow.Rule.Slice.PartMut.{put_mid}
 use native.Mathlib.Omega.{arith}
 use Rattle.std.proofs.Math.ListN.{length, length-append, get_or-append}
+use Rattle.std.proofs.lemmas.List.{drop-drop}
 use Rattle.std.proofs.lemmas.List.Edits.{sets, sets-eq}
 use Rattle.std.proofs.Math.Seq.{length-sets}
 use Rattle.theory_lists.specs.Front.{in_front}
@@ -133,3 +135,9 @@ module _ {A : Type 0} {xs l : List A} {place : ℕ} where
 
   pub copied_all : {i : ℕ} {out : List A} → Copied xs place i l out → length xs ≤ i → out ≡ sets l place xs
   copied_all {i} h u = rw (take_all i xs u) at h.made
+
+-- ---- a list written at once over a part that is as long: what std's copies leave
+
+pub pasted : {A : Type 0} (l : List A) (place : ℕ) {w : ℕ} {xs ys : List A} → ys ≡ xs → w ≡ length xs → place + w ≤ length l → put_mid place w l ys ≡ sets l place xs
+pasted l place {w} {xs} e n h =
+    rw (e, n, drop-drop (length xs) place l, sets-eq xs l place (omega (arith, n))) (rw append_assoc refl)

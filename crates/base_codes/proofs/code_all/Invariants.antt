@@ -1,4 +1,4 @@
--- `code_all` meets its contract: the first i numbers are coded, and the flag tells of them (`Coding` of Loops). The measure is the numbers left.
+-- `code_all` meets its contract: the first i numbers are coded, and the flag tells of them (`Coding` of Loops).
 use Prim.Native.Nat.{◌-◌}
 use mathlib.Core.Path.{refl}
 use lib.ListN.{length}
@@ -12,6 +12,3 @@ use Rattle.base_codes.proofs.code_all.Given as goal
 
 abbrev pub invariant-loop-i : goal.invariant-loop-i
 invariant-loop-i l = Coding l.low l.high (on l.xs) (length l.xs) l.initial.out l.i l.out l.outside
-
-abbrev pub decreases-loop-i : goal.decreases-loop-i
-decreases-loop-i l = length l.xs - l.i

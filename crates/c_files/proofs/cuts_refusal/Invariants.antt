@@ -1,5 +1,4 @@
 -- `cuts_refusal` meets its contract: none of the first j cuts is refused (`Nowhere`); a turn adds one, or its refusal is the first (`nonzero-here`).
--- The measure is the cuts left.
 use Prim.Native.Nat.{◌-◌, ◌*◌}
 use Rattle.theory_lists.specs.First.{nonzero, Nowhere}
 use Rattle.file_format.specs.Format.{numbered_at}
@@ -8,6 +7,3 @@ use Rattle.c_files.proofs.cuts_refusal.Given as goal
 
 abbrev pub invariant-loop-j : goal.invariant-loop-j
 invariant-loop-j l = Nowhere (nonzero (λ k. numbered_refusal l.days (numbered_at l.cuts (k * 8)))) l.count l.j
-
-abbrev pub decreases-loop-j : goal.decreases-loop-j
-decreases-loop-j l = l.count - l.j

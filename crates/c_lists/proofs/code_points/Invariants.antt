@@ -1,4 +1,4 @@
--- `code_points` meets its contract: the first j points are coded, and the flag tells of them (`Coding`). The measure is the points left.
+-- `code_points` meets its contract: the first j points are coded, and the flag tells of them (`Coding`).
 use Prim.Native.Nat.{◌-◌}
 use Rattle.base_codes.proofs.Loops.{Coding}
 use Rattle.c_lists.specs.Lists.{point_at}
@@ -6,6 +6,3 @@ use Rattle.c_lists.proofs.code_points.Given as goal
 
 abbrev pub invariant-loop-j : goal.invariant-loop-j
 invariant-loop-j l = Coding l.low l.high (point_at l.bytes) l.n l.initial.out l.j l.out l.outside
-
-abbrev pub decreases-loop-j : goal.decreases-loop-j
-decreases-loop-j l = l.n - l.j

@@ -1,11 +1,7 @@
--- `code_ranges` meets its contract: the floors and the ceilings of the first j days are coded, and the flags tell of them (`CodingRanges`). The measure is the
--- days left.
+-- `code_ranges` meets its contract: the floors and the ceilings of the first j days are coded, and the flags tell of them (`CodingRanges`).
 use Prim.Native.Nat.{◌-◌}
 use Rattle.c_lists.proofs.Ranges.{CodingRanges}
 use Rattle.c_lists.proofs.code_ranges.Given as goal
 
 abbrev pub invariant-loop-j : goal.invariant-loop-j
 invariant-loop-j l = CodingRanges l.floors l.ceilings l.n l.initial.low l.initial.high l.j l.low l.high l.outside l.crossed
-
-abbrev pub decreases-loop-j : goal.decreases-loop-j
-decreases-loop-j l = l.n - l.j

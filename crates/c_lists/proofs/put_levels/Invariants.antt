@@ -1,5 +1,5 @@
--- `put_levels` meets its contract: k points are stored, from the list's front to k * 2 (`Stored`), and a turn stores the next level's (`stored_more`).
--- The measure is the levels left.
+-- `put_levels` meets its contract: k points are stored, from the list's front to k * 2 (`Stored`), and a turn stores the next level's
+-- (`stored_more`).
 use Prim.Native.Nat.{◌-◌, ◌*◌}
 use Rattle.limits.specs.Limits.{lowest_point}
 use Rattle.base_codes.specs.Code.{decoded}
@@ -10,6 +10,3 @@ use Rattle.c_lists.proofs.put_levels.Given as goal
 
 abbrev pub invariant-loop-k : goal.invariant-loop-k
 invariant-loop-k l = Stored (λ j. i16_bytes (decoded lowest_point (at l.levels j))) l.n 0 l.initial.out l.k (l.k * 2) l.out
-
-abbrev pub decreases-loop-k : goal.decreases-loop-k
-decreases-loop-k l = l.n - l.k

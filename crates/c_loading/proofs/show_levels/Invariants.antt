@@ -1,5 +1,4 @@
--- `show_levels` meets its contract: k points are stored from the list's front on (`Stored`), and a turn stores the next one (`stored_more`). The measure is
--- the points left.
+-- `show_levels` meets its contract: k points are stored from the list's front on (`Stored`), and a turn stores the next one (`stored_more`).
 use Prim.Native.Nat.{◌+◌, ◌-◌, ◌*◌, min}
 use Rattle.limits.specs.Limits.{lowest_point}
 use Rattle.base_codes.specs.Code.{decoded}
@@ -9,6 +8,3 @@ use Rattle.c_loading.proofs.show_levels.Given as goal
 
 abbrev pub invariant-loop-k : goal.invariant-loop-k
 invariant-loop-k l = Stored (λ j. i16_bytes (decoded lowest_point (min (u16_at l.bytes (l.place + j * 2)) 5000))) l.n 0 l.initial.out l.k (l.k * 2) l.out
-
-abbrev pub decreases-loop-k : goal.decreases-loop-k
-decreases-loop-k l = l.n - l.k

@@ -1,20 +1,13 @@
-use Prim.Native.Nat.{◌+◌, ◌-◌}
-use mathlib.Core.Path.{◌≡◌, refl}
-use Rattle.theory_lists.specs.Rows.{stored_none, stored_more, stored_all}
-use Rattle.c_storing.proofs.Laws.{rows-replicate}
+-- `put_zeros` meets its contract: what std's fill leaves is zeros, stored at their place (`pasted` of Rows).
+use Prim.Native.Nat.{ℕ, ◌-◌}
+use mathlib.Core.Path.{◌≡◌}
 use native.Mathlib.Omega.{arith}
+use lib.ListN.{length, replicate, take, drop, length-drop, length-take, length-replicate}
+use Rattle.theory_lists.specs.Rows.{pasted}
 use Rattle.c_storing.proofs.put_zeros.Goals as goal
 
-pub loop-i-init : goal.loop-i-init
-loop-i-init c = let z : c.args.from - c.args.from ≡ 0 = omega arith in rw z stored_none
-
-pub loop-i-preserved : goal.loop-i-preserved
-loop-i-preserved c =
-    let h = c.loop-i.invariant in
-    let i = c.loop-i.i in
-    let from = c.args.from in
-    let q : i + 1 - from ≡ i - from + 1 = omega (arith, h.ends) in
-    rw q (stored_more h (omega (arith, h.ends)) (refl, omega arith))
-
 pub returns : goal.returns
-returns c = rw (← rows-replicate) (stored_all c.loop-i.invariant (omega arith)).0
+returns c =
+    let a = c.args in
+    let n : length (take (a.to - a.from) (drop a.from a.out.now)) ≡ a.to - a.from = simp (length-take, length-drop) (omega (arith, c.requires)) in
+    pasted _ _ (rw n at (c.fill.ensures.after (λ y e. e))) (omega (arith, length-replicate {A = ℕ} (a.to - a.from) 0)) (omega (arith, c.requires))

@@ -22,4 +22,4 @@ loop-j-preserved c =
     nowhere_more c.loop-j.invariant c.loop-j-test.true (sym (judged (goal.at.loop-j-preserved c).After-is_bad) ∙ c.if-is_bad.false)
 
 pub returns : goal.returns
-returns c = let e : c.loop-j.j ≡ c.args.count = omega (arith, c.loop-j.invariant.most) in e ∙ nowhere_all c.loop-j.invariant c.loop-j-test.false
+returns c = nowhere_all c.loop-j.invariant c.loop-j-test.false

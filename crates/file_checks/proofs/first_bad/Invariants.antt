@@ -1,4 +1,4 @@
--- `first_bad` meets its contract: no cut below j is bad. The measure is the cuts left.
+-- `first_bad` meets its contract: no cut below j is bad.
 use Prim.Native.Nat.{◌+◌, ◌-◌, ◌*◌}
 use Rattle.theory_lists.specs.First.{Nowhere}
 use Rattle.file_format.specs.Format.{numbered_at}
@@ -7,6 +7,3 @@ use Rattle.file_checks.proofs.first_bad.Given as goal
 
 abbrev pub invariant-loop-j : goal.invariant-loop-j
 invariant-loop-j l = Nowhere (λ i. bad_cut (numbered_at l.bytes (l.from + i * 8))) l.count l.j
-
-abbrev pub decreases-loop-j : goal.decreases-loop-j
-decreases-loop-j l = l.count - l.j

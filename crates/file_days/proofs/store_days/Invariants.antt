@@ -1,5 +1,5 @@
--- `store_days` meets its contract: k days' floors, ceilings and rises are stored, and the next day begins at `at`. The measure is the days left.
--- After the loop the last day's floor and ceiling are stored (`last_stored`).
+-- `store_days` meets its contract: k days' floors, ceilings and rises are stored, and the next day begins at `at`. After the loop the last day's
+-- floor and ceiling are stored (`last_stored`).
 use Prim.Native.Nat.{◌-◌}
 use mathlib.Core.Path.{◌≡◌}
 use Rattle.theory_lists.specs.Filled.{Filled}
@@ -12,6 +12,3 @@ invariant-loop-k l =
     × Filled (floor_at l.bytes) l.last l.k l.initial.floors l.floors
     × Filled (ceiling_at l.bytes) l.last l.k l.initial.ceilings l.ceilings
     × Filled (rise_at l.bytes) l.last l.k l.initial.rises l.rises
-
-abbrev pub decreases-loop-k : goal.decreases-loop-k
-decreases-loop-k l = l.last - l.k

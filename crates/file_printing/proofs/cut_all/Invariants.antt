@@ -1,4 +1,4 @@
--- `cut_all` meets its contract: the first j cuts are applied (`Applied` of Laws). The measure is the cuts left.
+-- `cut_all` meets its contract: the first j cuts are applied (`Applied` of Laws).
 use Prim.Native.Nat.{◌-◌}
 use lib.ListN.{get_or}
 use Rattle.session_cuts.specs.Sheet.{blank}
@@ -7,6 +7,3 @@ use Rattle.file_printing.proofs.cut_all.Given as goal
 
 abbrev pub invariant-loop-j : goal.invariant-loop-j
 invariant-loop-j l = Applied l.initial.after (λ i. (get_or l.entries i blank).cut) l.count l.j l.after
-
-abbrev pub decreases-loop-j : goal.decreases-loop-j
-decreases-loop-j l = l.count - l.j

@@ -1,4 +1,4 @@
--- `put_days` meets its contract: the lines of k days are stored (`Stored`). The measure is the days left.
+-- `put_days` meets its contract: the lines of k days are stored (`Stored`).
 use Prim.Native.Nat.{◌-◌}
 use Rattle.base_codes.specs.Code.{on}
 use Rattle.file_printing.specs.Printing.{day_line}
@@ -7,6 +7,3 @@ use Rattle.file_printing.proofs.put_days.Given as goal
 
 abbrev pub invariant-loop-k : goal.invariant-loop-k
 invariant-loop-k l = Stored (λ j. day_line j (on l.floors j) (on l.ceilings j)) l.days l.at l.initial.out l.k l.next l.out
-
-abbrev pub decreases-loop-k : goal.decreases-loop-k
-decreases-loop-k l = l.days - l.k

@@ -1,4 +1,4 @@
--- `read_sheet` meets its contract: j entries are stored. The measure is the cuts left.
+-- `read_sheet` meets its contract: j entries are stored.
 use Prim.Native.Nat.{◌+◌, ◌-◌, ◌*◌}
 use Rattle.theory_lists.specs.Filled.{Filled}
 use Rattle.file_format.specs.Format.{numbered_at, known}
@@ -6,6 +6,3 @@ use Rattle.file_reading.proofs.read_sheet.Given as goal
 
 abbrev pub invariant-loop-j : goal.invariant-loop-j
 invariant-loop-j l = Filled (λ i. record { cut = known (numbered_at l.bytes (l.from + i * 8)) }) l.count l.j l.initial.entries l.entries
-
-abbrev pub decreases-loop-j : goal.decreases-loop-j
-decreases-loop-j l = l.count - l.j

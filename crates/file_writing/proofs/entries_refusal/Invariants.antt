@@ -1,4 +1,4 @@
--- `entries_refusal` meets its contract: none of the first j entries is refused. The measure is the entries left; the laws are those of First.
+-- `entries_refusal` meets its contract: none of the first j entries is refused; the laws are those of First.
 use Prim.Native.Nat.{◌-◌}
 use lib.ListN.{get_or}
 use Rattle.theory_lists.specs.First.{nonzero, Nowhere}
@@ -8,6 +8,3 @@ use Rattle.file_writing.proofs.entries_refusal.Given as goal
 
 abbrev pub invariant-loop-j : goal.invariant-loop-j
 invariant-loop-j l = Nowhere (nonzero (λ k. malformed l.days (get_or l.entries k blank).cut)) l.count l.j
-
-abbrev pub decreases-loop-j : goal.decreases-loop-j
-decreases-loop-j l = l.count - l.j

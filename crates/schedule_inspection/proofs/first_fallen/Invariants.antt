@@ -1,4 +1,4 @@
--- `first_fallen` meets its contract: no rise below k is broken. The measure is the days left.
+-- `first_fallen` meets its contract: no rise below k is broken.
 use Prim.Native.Nat.{◌-◌}
 use Rattle.theory_lists.specs.First.{Nowhere}
 use Rattle.schedule_inspection.specs.Stages.{fallen}
@@ -6,6 +6,3 @@ use Rattle.schedule_inspection.proofs.first_fallen.Given as goal
 
 abbrev pub invariant-loop-k : goal.invariant-loop-k
 invariant-loop-k l = Nowhere (fallen l.setpoints l.rises) (l.n - 1) l.k
-
-abbrev pub decreases-loop-k : goal.decreases-loop-k
-decreases-loop-k l = l.n - l.k

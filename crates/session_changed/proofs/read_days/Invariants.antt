@@ -1,4 +1,4 @@
--- `read_days` meets its contract: the first k days are read (`Filled`). The measure is the days left.
+-- `read_days` meets its contract: the first k days are read (`Filled`).
 use Prim.Native.Nat.{◌-◌, ◌*◌}
 use Rattle.theory_lists.specs.Filled.{Filled}
 use Rattle.base_little_endian.specs.Fields.{u16_at}
@@ -6,6 +6,3 @@ use Rattle.session_changed.proofs.read_days.Given as goal
 
 abbrev pub invariant-loop-k : goal.invariant-loop-k
 invariant-loop-k l = Filled (λ j. u16_at l.cells (j * 2)) l.count l.k l.initial.days l.days
-
-abbrev pub decreases-loop-k : goal.decreases-loop-k
-decreases-loop-k l = l.count - l.k

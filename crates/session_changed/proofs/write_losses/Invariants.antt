@@ -1,4 +1,4 @@
--- `write_losses` meets its contract: the losses of the days below k are written (`Filled`). The measure is the days left.
+-- `write_losses` meets its contract: the losses of the days below k are written (`Filled`).
 use Prim.Native.Nat.{◌-◌}
 use Rattle.theory_lists.specs.Filled.{Filled}
 use Rattle.session_changed.specs.Changes.{lost}
@@ -6,6 +6,3 @@ use Rattle.session_changed.proofs.write_losses.Given as goal
 
 abbrev pub invariant-loop-k : goal.invariant-loop-k
 invariant-loop-k l = Filled (lost l.floors l.ceilings l.low l.high) l.n l.k l.initial.losses l.losses
-
-abbrev pub decreases-loop-k : goal.decreases-loop-k
-decreases-loop-k l = l.n - l.k

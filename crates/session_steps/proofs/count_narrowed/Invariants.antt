@@ -1,4 +1,4 @@
--- `count_narrowed` meets its contract: the widths of the days below k are left, and those that fell are counted (`Tallied` of Laws). The measure is the days left.
+-- `count_narrowed` meets its contract: the widths of the days below k are left, and those that fell are counted (`Tallied` of Laws).
 use Prim.Native.Nat.{◌-◌}
 use mathlib.Core.Path.{refl}
 use borrow.Author.Rules.{rules}
@@ -8,6 +8,3 @@ use Rattle.session_steps.proofs.count_narrowed.Given as goal
 
 abbrev pub invariant-loop-k : goal.invariant-loop-k
 invariant-loop-k l = Tallied l.floors l.ceilings l.n l.initial.widths l.k l.count l.widths
-
-abbrev pub decreases-loop-k : goal.decreases-loop-k
-decreases-loop-k l = l.n - l.k
