@@ -12,11 +12,10 @@ use mir.Syntax.{Width, w16, w32, w64}
 use mir.Val.{Fits, SFits, to_z, of_z, hbits}
 use mir.Facts.{to_z-of_z, to_z_pos, sfits_widen, not_T}
 use Rattle.limits.specs.Limits.{lowest_setpoint, highest_setpoint}
-use Rattle.base_codes.specs.declared.Coded.{Coded}
-use Rattle.base_codes.specs.declared.Coded.TheVariants.{Code, Outside}
+use Rattle.std.specs.Prelude.{Option, None, Some}
 use Rattle.base_codes.proofs.Offset.{Less}
-use Rattle.base_codes.specs.Code.{within, code, decoded, coded, coded_cell}
-use Rattle.base_codes.proofs.Laws.{code_difference, code-most, decoded_less, within-yes, coded-code, coded-outside}
+use Rattle.base_codes.specs.Code.{within, code, decoded, coded}
+use Rattle.base_codes.proofs.Laws.{code_difference, code-most, decoded_less, within-yes, coded-code}
 
 -- a number of 32 bits, read back from its bits
 abbrev pub seen : ℤ → ℤ
@@ -43,7 +42,7 @@ setpoint_within {z = pos a} f = le-leb a 32767 (omega (arith, f.sfits))
 setpoint_within {z = negsuc a} f = rw (le-leb a 32767 (omega (arith, f.sfits)))
 
 -- an answer on a number read back from its bits
-pub coded_seen : (low high : ℤ) {z : ℤ} {r : Coded} → SFits w32 z → r ≡ coded low high (seen z) → r ≡ coded low high z
+pub coded_seen : (low high : ℤ) {z : ℤ} {r : Option ℕ} → SFits w32 z → r ≡ coded low high (seen z) → r ≡ coded low high z
 coded_seen low high f e = e ∙ ap (coded low high) (to_z-of_z f)
 
 -- bounds read back from their bits
@@ -51,10 +50,10 @@ pub bounds_seen : {low high : ℤ} → SFits w32 low → SFits w32 high → {mos
 bounds_seen fl fh h = rw (to_z-of_z fl, to_z-of_z fh) h
 
 -- `code`
-outside : (low high z : ℤ) → (low ≤ℤ z → z ≤ℤ high → ⊥) → Outside ≡ coded low high z
+outside : (low high z : ℤ) → (low ≤ℤ z → z ≤ℤ high → ⊥) → None ≡ coded low high z
 outside low high z h = go (within low high z) (λ e. h ((within-yes low high z).0 e).0 ((within-yes low high z).0 e).1)
   where
-    go : (b : Bool) → (b ≡ true → ⊥) → Outside ≡ cond b (Code (code low z)) Outside
+    go : (b : Bool) → (b ≡ true → ⊥) → None ≡ cond b (Some (code low z)) None
     go true n = absurd (n refl)
     go false n = refl
 
@@ -73,10 +72,10 @@ pub record Tested (low high z : ℤ) : Type 0 where
 
 module _ {low high z : ℤ} where
   module _ (w : Words low high z) where
-    pub below : lt_z (seen z) (seen low) ≡ true → Outside ≡ coded low high z
+    pub below : lt_z (seen z) (seen low) ≡ true → None ≡ coded low high z
     below t = outside low high z (λ l u. clash_ℤ (test_yes w.z_fits w.low_fits t) l)
 
-    pub above : lt_z (seen high) (seen z) ≡ true → Outside ≡ coded low high z
+    pub above : lt_z (seen high) (seen z) ≡ true → None ≡ coded low high z
     above t = outside low high z (λ l u. clash_ℤ (test_yes w.high_fits w.z_fits t) u)
 
   module _ (h : Tested low high z) where
@@ -101,31 +100,24 @@ module _ {low high z : ℤ} where
     pub cast_fits : T (non_neg (seen (seen z -ℤ seen low))) × Fits w64 (nat_abs (seen (seen z -ℤ seen low)))
     cast_fits = rw same (tt, record { fits = omega (arith, h.most, code-most low high z inside) })
 
-    pub taken : Code (nat_abs (seen (seen z -ℤ seen low))) ≡ coded low high z
+    pub taken : Some (nat_abs (seen (seen z -ℤ seen low))) ≡ coded low high z
     taken = rw (same, inside)
 
 -- `code_cell`: what `code` gave on a number of 16 bits, cast to 32
-pub record Answered (low high z : ℤ) (r : Coded) : Type 0 where
+pub record Answered (low high z : ℤ) (r : Option ℕ) : Type 0 where
   pub low_fits : SFits w32 low
   pub high_fits : SFits w32 high
   pub z_fits : SFits w16 z
   pub cast : r ≡ coded (seen low) (seen high) (seen (to_z w16 (of_z w16 z)))
 
-module _ {low high z : ℤ} {r : Coded} (a : Answered low high z r) where
-  answer : r ≡ coded low high z
+module _ {low high z : ℤ} {r : Option ℕ} (a : Answered low high z r) where
+  pub answer : r ≡ coded low high z
   answer = rw (to_z-of_z a.low_fits, to_z-of_z a.high_fits, recast w16 w32 a.z_fits (sfits_widen tt a.z_fits)) at a.cast
 
-  pub cell_outside : r ≡ Outside → record { code = 0; outside = true } ≡ coded_cell low high z
-  cell_outside o = rw (coded-outside low high z answer o)
-
-  module _ {c : ℕ} (o : r ≡ Code c) where
-    pub cell_fits : code low high ≤ 65535 → Fits w16 c
-    cell_fits h =
-        let t = coded-code low high z c answer o in
-        record { fits = omega (arith, code-most low high z t.0) }
-
-    pub cell_coded : record { code = c; outside = false } ≡ coded_cell low high z
-    cell_coded = let t = coded-code low high z c answer o in rw (t.0, t.1)
+  pub cell_fits : {c : ℕ} → r ≡ Some c → code low high ≤ 65535 → Fits w16 c
+  cell_fits {c} o h =
+      let t = coded-code low high z c answer o in
+      record { fits = omega (arith, code-most low high z t.0) }
 
 -- `decode` and `decode_short`
 low_less : (low : ℤ) → low ≤ℤ pos 0 → Less low 0 (nat_abs low)

@@ -8,8 +8,7 @@ use lib.IntN.{ℤ, pos, negsuc, neg_ℤ, nat_abs, ◌-ℤ◌, +ℤ_comm, +ℤ-ne
 use lib.Signed.{◌≤ℤ◌, le_z, le_z_yes}
 use denote.Floats.{passes, is_true}
 use Rattle.limits.specs.Limits.{lowest_point, highest_point, lowest_rise, highest_rise, lowest_total, highest_total, lowest_setpoint}
-use Rattle.base_codes.specs.declared.Coded.{Coded}
-use Rattle.base_codes.specs.declared.Coded.TheVariants.{Code, Outside}
+use Rattle.std.specs.Prelude.{Option, None, Some}
 use Rattle.base_codes.proofs.Offset.{Less, le_less, less_same, less_add}
 use Rattle.base_codes.specs.Code.{within, code, decoded, coded}
 
@@ -112,16 +111,16 @@ pub total-most : (z : ℤ) → within lowest_total highest_total z ≡ true → 
 total-most = code-most lowest_total highest_total
 
 -- what an answer says of the number
-pub coded-code : {r : Coded} (low high z : ℤ) (c : ℕ) → r ≡ coded low high z → r ≡ Code c → (within low high z ≡ true) × (c ≡ code low z)
+pub coded-code : {r : Option ℕ} (low high z : ℤ) (c : ℕ) → r ≡ coded low high z → r ≡ Some c → (within low high z ≡ true) × (c ≡ code low z)
 coded-code {r} low high z c e f = go (within low high z) e
   where
-    go : (b : Bool) → r ≡ cond b (Code (code low z)) Outside → (b ≡ true) × (c ≡ code low z)
+    go : (b : Bool) → r ≡ cond b (Some (code low z)) None → (b ≡ true) × (c ≡ code low z)
     go true p = (refl, cc)
     go false p = (cc, cc)
 
-pub coded-outside : {r : Coded} (low high z : ℤ) → r ≡ coded low high z → r ≡ Outside → within low high z ≡ false
+pub coded-outside : {r : Option ℕ} (low high z : ℤ) → r ≡ coded low high z → r ≡ None → within low high z ≡ false
 coded-outside {r} low high z e f = go (within low high z) e
   where
-    go : (b : Bool) → r ≡ cond b (Code (code low z)) Outside → b ≡ false
+    go : (b : Bool) → r ≡ cond b (Some (code low z)) None → b ≡ false
     go true p = cc
     go false p = refl

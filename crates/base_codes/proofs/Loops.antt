@@ -1,7 +1,7 @@
 -- The loops that code numbers in turn, and that of `decode_all`, over plain lists: their invariants, and what starts, keeps and ends each.
 use Prim.Native.Nat.{ℕ, ◌+◌, ◌≤◌, ◌<◌}
-use mathlib.Core.Path.{◌≡◌, ap, sym, ◌∙◌}
-use mathlib.Core.Bool.{Bool, true, false, not, ◌||◌}
+use mathlib.Core.Path.{◌≡◌, refl, ap, sym, ◌∙◌}
+use mathlib.Core.Bool.{Bool, true, false, cond, not, ◌||◌}
 use mathlib.Core.List.{List}
 use native.Mathlib.Omega.{arith}
 use borrow.Author.Count.{below_none, below_more}
@@ -14,10 +14,27 @@ use Rattle.limits.specs.Limits.{lowest_setpoint, highest_setpoint}
 use Rattle.theory_lists.specs.Written.{written}
 use Rattle.theory_lists.specs.Filled.{Filled, filled_none, filled_more, filled-all}
 use Rattle.theory_lists.specs.Some.{some_same, Told, told_none, told_more, told_all}
-use Rattle.base_codes.specs.declared.CodedCell.{CodedCell}
-use Rattle.base_codes.specs.Code.{within, decoded, on, every, code_or_zero, coded_cell}
+use Rattle.std.specs.Prelude.{Option, None, Some, is_some, unwrap_or}
+use Rattle.base_codes.specs.Code.{within, code, decoded, on, every, code_or_zero, coded}
 use Rattle.base_codes.proofs.Every.{every-yes, every_some}
 use Rattle.base_codes.proofs.Casts.{seen, setpoint_within, short_same, short_fits}
+
+-- a coded number's two readings
+none-outside : (low high z : ℤ) {b : Bool} → is_some (coded low high z) ≡ not b → b ≡ not (within low high z)
+none-outside low high z {b} = go (within low high z) b
+  where
+    go : (w b : Bool) → is_some (cond w (Some (code low z)) None) ≡ not b → b ≡ not w
+    go true true e = cc
+    go true false e = refl
+    go false true e = refl
+    go false false e = cc
+
+some-or-zero : (low high z : ℤ) → unwrap_or (coded low high z) 0 ≡ code_or_zero low high z
+some-or-zero low high z = go (within low high z)
+  where
+    go : (b : Bool) → unwrap_or (cond b (Some (code low z)) None) 0 ≡ cond b (code low z) 0
+    go true = refl
+    go false = refl
 
 -- ---- n numbers f 0, f 1, .. of 16 bits coded in turn: the first i are, and whether one of them is outside its bounds is known
 
@@ -38,13 +55,13 @@ module _ {low high : ℤ} {f : ℕ → ℤ} {n : ℕ} {first : List ℕ} where
 
   module _ {i : ℕ} {out : List ℕ} {outside : Bool} (h : Coding low high f n first i out outside) where
     -- the number that a turn coded, read back from its bits
-    pub coding_more : {z : ℤ} {r : CodedCell} → i < n → SFits w16 z → z ≡ f i → r ≡ coded_cell low high (to_z w16 (of_z w16 z))
-        → Coding low high f n first (i + 1) (set out i r.code) (outside || r.outside)
-    coding_more l w e c =
-        let cell = c ∙ ap (coded_cell low high) (to_z-of_z w ∙ e) in
+    pub coding_more : {z : ℤ} {r : Option ℕ} {v : ℕ} (b : Bool) → i < n → SFits w16 z → z ≡ f i → r ≡ coded low high (to_z w16 (of_z w16 z)) → v ≡ unwrap_or r 0 → is_some r ≡ not b
+        → Coding low high f n first (i + 1) (set out i v) (outside || b)
+    coding_more b l w e c p q =
+        let cell = c ∙ ap (coded low high) (to_z-of_z w ∙ e) in
         record {
-          told = told_more h.told l (ap (λ x. x.outside) cell);
-          filled = filled_more h.filled l (ap (λ x. x.code) cell);
+          told = told_more h.told l (none-outside low high (f i) (sym (ap is_some cell) ∙ q));
+          filled = filled_more h.filled l (p ∙ ap (λ x. unwrap_or x 0) cell ∙ some-or-zero low high (f i));
           short = below_more _ i h.short (rw e at (setpoint_within w));
         }
 

@@ -1,9 +1,6 @@
 -- Signed numbers within bounds as natural numbers: how far each is above its lowest bound (offset binary).
-use Rattle.std.specs.Prelude.{Bool, true, cond, not, ◌&&◌, List, [], ◌∷◌, ℕ, ℤ, pos, nat_abs, ◌+ℤ◌, ◌-ℤ◌, get_or}
+use Rattle.std.specs.Prelude.{Bool, true, cond, ◌&&◌, List, [], ◌∷◌, ℕ, ℤ, pos, nat_abs, ◌+ℤ◌, ◌-ℤ◌, get_or, Option, None, Some}
 use Rattle.std.specs.Int.Signed.{le_z}
-use Rattle.base_codes.specs.declared.Coded.{Coded}
-use Rattle.base_codes.specs.declared.Coded.TheVariants.{Code, Outside}
-use Rattle.base_codes.specs.declared.CodedCell.{CodedCell}
 
 abbrev pub within : ℤ → ℤ → ℤ → Bool
 within low high z = le_z low z && le_z z high
@@ -23,12 +20,10 @@ abbrev pub every : (ℤ → Bool) → List ℤ → Bool
 every test [] = true
 every test (z ∷ zs) = test z && every test zs
 
-abbrev pub coded : ℤ → ℤ → ℤ → Coded
-coded low high z = cond (within low high z) (Code (code low z)) Outside
+-- a number's code, none where it is outside
+abbrev pub coded : ℤ → ℤ → ℤ → Option ℕ
+coded low high z = cond (within low high z) (Some (code low z)) None
 
 -- a number's code, or 0 where it is outside
 abbrev pub code_or_zero : ℤ → ℤ → ℤ → ℕ
 code_or_zero low high z = cond (within low high z) (code low z) 0
-
-abbrev pub coded_cell : ℤ → ℤ → ℤ → CodedCell
-coded_cell low high z = record { code = code_or_zero low high z; outside = not (within low high z) }

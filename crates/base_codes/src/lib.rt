@@ -5,23 +5,9 @@
 ghost use Rattle.std.specs.Prelude.{◌≡◌, true, not, ℕ, ◌≤◌, ◌<◌, pos, length, get_or, ◌≤ℤ◌};
 ghost use Rattle.limits.specs.Limits.{most_days, lowest_setpoint, highest_setpoint};
 ghost use Rattle.theory_lists.specs.Written.{written};
-ghost use Rattle.base_codes.specs.Code.{within, code, decoded, on, every, coded, code_or_zero, coded_cell};
+ghost use Rattle.base_codes.specs.Code.{within, code, decoded, on, every, coded, code_or_zero};
 
 use limits::MOST_DAYS;
-
-// A number's code, or that it is outside its bounds.
-#[derive(Clone, Copy)]
-pub enum Coded {
-    Code(usize),
-    Outside,
-}
-
-// A number's code in 16 bits, 0 where the number is outside its bounds, and whether it is.
-#[derive(Clone, Copy)]
-pub struct CodedCell {
-    pub code: u16,
-    pub outside: bool,
-}
 
 // A profile's numbers as codes: the day count, the first counted day, and the total's bounds as they are held.
 #[derive(Clone, Copy)]
@@ -32,34 +18,24 @@ pub struct CodedNumbers {
     pub highest: usize,
 }
 
-pub fn code(z: i32, low: i32, high: i32) -> Coded
+// A number's code, or none where the number is outside its bounds.
+pub fn code(z: i32, low: i32, high: i32) -> Option<usize>
     requires { code low high ≤ 2147483647 }
     ensures { result ≡ coded low high z }
 {
-    if z < low {
-        return Coded::Outside;
+    if z < low || high < z {
+        return None;
     }
-    if high < z {
-        return Coded::Outside;
-    }
-    Coded::Code((z - low) as usize)
+    Some((z - low) as usize)
 }
 
-// The same in 16 bits: the code, 0 where the number is outside, and whether it is.
-pub fn code_cell(z: i16, low: i32, high: i32) -> CodedCell
+// The same in 16 bits.
+pub fn code_cell(z: i16, low: i32, high: i32) -> Option<u16>
     requires { code low high ≤ 65535 }
-    ensures { result ≡ coded_cell low high z }
+    ensures { result ≡ coded low high z }
 {
-    let Coded::Code(c) = code(z as i32, low, high) else {
-        return CodedCell {
-            code: 0,
-            outside: true,
-        };
-    };
-    CodedCell {
-        code: c as u16,
-        outside: false,
-    }
+    let code = code(i32::from(z), low, high)?;
+    Some(code as u16)
 }
 
 // Stores the code of each number, 0 for one outside its bounds, and says whether there is one. All have 16 bits.
@@ -72,8 +48,8 @@ pub fn code_all(xs: &[i16], low: i32, high: i32, out: &mut [u16; MOST_DAYS]) -> 
     let mut outside = false;
     for i in 0..xs.len() {
         let cell = code_cell(xs[i], low, high);
-        out[i] = cell.code;
-        outside = outside | cell.outside;
+        out[i] = cell.unwrap_or(0);
+        outside |= cell.is_none();
     }
     outside
 }

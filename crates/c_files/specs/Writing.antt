@@ -1,22 +1,20 @@
 -- Document 01's writer of a file, over byte lists: what it refuses and gives, and its output.
-use Rattle.std.specs.Prelude.{cond, List, ℕ, ◌*◌, ◌/◌, ◌%◌, eqb, ltb, length}
+use Rattle.std.specs.Prelude.{cond, List, ℕ, ◌*◌, ◌/◌, ◌%◌, eqb, ltb, length, None, Option, Some}
 use Rattle.limits.specs.Limits.{most_cuts}
 use Rattle.theory_lists.specs.First.{first_nonzero}
 use Rattle.theory_lists.specs.Front.{in_front}
 use Rattle.theory_lists.specs.ListOf.{list_of}
 use Rattle.session.specs.Opening.{early_opening}
 use Rattle.session_cuts.specs.declared.Cut.{Cut}
-use Rattle.session_cuts.specs.declared.Numbered.{Numbered}
-use Rattle.session_cuts.specs.declared.Numbered.TheVariants.{Known, Unknown}
 use Rattle.session_cutting.specs.Cutting.{malformed}
 use Rattle.file_format.specs.Format.{cut_length, file_length, numbered_at, known, file}
 use Rattle.file_writing.specs.declared.WriteAnswer.{WriteAnswer}
 use Rattle.c_lists.specs.Profiles.{ByteProfile, byte_length_refusal, profile_of}
 
 -- the refusal of a numbered cut by itself: an unknown kind is 12
-abbrev pub numbered_refusal : ℕ → Numbered → ℕ
-numbered_refusal n (Known c) = malformed n c
-numbered_refusal n Unknown = 12
+abbrev pub numbered_refusal : ℕ → Option Cut → ℕ
+numbered_refusal n (Some c) = malformed n c
+numbered_refusal n None = 12
 
 -- the cuts in a list of 8 bytes each whose kinds are known
 unfoldable pub cuts_in_bytes : List ℕ → List Cut

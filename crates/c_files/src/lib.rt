@@ -20,7 +20,7 @@ use file_parts::{put_days, put_header};
 use file_writing::WriteAnswer;
 use limits::{MOST_CUTS, MOST_DAYS};
 use session::{Numbers, early_refusal};
-use session_cuts::Numbered;
+use session_cuts::Cut;
 use session_cutting::malformed;
 
 // What reading gives beside the lists: the refusal's number, 0 for none; the profile's numbers, and how many cuts there are.
@@ -116,10 +116,10 @@ pub fn read(
 // ---- writing
 
 // The refusal that a numbered cut has by itself: 12, 7, then 3 or 5, else 0.
-fn numbered_refusal(numbered: Numbered, days: usize) -> u8
+fn numbered_refusal(numbered: Option<Cut>, days: usize) -> u8
     ensures { result ≡ numbered_refusal days numbered }
 {
-    let Numbered::Known(cut) = numbered else {
+    let Some(cut) = numbered else {
         return 12;
     };
     malformed(cut, days)

@@ -1,4 +1,5 @@
 -- What a cut on a session's bytes gives, by what its tests found.
+use Rattle.std.specs.Prelude.{Option}
 use mathlib.Core.Path.{◌≡◌, refl, sym, ap, subst, ◌∙◌}
 use mathlib.Core.Bool.{Bool, true, false, cond}
 use mathlib.Core.List.{List}
@@ -19,7 +20,6 @@ use Rattle.session.specs.Showing.{box_of, Fits}
 use Rattle.session.specs.declared.Session.{Session}
 use Rattle.session_cuts.specs.declared.Cut.{Cut}
 use Rattle.session_cuts.specs.declared.Cut.TheVariants.{DayFloor, DayCeiling, TotalFloor, TotalCeiling}
-use Rattle.session_cuts.specs.declared.Numbered.{Numbered}
 use Rattle.session_order.specs.Order.{settled_losers, day_cells}
 use Rattle.session_changed.specs.Changes.{lost}
 use Rattle.session_changed.proofs.Laws.{narrowed-losers, narrowed_same}
@@ -122,7 +122,7 @@ malformed-not-eight n (TotalCeiling day value) = not_eight (eqb day 0) (within l
 
 -- ---- the returns of `cut`
 
-module _ (b : List ℕ) (t : Numbered) (l : List ℕ) where
+module _ (b : List ℕ) (t : Option Cut) (l : List ℕ) where
   pub cut_unread : (length b ≡ session_bytes → ⊥) → {r : CutAnswer} → r ≡ record { refusal = 2; changed = 0 }
       → (r ≡ cut_answer b t (length l)) × ((b ≡ bytes_cut b t (length l)) × (l ≡ changed_bytes b t l))
   unfolding cut_answer bytes_cut changed_bytes

@@ -1,4 +1,5 @@
 -- A cut on the encoding of a session: the patch is the encoding of what the cut makes of the session.
+use Rattle.std.specs.Prelude.{Option}
 use mathlib.Core.Path.{◌≡◌, refl, ap, sym}
 use mathlib.Core.Bool.{Bool, true, false, cond, ◌||◌}
 use Prim.Native.Nat.{ℕ, ◌/◌}
@@ -6,7 +7,6 @@ use lib.Dec.{eqb}
 use lib.ListN.{length}
 use borrow.Author.Tests.{eq-eqb, eqb-false}
 use Rattle.session.specs.declared.Session.{Session}
-use Rattle.session_cuts.specs.declared.Numbered.{Numbered}
 use Rattle.session_cutting.specs.Cutting.{after_numbered}
 use Rattle.session_cutting.specs.declared.AfterCut.{AfterCut}
 use Rattle.session_cutting.proofs.Laws.{keeps}
@@ -16,13 +16,14 @@ use Rattle.c_layout.proofs.Lengths.{encoding-length}
 use Rattle.c_layout.proofs.Inverse.{decoding-encoding}
 use Rattle.c_layout.proofs.Patching.{patched-kept}
 use Rattle.c_sessions.specs.Sessions.{is_session, bytes_for, bytes_cut}
+use Rattle.session_cuts.specs.declared.Cut.{Cut}
 
 pub encoded : (s : Session) → Storable s → is_session (encoding s) ≡ true
 encoded s h = eq-eqb (length (encoding s)) session_bytes (encoding-length s h.bounds.opened.most)
 
 -- ---- a cut on the encoding
 
-module _ (s : Session) (h : Storable s) (t : Numbered) (room : ℕ) where
+module _ (s : Session) (h : Storable s) (t : Option Cut) (room : ℕ) where
   abbrev a : AfterCut
   a = after_numbered s t room
 
@@ -39,6 +40,6 @@ module _ (s : Session) (h : Storable s) (t : Numbered) (room : ℕ) where
       go false true e f = patch
       go false false e f = ap encoding (sym ((keeps s t room).left (eqb-false a.answer.refusal 0 e) (eqb-false a.answer.refusal 8 f)))
 
-pub cut_encoded : (s : Session) → Storable s → (t : Numbered) (list : ℕ) → bytes_cut (encoding s) t list ≡ encoding (after_numbered s t (list / 2)).session
+pub cut_encoded : (s : Session) → Storable s → (t : Option Cut) (list : ℕ) → bytes_cut (encoding s) t list ≡ encoding (after_numbered s t (list / 2)).session
 unfolding bytes_cut
 cut_encoded s h t list = rw (encoded s h, decoding-encoding s h) (stored s h t (list / 2))

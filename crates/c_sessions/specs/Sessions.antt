@@ -1,19 +1,19 @@
 -- What calls on a session's bytes give: what the functions on sessions by value give for the session that the bytes hold. A session's bytes of another length are
 -- refused with 2 before all else. Lists are given as they are, or by their counts of bytes, of which an odd last one counts for nothing where a list may be
 -- longer than its elements ask.
-use Rattle.std.specs.Prelude.{Bool, cond, ◌||◌, List, ℕ, ◌/◌, ℤ, eqb, length}
+use Rattle.std.specs.Prelude.{Bool, cond, ◌||◌, List, ℕ, ◌/◌, ℤ, eqb, length, Option}
 use Rattle.theory_lists.specs.Front.{in_front}
 use Rattle.session.specs.Opening.{opened}
 use Rattle.session.specs.Showing.{shown, list_too_short}
 use Rattle.session.specs.declared.Session.{Session}
 use Rattle.session.specs.declared.Shown.{Shown}
-use Rattle.session_cuts.specs.declared.Numbered.{Numbered}
 use Rattle.session_order.specs.Order.{day_cells}
 use Rattle.session_cutting.specs.Cutting.{changed_days, after_numbered}
 use Rattle.session_cutting.specs.declared.AfterCut.{AfterCut}
 use Rattle.session_cutting.specs.declared.CutAnswer.{CutAnswer}
 use Rattle.c_lists.specs.Profiles.{ByteProfile, byte_length_refusal, profile_of}
 use Rattle.c_layout.specs.Layout.{session_bytes, encoding, decoding, patched}
+use Rattle.session_cuts.specs.declared.Cut.{Cut}
 
 abbrev pub is_session : List ℕ → Bool
 is_session b = eqb (length b) session_bytes
@@ -43,13 +43,13 @@ bytes_for b a =
 unfoldable pub list_for : List ℕ → AfterCut → List ℕ → List ℕ
 list_for b a l = cond (eqb a.answer.refusal 0) (in_front (day_cells (changed_days (decoding b).days (decoding b).present a.session.present)) l) l
 
-unfoldable pub cut_answer : List ℕ → Numbered → ℕ → CutAnswer
+unfoldable pub cut_answer : List ℕ → Option Cut → ℕ → CutAnswer
 cut_answer b t list = cond (is_session b) (after_numbered (decoding b) t (list / 2)).answer (record { refusal = 2; changed = 0 })
 
-unfoldable pub bytes_cut : List ℕ → Numbered → ℕ → List ℕ
+unfoldable pub bytes_cut : List ℕ → Option Cut → ℕ → List ℕ
 bytes_cut b t list = cond (is_session b) (bytes_for b (after_numbered (decoding b) t (list / 2))) b
 
-unfoldable pub changed_bytes : List ℕ → Numbered → List ℕ → List ℕ
+unfoldable pub changed_bytes : List ℕ → Option Cut → List ℕ → List ℕ
 changed_bytes b t l = cond (is_session b) (list_for b (after_numbered (decoding b) t (length l / 2)) l) l
 
 -- ---- showing, with lists of that many bytes

@@ -22,7 +22,7 @@ use c_loading::{days_of, first_of, is_spent, load_present, show_present, total_o
 use c_storing::{spend, store_cut, store_fresh};
 use limits::{HIGHEST_RISE, LOWEST_RISE, MOST_DAYS};
 use session::{CodedProfile, Numbers, Session, Shown};
-use session_cuts::{Cut, Numbered};
+use session_cuts::Cut;
 use session_cutting::CutAnswer;
 
 // ---- opening
@@ -203,7 +203,7 @@ pub fn cut(session: &mut [u8], kind: usize, day: usize, value: i32, changed: &mu
     if session.len() != SESSION_BYTES {
         return refuse(2);
     }
-    let Numbered::Known(known) = Cut::numbered(kind, day, value) else {
+    let Some(known) = Cut::numbered(kind, day, value) else {
         return refuse(12);
     };
     cut_known(session, known, changed)

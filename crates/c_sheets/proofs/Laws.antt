@@ -1,4 +1,5 @@
 -- A sheet on a session's bytes: an answer's bytes, the cuts of a list made one after another, what is loaded, and what is stored in the end.
+use Rattle.std.specs.Prelude.{Option}
 use Prim.Native.Nat.{ℕ, ◌+◌, ◌*◌, ◌/◌, ◌%◌, ◌≤◌, ◌<◌}
 use mathlib.Core.Path.{◌≡◌, refl, ap, sym, subst, ◌∙◌}
 use mathlib.Core.Bool.{Bool, true, false}
@@ -20,7 +21,6 @@ use Rattle.base_little_endian.proofs.Laws.{u16-length}
 use Rattle.session.specs.Showing.{SessionInBounds}
 use Rattle.session.specs.declared.Ranges.{Ranges}
 use Rattle.session.specs.declared.Session.{Session}
-use Rattle.session_cuts.specs.declared.Numbered.{Numbered}
 use Rattle.session_order.specs.Order.{settled_losers, day_cells}
 use Rattle.session_changed.specs.Changes.{lost}
 use Rattle.session_cutting.specs.Cutting.{after_numbered}
@@ -37,6 +37,7 @@ use Rattle.c_layout.proofs.Held.{days_few}
 use Rattle.c_sessions.proofs.Cutting.{Loaded}
 use Rattle.c_sheets.specs.Sheets.{asked_in, asked_at, answer_bytes, answers_bytes, sheet_bytes, sheet_refusal_over, sheet_answer, bytes_after_sheet, answers_after, days_after}
 use Rattle.c_sheets.specs.Stages.{RoomFor, Made, Sheetable, MadeOver}
+use Rattle.session_cuts.specs.declared.Cut.{Cut}
 
 -- ---- answers
 
@@ -54,11 +55,11 @@ unfolding answer_bytes
 answer_stored a l place e p q = stored_after l place 2 (u16_bytes a.refusal) (u16_bytes a.changed) (u16-length a.refusal) p (rw e at q)
 
 -- an answer has no more changed days than there are
-pub stepped_few : {s : Session} (t : Numbered) {q : Step} {rs fs cs ws : List ℕ} → SessionInBounds s → Stepped (after_numbered s t s.days) q rs fs cs ws → q.answer.changed ≤ most_days
+pub stepped_few : {s : Session} (t : Option Cut) {q : Step} {rs fs cs ws : List ℕ} → SessionInBounds s → Stepped (after_numbered s t s.days) q rs fs cs ws → q.answer.changed ≤ most_days
 stepped_few {s} t b e = omega (arith, ap (λ a. a.changed) e.answer, numbered_few s t s.days, b.present.most)
 
 -- a cut that has another name
-pub stepped_same : {t u : Numbered} {p q : Step} {rs fs cs ws fs' cs' ws' : List ℕ} → t ≡ u
+pub stepped_same : {t u : Option Cut} {p q : Step} {rs fs cs ws fs' cs' ws' : List ℕ} → t ≡ u
     → ((s : Session) → SessionInBounds s → Holds s p rs fs cs ws → Stepped (after_numbered s t s.days) q rs fs' cs' ws')
     → (s : Session) → SessionInBounds s → Holds s p rs fs cs ws → Stepped (after_numbered s u s.days) q rs fs' cs' ws'
 stepped_same {q = q} {rs = rs} {fs' = fs'} {cs' = cs'} {ws' = ws'} e k s b h = subst (λ x. Stepped (after_numbered s x s.days) q rs fs' cs' ws') e (k s b h)

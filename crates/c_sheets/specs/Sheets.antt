@@ -1,17 +1,17 @@
 -- Request Three over byte strings: what a sheet of cuts gives for the session that the bytes hold. A cut has 8 bytes, as in the file. An answer has 4: its cut's
 -- refusal and number of changed days, 2 bytes each.
-use Rattle.std.specs.Prelude.{cond, List, ◌++◌, ℕ, ◌*◌, ◌/◌, ◌%◌, eqb, length}
+use Rattle.std.specs.Prelude.{cond, List, ◌++◌, ℕ, ◌*◌, ◌/◌, ◌%◌, eqb, length, Option}
 use Rattle.theory_lists.specs.Rows.{rows}
 use Rattle.theory_lists.specs.Front.{in_front}
 use Rattle.base_little_endian.specs.Fields.{u16_bytes}
 use Rattle.session.specs.declared.Session.{Session}
-use Rattle.session_cuts.specs.declared.Numbered.{Numbered}
 use Rattle.session_order.specs.Order.{day_cells}
 use Rattle.session_cutting.specs.declared.CutAnswer.{CutAnswer}
 use Rattle.session_sheets.specs.Sheets.{after_cuts, answer_on, sheet_refusal, sheet_days}
 use Rattle.file_format.specs.Format.{cut_length, numbered_at}
 use Rattle.c_layout.specs.Layout.{decoding, patched}
 use Rattle.c_sessions.specs.Sessions.{is_session}
+use Rattle.session_cuts.specs.declared.Cut.{Cut}
 
 -- ---- the lists
 
@@ -19,7 +19,7 @@ use Rattle.c_sessions.specs.Sessions.{is_session}
 abbrev pub asked_in : ℕ → ℕ
 asked_in bytes = bytes / cut_length
 
-abbrev pub asked_at : List ℕ → ℕ → Numbered
+abbrev pub asked_at : List ℕ → ℕ → Option Cut
 asked_at cuts j = numbered_at cuts (j * cut_length)
 
 -- how many bytes an answer takes, and its bytes

@@ -11,10 +11,10 @@ use base_little_endian::{i32_at, u16_at};
 use base_numbers::wide;
 use file_format::{CUT_BYTES, DAYS_BEGIN, day_offset};
 use limits::{MOST_CUTS, MOST_DAYS};
-use session_cuts::{Cut, Numbered};
+use session_cuts::Cut;
 
 // The cut that begins at a place.
-pub fn numbered_at(bytes: &[u8], at: usize) -> Numbered
+pub fn numbered_at(bytes: &[u8], at: usize) -> Option<Cut>
     requires { at + cut_length ≤ length bytes.now }
     ensures { result ≡ numbered_at bytes.now at }
 {
@@ -25,10 +25,10 @@ pub fn numbered_at(bytes: &[u8], at: usize) -> Numbered
 }
 
 // A kind that is unknown, or a total's cut whose day is not 0.
-fn is_bad(numbered: Numbered) -> bool
+fn is_bad(numbered: Option<Cut>) -> bool
     ensures { result ≡ bad_cut numbered }
 {
-    let Numbered::Known(cut) = numbered else {
+    let Some(cut) = numbered else {
         return true;
     };
     match cut {

@@ -1,4 +1,5 @@
 -- A written file, read again.
+use Rattle.std.specs.Prelude.{Some}
 use mathlib.Core.Path.{◌≡◌, refl, ap, ◌∙◌}
 use mathlib.Core.Bool.{true, false}
 use mathlib.Core.List.{List}
@@ -27,7 +28,6 @@ use Rattle.session.specs.Opening as Opening
 use Rattle.session.proofs.Entered.{Entered, entered}
 use Rattle.session_cuts.specs.declared.Cut.{Cut}
 use Rattle.session_cuts.specs.declared.Cut.TheVariants.{DayFloor, DayCeiling, TotalFloor, TotalCeiling}
-use Rattle.session_cuts.specs.declared.Numbered.TheVariants.{Known}
 use Rattle.session_cuts.specs.Numbered.{numbered}
 use Rattle.session_cuts.specs.Sheet.{cut_on, kind_of, day_of, value_of}
 use Rattle.session_cutting.specs.Cutting.{malformed}
@@ -63,7 +63,7 @@ placed n (DayCeiling day value) e = refl
 placed n (TotalFloor day value) e = rw (total-formed day value e).0 refl
 placed n (TotalCeiling day value) e = rw (total-formed day value e).0 refl
 
-numbered-back : (c : Cut) → numbered (kind_of c) (day_of c) (value_of c) ≡ Known c
+numbered-back : (c : Cut) → numbered (kind_of c) (day_of c) (value_of c) ≡ Some c
 unfolding numbered
 numbered-back (DayFloor day value) = refl
 numbered-back (DayCeiling day value) = refl
@@ -119,7 +119,7 @@ module _ (p : Profile) (cs : List Cut) (w : Passed p cs) where
   rise : (k : ℕ) → k < p.days - 1 → rise_at b k ≡ on p.rises k
   rise k h = i16_read (on p.rises k) (rise-fits (on p.rises k) (entry.rise k h)) (day k (omega arith)).rise
 
-  cut : (j : ℕ) → j < length cs → cut_at b j ≡ Known (cut_on cs j)
+  cut : (j : ℕ) → j < length cs → cut_at b j ≡ Some (cut_on cs j)
   cut j h =
       let f = cut_fields (cut_on cs j) (parts.cut j h) in
       rw (days, u16-read (kind_of (cut_on cs j)) f.kind, u16-read (day_of (cut_on cs j)) f.day, i32_read (value_of (cut_on cs j)) (value_fits p.days (cut_on cs j) (w.formed j h)) f.value)

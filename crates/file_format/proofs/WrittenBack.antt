@@ -1,4 +1,5 @@
 -- A file that the reader takes, written back byte for byte.
+use Rattle.std.specs.Prelude.{None}
 use mathlib.Core.Path.{◌≡◌, refl, sym, ◌∙◌}
 use mathlib.Core.Bool.{true≢false}
 use mathlib.Core.List.{List}
@@ -14,19 +15,18 @@ use Rattle.base_codes.specs.Code.{on}
 use Rattle.base_little_endian.specs.Fields.{Bytes, u16_at, i32_at, i16_bytes}
 use Rattle.base_little_endian.proofs.Laws.{u16_part, i16_part, i32_part, zero_part}
 use Rattle.session_cuts.specs.declared.Cut.TheVariants.{DayFloor}
-use Rattle.session_cuts.specs.declared.Numbered.TheVariants.{Unknown}
 use Rattle.session_cuts.specs.Numbered.{numbered}
 use Rattle.session_cuts.specs.Sheet.{cut_on, kind_of, day_of, value_of}
 use Rattle.file_format.specs.Format.{day_offset, cut_offset, day_count, cut_count, floor_at, ceiling_at, rise_at, numbered_at, cut_at, known, numbers_in, profile_in, cuts_in, cut_bytes, file}
 use Rattle.file_format.proofs.Parts.{Laid, laid_part, length-file, Header, header_part, Day, day_part, cut_part}
 use Rattle.file_format.proofs.Taken.{Taken}
 
-numbered_far : (kind day : ℕ) (value : ℤ) → 3 < kind → numbered kind day value ≡ Unknown
+numbered_far : (kind day : ℕ) (value : ℤ) → 3 < kind → numbered kind day value ≡ None
 unfolding numbered
 numbered_far kind day value h =
     rw (ne_eqb kind 0 (λ e. omega arith), ne_eqb kind 1 (λ e. omega arith), ne_eqb kind 2 (λ e. omega arith), ne_eqb kind 3 (λ e. omega arith)) refl
 
-numbered_kind : (kind day : ℕ) (value : ℤ) → (numbered kind day value ≡ Unknown → ⊥)
+numbered_kind : (kind day : ℕ) (value : ℤ) → (numbered kind day value ≡ None → ⊥)
     → (kind_of (known (numbered kind day value)) ≡ kind) × (day_of (known (numbered kind day value)) ≡ day) × (value_of (known (numbered kind day value)) ≡ value)
 unfolding numbered
 numbered_kind zero day value h = (refl, refl, refl)
@@ -36,7 +36,7 @@ numbered_kind (suc (suc (suc zero))) day value h = (refl, refl, refl)
 numbered_kind (suc (suc (suc (suc k)))) day value h = absurd (h (numbered_far (suc (suc (suc (suc k)))) day value (omega arith)))
 
 -- a cut of a known kind has the bytes that it is read from
-pub cut-back : {b : List ℕ} → Bytes b → (i : ℕ) → (numbered_at b i ≡ Unknown → ⊥) → Part b i (cut_bytes (known (numbered_at b i)))
+pub cut-back : {b : List ℕ} → Bytes b → (i : ℕ) → (numbered_at b i ≡ None → ⊥) → Part b i (cut_bytes (known (numbered_at b i)))
 cut-back {b} bytes i h =
     let numbered-so = numbered_kind (u16_at b i) (u16_at b (i + 2)) (i32_at b (i + 4)) h in
     cut_part (known (numbered_at b i))

@@ -1,5 +1,5 @@
 -- Document 01: the profile file. A header of 16 bytes, 2 bytes for document 02's first counted day, each day 6 bytes, each cut 8 bytes, and no byte after.
-use Rattle.std.specs.Prelude.{List, ◌++◌, ℕ, ◌+◌, ◌-◌, ◌*◌, ℤ, pos, length}
+use Rattle.std.specs.Prelude.{List, ◌++◌, ℕ, ◌+◌, ◌-◌, ◌*◌, ℤ, pos, length, None, Option, Some}
 use Rattle.limits.specs.Limits.{most_days, most_cuts}
 use Rattle.theory_lists.specs.ListOf.{list_of}
 use Rattle.theory_lists.specs.Rows.{rows}
@@ -10,8 +10,6 @@ use Rattle.session.specs.Opening.{numbers_with, profile, numbers_of}
 use Rattle.session.specs.declared.Numbers.{Numbers}
 use Rattle.session_cuts.specs.declared.Cut.{Cut}
 use Rattle.session_cuts.specs.declared.Cut.TheVariants.{DayFloor}
-use Rattle.session_cuts.specs.declared.Numbered.{Numbered}
-use Rattle.session_cuts.specs.declared.Numbered.TheVariants.{Known, Unknown}
 use Rattle.session_cuts.specs.Numbered.{numbered}
 use Rattle.session_cuts.specs.Sheet.{cut_on, kind_of, day_of, value_of}
 
@@ -81,17 +79,17 @@ abbrev pub rise_at : List ℕ → ℕ → ℤ
 rise_at b k = i16_at b (day_offset k + 4)
 
 -- the cut that begins at a place: kind, day, value
-abbrev pub numbered_at : List ℕ → ℕ → Numbered
+abbrev pub numbered_at : List ℕ → ℕ → Option Cut
 numbered_at b i = numbered (u16_at b i) (u16_at b (i + 2)) (i32_at b (i + 4))
 
 -- cut j
-abbrev pub cut_at : List ℕ → ℕ → Numbered
+abbrev pub cut_at : List ℕ → ℕ → Option Cut
 cut_at b j = numbered_at b (cut_offset (day_count b) j)
 
 -- a numbered cut whose kind is known; the reader refuses files with others
-abbrev pub known : Numbered → Cut
-known (Known c) = c
-known Unknown = DayFloor 0 (pos 0)
+abbrev pub known : Option Cut → Cut
+known (Some c) = c
+known None = DayFloor 0 (pos 0)
 
 -- a profile's numbers, beside its lists
 abbrev pub numbers_in : List ℕ → Numbers

@@ -1,11 +1,9 @@
 -- Document 01: what the file's reader refuses, in its order. It leaves values to opening and cutting.
-use Rattle.std.specs.Prelude.{Bool, true, false, cond, not, ◌&&◌, ◌||◌, List, ℕ, ◌-◌, nat_abs, eqb, ltb, length}
+use Rattle.std.specs.Prelude.{Bool, true, false, cond, not, ◌&&◌, ◌||◌, List, ℕ, ◌-◌, nat_abs, eqb, ltb, length, None, Option, Some}
 use Rattle.limits.specs.Limits.{most_days, most_cuts}
 use Rattle.theory_lists.specs.First.{first_where}
 use Rattle.session_cuts.specs.declared.Cut.{Cut}
 use Rattle.session_cuts.specs.declared.Cut.TheVariants.{DayFloor, DayCeiling, TotalFloor, TotalCeiling}
-use Rattle.session_cuts.specs.declared.Numbered.{Numbered}
-use Rattle.session_cuts.specs.declared.Numbered.TheVariants.{Known, Unknown}
 use Rattle.file_format.specs.Format.{days_begin, day_offset, file_length, day_count, cut_count, days_offset, cuts_offset, rise_at, cut_at}
 
 -- 11: under 18 bytes
@@ -29,9 +27,9 @@ misplaced (TotalFloor day value) = not (eqb day 0)
 misplaced (TotalCeiling day value) = not (eqb day 0)
 
 -- an unknown kind, or a total cut whose day is not 0
-abbrev pub bad_cut : Numbered → Bool
-bad_cut (Known c) = misplaced c
-bad_cut Unknown = true
+abbrev pub bad_cut : Option Cut → Bool
+bad_cut (Some c) = misplaced c
+bad_cut None = true
 
 -- 12: the last rise is not 0, or some cut is bad
 abbrev pub bad_fields : List ℕ → Bool

@@ -14,7 +14,7 @@ use file_days::store_days;
 use file_format::{CUT_BYTES, FIRST_DAY_AT, day_offset};
 use limits::MOST_CUTS;
 use session::Numbers;
-use session_cuts::{Cut, Entry, Numbered, Sheet};
+use session_cuts::{Cut, Entry, Sheet};
 
 // The refusal's number, 0 for none; the profile's numbers and the cuts.
 #[derive(Clone, Copy)]
@@ -28,7 +28,7 @@ fn entry_at(bytes: &[u8], at: usize) -> Entry
     requires { at + cut_length ≤ length bytes.now }
     ensures { result ≡ record { cut = known (numbered_at bytes.now at) } }
 {
-    let Numbered::Known(cut) = numbered_at(bytes, at) else {
+    let Some(cut) = numbered_at(bytes, at) else {
         return Entry {
             cut: Cut::DayFloor(0, 0),
         };

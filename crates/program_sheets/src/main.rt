@@ -13,7 +13,7 @@ use output::Output;
 use printing::{PLACES, print_list, print_number, print_ranges};
 use profiles::{profile_a, three_days};
 use session::Session;
-use session_cuts::{Cut, Numbered};
+use session_cuts::Cut;
 use session_sheets::{AfterSheet, Answered, Asked, AskedSheet};
 use std::io;
 
@@ -47,8 +47,8 @@ fn print_known(out: &mut Output, cut: Cut) {
     }
 }
 
-fn print_asked(out: &mut Output, cut: Numbered) {
-    let Numbered::Known(known) = cut else {
+fn print_asked(out: &mut Output, cut: Option<Cut>) {
+    let Some(known) = cut else {
         out.text(b"unknown kind");
         return;
     };

@@ -1,4 +1,5 @@
 -- The bytes of a session that came from opening and cuts.
+use Rattle.std.specs.Prelude.{Option}
 use mathlib.Core.Path.{◌≡◌, refl, sym, ap, ◌∙◌}
 use mathlib.Core.Bool.{Bool, true, false, cond}
 use mathlib.Core.List.{List, [], ◌∷◌}
@@ -9,7 +10,6 @@ use borrow.Author.Tests.{eq-eqb, eqb-false}
 use Rattle.session.specs.Profile.{Profile}
 use Rattle.session.specs.Opening.{opened}
 use Rattle.session.specs.declared.Session.{Session}
-use Rattle.session_cuts.specs.declared.Numbered.{Numbered}
 use Rattle.session_cutting.specs.Cutting.{after_numbered}
 use Rattle.promises.specs.Cuts.{after}
 use Rattle.c_lists.specs.Profiles.{ByteProfile, byte_length_refusal, profile_of}
@@ -20,6 +20,7 @@ use Rattle.c_sessions.specs.Sessions.{is_session, open_refusal, bytes_opened, by
 use Rattle.c_sessions.proofs.Encoded.{encoded, cut_encoded}
 use Rattle.promises.specs.InBytes.{ByteCutCall, calls_by_value, bytes_after, CameFrom, SessionsInBytes}
 use Rattle.promises.proofs.Storable.{opened_storable, numbered_storable}
+use Rattle.session_cuts.specs.declared.Cut.{Cut}
 
 -- ---- cuts
 
@@ -81,11 +82,11 @@ came p hs b c =
     }
 
 -- one cut more
-pub record CutHeld (b : List ℕ) (t : Numbered) (bytes : ℕ) : Type 0 where
+pub record CutHeld (b : List ℕ) (t : Option Cut) (bytes : ℕ) : Type 0 where
   pub after-bytes : bytes_cut b t bytes ≡ encoding (after_numbered (decoding b) t (bytes / 2)).session
   pub after-held : decoding (bytes_cut b t bytes) ≡ (after_numbered (decoding b) t (bytes / 2)).session
 
-pub cut-held : (p : Profile) (hs : List ByteCutCall) (b : List ℕ) → CameFrom p hs b → (t : Numbered) (bytes : ℕ) → CutHeld b t bytes
+pub cut-held : (p : Profile) (hs : List ByteCutCall) (b : List ℕ) → CameFrom p hs b → (t : Option Cut) (bytes : ℕ) → CutHeld b t bytes
 cut-held p hs b c t bytes =
     let w = came p hs b c in
     let e = ap (λ a. bytes_cut a t bytes) w.back ∙ cut_encoded (decoding b) w.storable t bytes in

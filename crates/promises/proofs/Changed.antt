@@ -1,4 +1,5 @@
 -- What a list for changed days holds: the days whose range differs between two sessions, the largest loss first. What a range lost in points is what it lost in levels.
+use Rattle.std.specs.Prelude.{Option}
 use mathlib.Core.Path.{◌≡◌, refl, sym, ◌∙◌, ap}
 use mathlib.Core.Logic.{◌↔◌, ◌⊎◌, inl, inr}
 use mathlib.Core.Bool.{Bool, true, false, not, ◌||◌, true≢false}
@@ -16,7 +17,6 @@ use Rattle.base_codes.proofs.Offset.{less_le}
 use Rattle.base_codes.proofs.Laws.{point_less, decoded_less, code_sum, code_difference, code-decoded}
 use Rattle.session.specs.Showing.{SessionInBounds, floor_on, ceiling_on}
 use Rattle.session.specs.declared.Session.{Session}
-use Rattle.session_cuts.specs.declared.Numbered.{Numbered}
 use Rattle.session_changed.specs.Changes.{differs, lost}
 use Rattle.session_changed.proofs.Laws.{cell_read}
 use Rattle.session_order.specs.Order.{days_where, day_cells}
@@ -31,6 +31,7 @@ use Rattle.session_cutting.specs.declared.AfterCut.{AfterCut}
 use Rattle.promises.specs.Demands.{lost_on, Before, Changes, DaysListed, DaysOrdered, Stays, ListedChanges}
 use Rattle.promises.specs.DemandsInBytes.{ListedBytes}
 use Rattle.base_little_endian.specs.Fields.{u16_at}
+use Rattle.session_cuts.specs.declared.Cut.{Cut}
 
 -- two levels are the same where their points are
 same-level : (a b : ℕ) → decoded lowest_point a ≡ decoded lowest_point b → a ≡ b
@@ -146,7 +147,7 @@ changes s u {count} {l} counted front room narrows =
     })
 
 -- an accepted cut's
-pub cut-changes : (s : Session) (t : Numbered) (l : List ℕ) → (after_numbered s t (length l)).answer.refusal ≡ 0 → Changes s l (after_numbered s t (length l))
+pub cut-changes : (s : Session) (t : Option Cut) (l : List ℕ) → (after_numbered s t (length l)).answer.refusal ≡ 0 → Changes s l (after_numbered s t (length l))
 cut-changes s t l z =
     let r : AfterCut = after_numbered s t (length l) in
     let a = numbered-accepted s t (length l) z in

@@ -1,4 +1,5 @@
 -- A file's cuts, one after another, as a list of cuts handed over.
+use Rattle.std.specs.Prelude.{Some}
 use mathlib.Core.Path.{◌≡◌, refl, sym, ap, ◌∙◌}
 use mathlib.Core.Bool.{Bool, true, false}
 use mathlib.Core.Logic.{◌↔◌, ⊎_elim}
@@ -16,7 +17,6 @@ use Rattle.session.specs.Profile.{Profile}
 use Rattle.session.specs.Opening.{opened}
 use Rattle.session.specs.declared.Session.{Session}
 use Rattle.session_cuts.specs.declared.Cut.{Cut}
-use Rattle.session_cuts.specs.declared.Numbered.TheVariants.{Known}
 use Rattle.session_cutting.specs.Cutting.{malformed, early_cutting, after_cut, after_numbered, retightened, clipped}
 use Rattle.session_cutting.proofs.Laws.{passed, accepted, refused-same, earlier_none, keeps}
 use Rattle.file_printing.proofs.Lines.{once-refused, once_applied}
@@ -39,7 +39,7 @@ module _ (s : Session) (c : Cut) (room : ℕ) where
 
   eight-spent : ((after_cut s c room).answer.refusal ≡ 8) ↔ (s.spent ≡ false) × ((after_cut s c room).session.spent ≡ true)
   unfolding after_numbered
-  eight-spent = rw (length-replicate {A = ℕ} room 0) at (demand_1.refused s (Known c) (replicate room 0)).eight
+  eight-spent = rw (length-replicate {A = ℕ} room 0) at (demand_1.refused s (Some c) (replicate room 0)).eight
 
   cut-unspent : s.spent ≡ false → (after_cut s c room).answer.refusal ≡ 0 → (after_cut s c room).session.spent ≡ false
   cut-unspent u z = go (after_cut s c room).session.spent refl
@@ -63,7 +63,7 @@ module _ (s : Session) (c : Cut) (room : ℕ) where
 
 -- a cut of a file as it is handed over
 abbrev pub hand : Cut → CutCall
-hand c = record { cut = Known c; room = 512 }
+hand c = record { cut = Some c; room = 512 }
 
 module _ (f : ℕ → Cut) where
   -- the first m cuts
@@ -104,7 +104,7 @@ module _ (f : ℕ → Cut) where
         let next : cut_all (opened p) f (suc m) ≡ after_entry (after_cut before (f m) 512) = once_applied (cut_all (opened p) f m) (f m) q in
         record {
           session = rw next (sym (after_more m w));
-          days = rw next ((keeps before (Known (f m)) 512).days ∙ w.days);
+          days = rw next ((keeps before (Some (f m)) 512).days ∙ w.days);
           unspent = rw next (cut-unspent before (f m) 512 w.unspent z);
           formed = λ j h. below_more (λ k. malformed p.days (f k) ≡ 0) m w.formed (rw w.days at (cut-formed before (f m) 512 z)) j (omega arith);
         }

@@ -1,4 +1,5 @@
 -- Demand 1 at a cut holds.
+use Rattle.std.specs.Prelude.{None, Option, Some}
 use mathlib.Core.Path.{◌≡◌, refl, sym, ◌∙◌}
 use mathlib.Core.Bool.{Bool, true, false, cond, true≢false}
 use mathlib.Core.List.{List}
@@ -13,8 +14,6 @@ use Rattle.theory_method.specs.Filter.{Tight}
 use Rattle.session.specs.declared.Session.{Session}
 use Rattle.session_cuts.specs.declared.Cut.{Cut}
 use Rattle.session_cuts.specs.declared.Cut.TheVariants.{DayFloor, DayCeiling, TotalFloor, TotalCeiling}
-use Rattle.session_cuts.specs.declared.Numbered.{Numbered}
-use Rattle.session_cuts.specs.declared.Numbered.TheVariants.{Known, Unknown}
 use Rattle.session_cutting.specs.Cutting.{day_cut_refusal, total_cut_refusal, malformed, early_cutting, clipped, retightened, refusing, tightened_to, after_cut, after_numbered}
 use Rattle.session_cutting.proofs.Laws.{passed, refused-same, accepted, refused-list}
 use Rattle.promises.specs.Demands.{Leaves, Demand1}
@@ -70,10 +69,10 @@ module _ (s : Session) (l : List ℕ) where
         eight = (λ _. (u, refl), λ _. refl);
       })
 
-  leaves : (t : Numbered) → Leaves s l (after_numbered s t (length l))
+  leaves : (t : Option Cut) → Leaves s l (after_numbered s t (length l))
   unfolding after_numbered
-  leaves Unknown = stays 12 (λ e. omega arith)
-  leaves (Known c) = go (eqb (early_cutting s c room) 0) refl
+  leaves None = stays 12 (λ e. omega arith)
+  leaves (Some c) = go (eqb (early_cutting s c room) 0) refl
     where
       room : ℕ
       room = length l

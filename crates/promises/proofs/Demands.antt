@@ -1,4 +1,5 @@
 -- The demands over C: what holds of a session by value holds of the bytes that came from opening and cuts.
+use Rattle.std.specs.Prelude.{Option, Some}
 use mathlib.Core.Path.{◌≡◌, refl, sym, ap, ◌∙◌, subst}
 use mathlib.Core.Bool.{Bool, true, false, cond, ◌||◌}
 use mathlib.Core.Logic.{◌↔◌}
@@ -21,8 +22,6 @@ use Rattle.session.specs.declared.Session.{Session}
 use Rattle.session.specs.declared.Shown.{Shown}
 use Rattle.session.proofs.Shows.{both_long}
 use Rattle.session_cuts.specs.declared.Cut.{Cut}
-use Rattle.session_cuts.specs.declared.Numbered.{Numbered}
-use Rattle.session_cuts.specs.declared.Numbered.TheVariants.{Known}
 use Rattle.session_order.specs.Order.{day_cells}
 use Rattle.session_cutting.specs.Cutting.{spend, changed_days, early_numbered, after_numbered}
 use Rattle.session_cutting.specs.declared.AfterCut.{AfterCut}
@@ -46,7 +45,7 @@ use Rattle.promises.proofs.Points.{point_fits, lent_point, lent-rest}
 
 -- ---- demand 1
 
-cut_leaves_list : (b : List ℕ) (t : Numbered) (l : List ℕ) → ((cut_answer b t (length l)).refusal ≡ 0 → ⊥) → changed_bytes b t l ≡ l
+cut_leaves_list : (b : List ℕ) (t : Option Cut) (l : List ℕ) → ((cut_answer b t (length l)).refusal ≡ 0 → ⊥) → changed_bytes b t l ≡ l
 unfolding cut_answer changed_bytes list_for
 cut_leaves_list b t l = go (is_session b)
   where
@@ -57,7 +56,7 @@ cut_leaves_list b t l = go (is_session b)
     go true h = rw (ne_eqb a.answer.refusal 0 h) refl
     go false h = refl
 
-cut_leaves_bytes : (b : List ℕ) (t : Numbered) (list : ℕ) → ((cut_answer b t list).refusal ≡ 0 → ⊥) → ((cut_answer b t list).refusal ≡ 8 → ⊥) → bytes_cut b t list ≡ b
+cut_leaves_bytes : (b : List ℕ) (t : Option Cut) (list : ℕ) → ((cut_answer b t list).refusal ≡ 0 → ⊥) → ((cut_answer b t list).refusal ≡ 8 → ⊥) → bytes_cut b t list ≡ b
 unfolding cut_answer bytes_cut bytes_for
 cut_leaves_bytes b t list = go (is_session b)
   where
@@ -197,7 +196,7 @@ module _ (p : Profile) (hs : List ByteCutCall) (b : List ℕ) (c : CameFrom p hs
 
   -- ---- changed days
 
-  module _ (t : Numbered) (l : List ℕ) where
+  module _ (t : Option Cut) (l : List ℕ) where
     abbrev r : AfterCut
     r = after_numbered (decoding b) t (length l / 2)
 
@@ -222,21 +221,21 @@ module _ (p : Profile) (hs : List ByteCutCall) (b : List ℕ) (c : CameFrom p hs
           (bytes-changed (decoding b) r.session accepted.counted front accepted.roomy
           (numbered_narrows (decoding b) t (length l / 2) w.storable.bounds z))
 
-  changed-over : (t : Numbered) (l : List ℕ) → (cut_answer b t (length l)).refusal ≡ 0 → Changed b t l
+  changed-over : (t : Option Cut) (l : List ℕ) → (cut_answer b t (length l)).refusal ≡ 0 → Changed b t l
   changed-over t l z =
       let d = changed t l (rw (answers t l) at z) in
       record { listed = d.days.listed; once = d.days.once; order = d.order; rest = d.past.rest; long = d.past.long }
 
-  looser : (decoding b).spent ≡ false → (e : Cut) → WellFormed p e → Looser (decoding b) e → (l : List ℕ) → p.days ≤ length l / 2 → Unchanged b (Known e) l
+  looser : (decoding b).spent ≡ false → (e : Cut) → WellFormed p e → Looser (decoding b) e → (l : List ℕ) → p.days ≤ length l / 2 → Unchanged b (Some e) l
   unfolding after_numbered day_cells in_front rows
   looser u e f k l room =
       let by_value = looser-cuts p w.opens (calls_by_value hs) (decoding b) w.held u e f k (length l / 2) room in
-      let z : (r (Known e) l).answer.refusal ≡ 0 = ap (λ (a : AfterCut). a.answer.refusal) by_value in
-      let none : length (listed (Known e) l) ≡ 0 = sym (accepted (Known e) l z).counted ∙ ap (λ (a : AfterCut). a.answer.changed) by_value in
+      let z : (r (Some e) l).answer.refusal ≡ 0 = ap (λ (a : AfterCut). a.answer.refusal) by_value in
+      let none : length (listed (Some e) l) ≡ 0 = sym (accepted (Some e) l z).counted ∙ ap (λ (a : AfterCut). a.answer.changed) by_value in
       record {
-        answer = answers (Known e) l ∙ ap (λ (a : AfterCut). a.answer) by_value;
-        session = (cut-held p hs b c (Known e) (length l)).after-bytes ∙ ap (λ (a : AfterCut). encoding a.session) by_value ∙ sym w.back;
-        list = front (Known e) l z ∙ rw none refl;
+        answer = answers (Some e) l ∙ ap (λ (a : AfterCut). a.answer) by_value;
+        session = (cut-held p hs b c (Some e) (length l)).after-bytes ∙ ap (λ (a : AfterCut). encoding a.session) by_value ∙ sym w.back;
+        list = front (Some e) l z ∙ rw none refl;
       }
 
 pub demands_in_bytes : DemandsInBytes

@@ -1,5 +1,6 @@
 -- What is written over C is what the writer by value writes; it is read again as the same lists, and what was read is written back. `lists_in` are the
 -- lists of a file's own bytes; what the reader stores in lent lists is found to be these.
+use Rattle.std.specs.Prelude.{None, Option, Some}
 use mathlib.Core.Path.{◌≡◌, refl, sym, ap, ◌∙◌, subst}
 use mathlib.Core.Bool.{Bool, true, false, cond}
 use mathlib.Core.List.{List}
@@ -27,8 +28,6 @@ use Rattle.session.specs.Profile.{Profile}
 use Rattle.session.specs.Opening as Opening
 use Rattle.session.specs.declared.Numbers.{Numbers}
 use Rattle.session_cuts.specs.declared.Cut.TheVariants.{DayFloor}
-use Rattle.session_cuts.specs.declared.Numbered.{Numbered}
-use Rattle.session_cuts.specs.declared.Numbered.TheVariants.{Known, Unknown}
 use Rattle.session_cuts.specs.Sheet.{cut_on}
 use Rattle.session_cutting.specs.Cutting.{malformed}
 use Rattle.file_format.specs.Format as Format
@@ -49,10 +48,11 @@ use Rattle.c_files.specs.Writing.{numbered_refusal, cuts_in_bytes, lengths_refus
 use Rattle.c_files.proofs.Writing.{Sized, sized, length-cuts, cuts_back}
 use Rattle.promises.specs.FilesInBytes.{ListsInBytes, write, output_in_bytes, written_in_bytes, profile_in_bytes, Lent, read_over, filled_over, read_lists, RoomyInBytes, ReadAgainInBytes, WrittenBackInBytes, FilesInBytes}
 use Rattle.promises.proofs.Points.{points_long, points_read}
+use Rattle.session_cuts.specs.declared.Cut.{Cut}
 
-numbered-formed : (n : ℕ) (t : Numbered) → numbered_refusal n t ≡ 0 → malformed n (known t) ≡ 0
-numbered-formed n (Known c) e = e
-numbered-formed n Unknown e = absurd (omega arith)
+numbered-formed : (n : ℕ) (t : Option Cut) → numbered_refusal n t ≡ 0 → malformed n (known t) ≡ 0
+numbered-formed n (Some c) e = e
+numbered-formed n None e = absurd (omega arith)
 
 cut-listed : (b : List ℕ) (j : ℕ) → j < length b / 8 → cut_on (cuts_in_bytes b) j ≡ known (numbered_at b (j * 8))
 unfolding cuts_in_bytes

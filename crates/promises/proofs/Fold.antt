@@ -1,4 +1,5 @@
 -- Demand 3 over levels: a session that is right for a set of levels is, after a list of cuts, right for those that also keep every valid cut.
+use Rattle.std.specs.Prelude.{None, Option, Some}
 use mathlib.Core.Path.{◌≡◌, refl, sym, ◌∙◌}
 use mathlib.Core.Logic.{◌⊎◌, inl, inr}
 use mathlib.Core.Bool.{Bool, true, false, true≢false}
@@ -19,18 +20,16 @@ use Rattle.session.specs.Profile.{Profile}
 use Rattle.session.specs.declared.Ranges.{Ranges}
 use Rattle.session.specs.declared.Session.{Session}
 use Rattle.session_cuts.specs.declared.Cut.{Cut}
-use Rattle.session_cuts.specs.declared.Numbered.{Numbered}
-use Rattle.session_cuts.specs.declared.Numbered.TheVariants.{Known, Unknown}
 use Rattle.session_cutting.specs.Cutting.{malformed, early_cutting, clipped, retightened, tightened_to, after_cut, after_numbered}
 use Rattle.session_cutting.proofs.Laws.{clipped_in_bounds, earlier_none, passed, refused-same, accepted}
 use Rattle.promises.specs.Cuts.{WellFormed, CutCall, Valid, ValidIn, after}
 use Rattle.promises.proofs.Clip.{KeepsLevels, InArrays, well_formed, to_clipped, of_clipped, clipped-past}
 use Rattle.promises.proofs.Right.{Narrowed, unspent, spent, Right, narrowed, exhausted, right_same}
 
-pub known_same : (c d : Cut) → Known c ≡ Known d → c ≡ d
+pub known_same : (c d : Cut) → Some c ≡ Some d → c ≡ d
 known_same c d e = cc
 
-unknown_known : (c : Cut) → Unknown ≡ Known c → ⊥
+unknown_known : (c : Cut) → None ≡ Some c → ⊥
 unknown_known c e = let z : ◌≡◌ {A = ℕ} 0 1 = cc in absurd (omega arith)
 
 module _ (p : Profile) (rs : List ℕ) (o : Ranges) where
@@ -96,7 +95,7 @@ module _ (p : Profile) (rs : List ℕ) (o : Ranges) where
 
     module _ (c : Cut) (room : ℕ) where
       abbrev h : CutCall
-      h = record { cut = Known c; room = room }
+      h = record { cut = Some c; room = room }
 
       -- a valid cut of an unspent session is not refused before 8
       unrefused : (r : Ranges) (d : Cut) → Valid p h d → eqb (early_cutting (unspent_with r) c room) 0 ≡ true
@@ -125,11 +124,11 @@ module _ (p : Profile) (rs : List ℕ) (o : Ranges) where
           go true e = absurd (true≢false (passed spent_session c room e).unspent)
           go false e = rw (refused-same spent_session c room e) (exhausted refl (λ x k. empty x k.0))
 
-    step : {s : Session} (t : Numbered) (room : ℕ) → RightFor S s → RightFor (Keeping S (record { cut = t; room = room })) (after_numbered s t room).session
+    step : {s : Session} (t : Option Cut) (room : ℕ) → RightFor S s → RightFor (Keeping S (record { cut = t; room = room })) (after_numbered s t room).session
     unfolding after_numbered
-    step (Known c) room (narrowed r e w) = rw e (unspent-step c room r w)
-    step (Known c) room (exhausted e empty) = rw e (spent-step c room empty)
-    step Unknown room z = none-valid (record { cut = Unknown; room = room }) (λ c v. unknown_known c v.known) z
+    step (Some c) room (narrowed r e w) = rw e (unspent-step c room r w)
+    step (Some c) room (exhausted e empty) = rw e (spent-step c room empty)
+    step None room z = none-valid (record { cut = None; room = room }) (λ c v. unknown_known c v.known) z
 
   -- ---- whole lists
 

@@ -1,4 +1,5 @@
 -- A cut that is looser than the present range is accepted, and changes nothing.
+use Rattle.std.specs.Prelude.{Some}
 use mathlib.Core.Path.{◌≡◌, refl, sym, ap, ◌∙◌}
 use mathlib.Core.Bool.{Bool, true, false, true≢false}
 use mathlib.Core.Logic.{◌⊎◌, inl, inr}
@@ -22,7 +23,6 @@ use Rattle.session.specs.declared.Ranges.{Ranges}
 use Rattle.session.specs.declared.Session.{Session}
 use Rattle.session_cuts.specs.declared.Cut.{Cut}
 use Rattle.session_cuts.specs.declared.Cut.TheVariants.{DayFloor, DayCeiling, TotalFloor, TotalCeiling}
-use Rattle.session_cuts.specs.declared.Numbered.TheVariants.{Known}
 use Rattle.session_cutting.specs.Cutting.{early_cutting, clipped, retightened, changed_days, after_cut, after_numbered}
 use Rattle.session_cutting.proofs.Laws.{earlier_none, accepted}
 use Rattle.promises.specs.Cuts.{WellFormed, Keeps, Looser, CutCall, ValidIn, Kept}
@@ -36,7 +36,7 @@ use Rattle.promises.proofs.Reached.{after_reached}
 
 module _ (p : Profile) (hs : List CutCall) (c : Cut) (room : ℕ) where
   abbrev h : CutCall
-  h = record { cut = Known c; room = room }
+  h = record { cut = Some c; room = room }
 
   -- schedules that keep the cut too keep the longer list, and the other way round
   kept_more : (x : List ℤ) → Keeps p c x → Kept p hs x → Kept p (hs ++ h ∷ []) x

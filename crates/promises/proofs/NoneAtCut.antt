@@ -1,4 +1,5 @@
 -- 8 at a cut, exactly.
+use Rattle.std.specs.Prelude.{None, Option, Some}
 use mathlib.Core.Path.{◌≡◌, refl, sym, ap, ◌∙◌}
 use mathlib.Core.Bool.{Bool, true, false}
 use mathlib.Core.Logic.{◌↔◌}
@@ -10,8 +11,6 @@ use lib.ListN.{replicate, length-replicate}
 use borrow.Author.Tests.{eqb-true, eq-eqb}
 use Rattle.session.specs.Opening.{opened}
 use Rattle.session.specs.declared.Session.{Session}
-use Rattle.session_cuts.specs.declared.Numbered.{Numbered}
-use Rattle.session_cuts.specs.declared.Numbered.TheVariants.{Known, Unknown}
 use Rattle.session_cutting.specs.Cutting.{early_cutting, early_numbered, after_numbered}
 use Rattle.session_cutting.proofs.Laws.{passed, refused-same}
 use Rattle.promises.specs.Cuts.{after}
@@ -19,24 +18,25 @@ use Rattle.promises.specs.Demands.{NoneAtCut}
 use Rattle.promises.proofs.Demand1.{earlier_never_8, demand_1}
 use Rattle.promises.proofs.Demand3.{demand_3}
 use Rattle.promises.proofs.After.{after_append}
+use Rattle.session_cuts.specs.declared.Cut.{Cut}
 
 -- 8 is said where an unspent session becomes spent
-eight_spends : (s : Session) (t : Numbered) (room : ℕ)
+eight_spends : (s : Session) (t : Option Cut) (room : ℕ)
     → ((after_numbered s t room).answer.refusal ≡ 8) ↔ (s.spent ≡ false) × ((after_numbered s t room).session.spent ≡ true)
 eight_spends s t room = rw (length-replicate {A = ℕ} room 0) at (demand_1.refused s t (replicate room 0)).eight
 
-none_before : (s : Session) (t : Numbered) (room : ℕ) → (after_numbered s t room).answer.refusal ≡ 8 → early_numbered s t room ≡ 0
+none_before : (s : Session) (t : Option Cut) (room : ℕ) → (after_numbered s t room).answer.refusal ≡ 8 → early_numbered s t room ≡ 0
 unfolding after_numbered
-none_before s Unknown room h = absurd (omega arith)
-none_before s (Known c) room h = go (eqb (early_cutting s c room) 0) refl
+none_before s None room h = absurd (omega arith)
+none_before s (Some c) room h = go (eqb (early_cutting s c room) 0) refl
   where
     go : (b : Bool) → eqb (early_cutting s c room) 0 ≡ b → early_cutting s c room ≡ 0
     go true e = eqb-true (early_cutting s c room) 0 e
     go false e = absurd (earlier_never_8 s c room (rw (refused-same s c room e) at h))
 
-unspent : (s : Session) (t : Numbered) (room : ℕ) → early_numbered s t room ≡ 0 → s.spent ≡ false
-unspent s Unknown room e = absurd (omega arith)
-unspent s (Known c) room e = (passed s c room (eq-eqb (early_cutting s c room) 0 e)).unspent
+unspent : (s : Session) (t : Option Cut) (room : ℕ) → early_numbered s t room ≡ 0 → s.spent ≡ false
+unspent s None room e = absurd (omega arith)
+unspent s (Some c) room e = (passed s c room (eq-eqb (early_cutting s c room) 0 e)).unspent
 
 pub none_at_cut : NoneAtCut
 none_at_cut p z hs s e h =

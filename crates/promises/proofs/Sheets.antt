@@ -1,4 +1,5 @@
 -- A sheet of cuts holds what is promised: it is the single calls, made one after another; of its list all is said that is said of a cut's.
+use Rattle.std.specs.Prelude.{Option}
 use mathlib.Core.Path.{◌≡◌, refl, sym, ap, ◌∙◌}
 use mathlib.Core.Bool.{Bool, true, false, cond}
 use mathlib.Core.List.{List, [], ◌∷◌, ◌++◌}
@@ -13,7 +14,6 @@ use Rattle.theory_lists.specs.Written.{written_below}
 use Rattle.theory_lists.specs.Front.{in_front}
 use Rattle.session.specs.Opening.{opened}
 use Rattle.session.specs.declared.Session.{Session}
-use Rattle.session_cuts.specs.declared.Numbered.{Numbered}
 use Rattle.session_cutting.specs.Cutting.{after_numbered}
 use Rattle.session_sheets.specs.Sheets.{after_cuts, sheet_refusal, not_answered, asked_on, answers_to, taken_sheet, refused_sheet, after_sheet, list_after_sheet}
 use Rattle.session_sheets.specs.declared.AskedSheet.{AskedSheet}
@@ -25,6 +25,7 @@ use Rattle.promises.specs.Sheets.{SheetRefused, NoCut, calls_of, SingleCalls, Sh
 use Rattle.promises.proofs.After.{after_append, after-days}
 use Rattle.promises.proofs.Changed.{changes}
 use Rattle.promises.proofs.Demand3.{demand_3}
+use Rattle.session_cuts.specs.declared.Cut.{Cut}
 
 -- ---- single calls
 
@@ -34,7 +35,7 @@ unfolding list_of
 list-more f zero = refl
 list-more f (suc n) = ap (λ l. f 0 ∷ l) (list-more (λ k. f (suc k)) n)
 
-pub after-calls : (s : Session) (f : ℕ → Numbered) (j : ℕ) → after s (calls_of f s.days j) ≡ after_cuts s f j
+pub after-calls : (s : Session) (f : ℕ → Option Cut) (j : ℕ) → after s (calls_of f s.days j) ≡ after_cuts s f j
 unfolding list_of after_cuts
 after-calls s f zero = refl
 after-calls s f (suc j) =

@@ -1,4 +1,5 @@
 -- A sheet of cuts over C holds what is promised: the bytes that it leaves are those of the single calls, and of its lists the same is said as by value.
+use Rattle.std.specs.Prelude.{Option}
 use mathlib.Core.Path.{◌≡◌, refl, sym, ap, ◌∙◌}
 use mathlib.Core.Bool.{Bool, true, false, cond, true≢false}
 use mathlib.Core.List.{List, [], ◌∷◌, ◌++◌}
@@ -16,7 +17,6 @@ use Rattle.base_little_endian.specs.Fields.{u16_at, u16_bytes}
 use Rattle.base_little_endian.proofs.Laws.{u16-length, u16-read}
 use Rattle.session.specs.Profile.{Profile}
 use Rattle.session.specs.declared.Session.{Session}
-use Rattle.session_cuts.specs.declared.Numbered.{Numbered}
 use Rattle.session_order.specs.Order.{day_cells}
 use Rattle.session_cutting.specs.declared.CutAnswer.{CutAnswer}
 use Rattle.session_sheets.specs.Sheets.{after_cuts, answer_on, sheet_refusal, sheet_days}
@@ -49,6 +49,7 @@ use Rattle.promises.proofs.Bytes.{Came, came, follow}
 use Rattle.promises.proofs.Changed.{front_stays, bytes-changed}
 use Rattle.promises.proofs.Demands.{days}
 use Rattle.promises.proofs.Sheets.{after-calls, refusals, by_refusal}
+use Rattle.session_cuts.specs.declared.Cut.{Cut}
 
 -- ---- the refusal, whatever the bytes
 
@@ -161,7 +162,7 @@ module _ (p : Profile) (hs : List ByteCutCall) (t : LentSheet) (c : CameFrom p h
   abbrev s : Session
   s = session_in t
 
-  abbrev f : ℕ → Numbered
+  abbrev f : ℕ → Option Cut
   f = asked_at t.cuts
 
   abbrev end : Session

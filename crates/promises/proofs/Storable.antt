@@ -1,4 +1,5 @@
 -- Every session that came from opening and cuts is one that encoding keeps.
+use Rattle.std.specs.Prelude.{None, Option, Some}
 use mathlib.Core.Path.{◌≡◌, refl, ◌∙◌}
 use mathlib.Core.Bool.{Bool, true, false}
 use mathlib.Core.List.{List}
@@ -19,8 +20,6 @@ use Rattle.session.proofs.Entered.{entered, codes-bounds}
 use Rattle.session.proofs.SessionBounds.{opened_in_bounds}
 use Rattle.session.specs.declared.Session.{Session}
 use Rattle.session_cuts.specs.declared.Cut.{Cut}
-use Rattle.session_cuts.specs.declared.Numbered.{Numbered}
-use Rattle.session_cuts.specs.declared.Numbered.TheVariants.{Known, Unknown}
 use Rattle.session_cutting.specs.Cutting.{early_cutting, clipped, retightened, after_cut, after_numbered}
 use Rattle.session_cutting.proofs.Laws.{passed, accepted, refused-same, clipped_in_bounds, cut_in_bounds}
 use Rattle.promises.proofs.Clip.{well_formed, clipped-past}
@@ -59,7 +58,7 @@ cut_storable s c room h = go (eqb (early_cutting s c room) 0) (retightened s (cl
         rw (accepted s c room e, f) (record { bounds = bounds; rises = h.rises; opened = h.opened; present = h.opened })
     go false found e f = rw (refused-same s c room e) h
 
-pub numbered_storable : (s : Session) (t : Numbered) (room : ℕ) → Storable s → Storable (after_numbered s t room).session
+pub numbered_storable : (s : Session) (t : Option Cut) (room : ℕ) → Storable s → Storable (after_numbered s t room).session
 unfolding after_numbered
-numbered_storable s (Known c) room h = cut_storable s c room h
-numbered_storable s Unknown room h = h
+numbered_storable s (Some c) room h = cut_storable s c room h
+numbered_storable s None room h = h

@@ -1,5 +1,5 @@
 -- Document 01: which cuts are valid, what keeps one, and whole lists of cuts.
-use Rattle.std.specs.Prelude.{◌≡◌, ℕ, ◌≤◌, ◌<◌, ℤ, ◌≤ℤ◌}
+use Rattle.std.specs.Prelude.{◌≡◌, ℕ, ◌≤◌, ◌<◌, ℤ, ◌≤ℤ◌, Option, Some}
 use mathlib.Core.List.{List, [], ◌∷◌, Memᴰ}
 use Rattle.limits.specs.Limits.{lowest_point, highest_point, lowest_total, highest_total}
 use Rattle.base_codes.specs.Code.{on}
@@ -8,8 +8,6 @@ use Rattle.session.specs.Showing.{floor_on, ceiling_on, total_floor, total_ceili
 use Rattle.session.specs.declared.Session.{Session}
 use Rattle.session_cuts.specs.declared.Cut.{Cut}
 use Rattle.session_cuts.specs.declared.Cut.TheVariants.{DayFloor, DayCeiling, TotalFloor, TotalCeiling}
-use Rattle.session_cuts.specs.declared.Numbered.{Numbered}
-use Rattle.session_cuts.specs.declared.Numbered.TheVariants.{Known}
 use Rattle.session_cutting.specs.Cutting.{after_numbered}
 
 -- A cut is well-formed (document 01) if its day is in the profile, for the day kinds, or 0, for the total kinds, and its value within bounds
@@ -35,12 +33,12 @@ Looser s (TotalCeiling day value) = total_ceiling s ≤ℤ value
 
 -- a cut as it is handed over: its kind may be unknown, and the list lent for changed days is `room` long
 pub record CutCall : Type 0 where
-  pub cut : Numbered
+  pub cut : Option Cut
   pub room : ℕ
 
 -- A cut is valid (document 01) if it is well-formed and the list lent for changed days is at least n long
 pub record Valid (p : Profile) (h : CutCall) (c : Cut) : Type 0 where
-  pub known : h.cut ≡ Known c
+  pub known : h.cut ≡ Some c
   pub formed : WellFormed p c
   pub roomy : p.days ≤ h.room
 

@@ -1,5 +1,5 @@
 -- The demands, as statements.
-use Rattle.std.specs.Prelude.{◌≡◌, true, false, ◌↔◌, ◌⊎◌, List, [], ◌∷◌, ◌++◌, ℕ, ◌≤◌, ◌<◌, ℤ, ◌-ℤ◌, length, ◌<ℤ◌}
+use Rattle.std.specs.Prelude.{◌≡◌, true, false, ◌↔◌, ◌⊎◌, List, [], ◌∷◌, ◌++◌, ℕ, ◌≤◌, ◌<◌, ℤ, ◌-ℤ◌, length, ◌<ℤ◌, Option}
 use Rattle.theory_lists.specs.Sum.{at}
 use Rattle.base_codes.specs.Code.{on}
 use Rattle.session.specs.Profile.{Profile, Schedule, Spans, sum_of, total}
@@ -7,7 +7,6 @@ use Rattle.session.specs.Showing.{SessionInBounds, floor_on, ceiling_on, total_f
 use Rattle.session.specs.Opening.{early_opening, opened}
 use Rattle.session.specs.declared.Session.{Session}
 use Rattle.session_cuts.specs.declared.Cut.{Cut}
-use Rattle.session_cuts.specs.declared.Numbered.{Numbered}
 use Rattle.session_cutting.specs.Cutting.{spend, early_numbered, after_cut, after_numbered, list_after}
 use Rattle.session_cutting.specs.declared.AfterCut.{AfterCut}
 use Rattle.promises.specs.Cuts.{WellFormed, Looser, CutCall, ValidIn, Kept, after}
@@ -44,8 +43,8 @@ pub record Changes (s : Session) (l : List ℕ) (r : AfterCut) : Type 0 where
 
 -- for whatever session, cut and lent list
 pub record Demand1 : Type 0 where
-  pub refused : (s : Session) (t : Numbered) (l : List ℕ) → Leaves s l (after_numbered s t (length l))
-  pub accepted : (s : Session) (t : Numbered) (l : List ℕ) → (after_numbered s t (length l)).answer.refusal ≡ 0 → Changes s l (after_numbered s t (length l))
+  pub refused : (s : Session) (t : Option Cut) (l : List ℕ) → Leaves s l (after_numbered s t (length l))
+  pub accepted : (s : Session) (t : Option Cut) (l : List ℕ) → (after_numbered s t (length l)).answer.refusal ≡ 0 → Changes s l (after_numbered s t (length l))
 
 -- ---- a list for changed days, for a sheet of cuts too
 

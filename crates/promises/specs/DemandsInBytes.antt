@@ -1,5 +1,5 @@
 -- The demands as a caller in C sees them, as statements about what the entries answer and leave in the bytes that they are lent.
-use Rattle.std.specs.Prelude.{◌≡◌, true, false, cond, ◌↔◌, List, [], ◌∷◌, ◌++◌, ℕ, ◌*◌, ◌/◌, ◌≤◌, ◌<◌, ℤ, eqb, length}
+use Rattle.std.specs.Prelude.{◌≡◌, true, false, cond, ◌↔◌, List, [], ◌∷◌, ◌++◌, ℕ, ◌*◌, ◌/◌, ◌≤◌, ◌<◌, ℤ, eqb, length, Option, Some}
 use Rattle.theory_lists.specs.Sum.{at}
 use Rattle.base_codes.specs.Code.{on}
 use Rattle.session.specs.Profile.{Profile, Schedule, Spans, total}
@@ -8,8 +8,6 @@ use Rattle.session.specs.Opening.{early_opening, opened}
 use Rattle.session.specs.declared.Session.{Session}
 use Rattle.session.specs.declared.Shown.{Shown}
 use Rattle.session_cuts.specs.declared.Cut.{Cut}
-use Rattle.session_cuts.specs.declared.Numbered.{Numbered}
-use Rattle.session_cuts.specs.declared.Numbered.TheVariants.{Known}
 use Rattle.session_cutting.specs.Cutting.{spend, early_numbered}
 use Rattle.promises.specs.Cuts.{WellFormed, Looser, ValidIn, Kept}
 use Rattle.promises.specs.Demands.{Before, DaysListed, DaysOrdered, Stays, Exact}
@@ -36,14 +34,14 @@ ceilings_read b fs cs = lent_points (read_ranges b fs cs).refusal (ceiling_on (d
 -- lists
 pub record BytesLeft : Type 0 where
   pub opening : (b : List ℕ) (h : ByteProfile) → (open_refusal b h ≡ 0 → ⊥) → bytes_opened b h ≡ b
-  pub list : (b : List ℕ) (t : Numbered) (l : List ℕ) → ((cut_answer b t (length l)).refusal ≡ 0 → ⊥) → changed_bytes b t l ≡ l
-  pub session : (b : List ℕ) (t : Numbered) (l : List ℕ) → ((cut_answer b t (length l)).refusal ≡ 0 → ⊥) → ((cut_answer b t (length l)).refusal ≡ 8 → ⊥)
+  pub list : (b : List ℕ) (t : Option Cut) (l : List ℕ) → ((cut_answer b t (length l)).refusal ≡ 0 → ⊥) → changed_bytes b t l ≡ l
+  pub session : (b : List ℕ) (t : Option Cut) (l : List ℕ) → ((cut_answer b t (length l)).refusal ≡ 0 → ⊥) → ((cut_answer b t (length l)).refusal ≡ 8 → ⊥)
       → bytes_cut b t (length l) ≡ b
   pub reading : (b fs cs : List ℕ) → ((read_ranges b fs cs).refusal ≡ 0 → ⊥) → (floors_read b fs cs ≡ fs) × (ceilings_read b fs cs ≡ cs)
 
 -- what an accepted cut answers: the first places of the list, as many as days changed, hold exactly the days whose shown range is another than
 -- before, each one time, the largest loss first and equal losses by day; the rest of the list's bytes are as before
-pub record Changed (b : List ℕ) (t : Numbered) (l : List ℕ) : Type 0 where
+pub record Changed (b : List ℕ) (t : Option Cut) (l : List ℕ) : Type 0 where
   pub listed : (k : ℕ)
       → ((i : ℕ) × (i < (cut_answer b t (length l)).changed) × (u16_at (changed_bytes b t l) (i * 2) ≡ k))
       ↔ (k < (decoding b).days) × ((floor_on (decoding b) k ≡ floor_on (decoding (bytes_cut b t (length l))) k) × (ceiling_on (decoding b) k ≡ ceiling_on (decoding (bytes_cut b t (length l))) k) → ⊥)
@@ -61,7 +59,7 @@ pub record ListedBytes (s u : Session) (count : ℕ) (l out : List ℕ) : Type 0
   pub past : Stays (count * 2) l out
 
 -- a valid cut that is looser than the present range is accepted, and changes no byte
-pub record Unchanged (b : List ℕ) (t : Numbered) (l : List ℕ) : Type 0 where
+pub record Unchanged (b : List ℕ) (t : Option Cut) (l : List ℕ) : Type 0 where
   pub answer : cut_answer b t (length l) ≡ record { refusal = 0; changed = 0 }
   pub session : bytes_cut b t (length l) ≡ b
   pub list : changed_bytes b t l ≡ l
@@ -115,6 +113,6 @@ pub record DemandsInBytes : Type 0 where
   pub after : (p : Profile) (hs : List ByteCutCall) (b : List ℕ) → CameFrom p hs b → AfterBytes p hs b
   pub read : (p : Profile) (hs : List ByteCutCall) (b : List ℕ) → CameFrom p hs b → (fs cs : List ℕ) → Reading p hs b fs cs
   pub none_at_cut : (p : Profile) (hs : List ByteCutCall) (b : List ℕ) → CameFrom p hs b → (h : ByteCutCall) → NoneAtCutOver p hs b h
-  pub changed : (p : Profile) (hs : List ByteCutCall) (b : List ℕ) → CameFrom p hs b → (t : Numbered) (l : List ℕ) → (cut_answer b t (length l)).refusal ≡ 0 → Changed b t l
+  pub changed : (p : Profile) (hs : List ByteCutCall) (b : List ℕ) → CameFrom p hs b → (t : Option Cut) (l : List ℕ) → (cut_answer b t (length l)).refusal ≡ 0 → Changed b t l
   pub looser : (p : Profile) (hs : List ByteCutCall) (b : List ℕ) → CameFrom p hs b → (decoding b).spent ≡ false
-      → (c : Cut) → WellFormed p c → Looser (decoding b) c → (l : List ℕ) → p.days ≤ length l / 2 → Unchanged b (Known c) l
+      → (c : Cut) → WellFormed p c → Looser (decoding b) c → (l : List ℕ) → p.days ≤ length l / 2 → Unchanged b (Some c) l

@@ -1,16 +1,16 @@
 -- Sessions as a caller in C holds them: their bytes come from opening and from cuts, and after any whole list of cuts they are those of the session by value.
-use Rattle.std.specs.Prelude.{◌≡◌, List, [], ◌∷◌, ℕ, ◌/◌}
+use Rattle.std.specs.Prelude.{◌≡◌, List, [], ◌∷◌, ℕ, ◌/◌, Option}
 use Rattle.session.specs.Profile.{Profile}
 use Rattle.session.specs.Opening.{opened}
-use Rattle.session_cuts.specs.declared.Numbered.{Numbered}
 use Rattle.promises.specs.Cuts.{CutCall, after}
 use Rattle.c_lists.specs.Profiles.{ByteProfile, profile_of}
 use Rattle.c_layout.specs.Layout.{encoding, decoding}
 use Rattle.c_sessions.specs.Sessions.{open_refusal, bytes_opened, bytes_cut}
+use Rattle.session_cuts.specs.declared.Cut.{Cut}
 
 -- a cut as it is handed over in C: the list lent for changed days has that many bytes
 pub record ByteCutCall : Type 0 where
-  pub cut : Numbered
+  pub cut : Option Cut
   pub bytes : ℕ
 
 -- the same cuts by value

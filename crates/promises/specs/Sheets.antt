@@ -1,17 +1,17 @@
 -- Request Three: a sheet of cuts in one press, as statements.
-use Rattle.std.specs.Prelude.{◌≡◌, true, false, ◌↔◌, List, ◌++◌, ℕ, ◌≤◌, ◌<◌, length, get_or}
+use Rattle.std.specs.Prelude.{◌≡◌, true, false, ◌↔◌, List, ◌++◌, ℕ, ◌≤◌, ◌<◌, length, get_or, Option}
 use Rattle.limits.specs.Limits.{most_cuts}
 use Rattle.theory_lists.specs.ListOf.{list_of}
 use Rattle.session.specs.Profile.{Profile}
 use Rattle.session.specs.Opening.{opened}
 use Rattle.session.specs.declared.Session.{Session}
-use Rattle.session_cuts.specs.declared.Numbered.{Numbered}
 use Rattle.session_cutting.specs.Cutting.{after_numbered}
 use Rattle.session_sheets.specs.Sheets.{not_answered, asked_on, after_sheet, list_after_sheet}
 use Rattle.session_sheets.specs.declared.AskedSheet.{AskedSheet}
 use Rattle.session_sheets.specs.declared.AfterSheet.{AfterSheet}
 use Rattle.promises.specs.Cuts.{CutCall, after}
 use Rattle.promises.specs.Demands.{ListedChanges, AfterList}
+use Rattle.session_cuts.specs.declared.Cut.{Cut}
 
 -- ---- a sheet that is refused
 
@@ -32,7 +32,7 @@ pub record NoCut (s : Session) (l : List ℕ) (r : AfterSheet) : Type 0 where
 -- ---- a sheet that is taken
 
 -- the first j cuts as single calls, in their order, each with a list of n places for changed days
-abbrev pub calls_of : (ℕ → Numbered) → ℕ → ℕ → List CutCall
+abbrev pub calls_of : (ℕ → Option Cut) → ℕ → ℕ → List CutCall
 calls_of cuts n j = list_of (λ k. record { cut = cuts k; room = n }) j
 
 -- the session is that of single calls, refused ones included; and each cut's answer, which holds the cut as it was asked, is that of the single call on the session

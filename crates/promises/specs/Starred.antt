@@ -1,5 +1,5 @@
 -- Document 01's starred profiles, worked by hand there, as one table; with profiles of request One, cuts of request Two, and a table of sheets of request Three.
-use Rattle.std.specs.Prelude.{◌≡◌, refl, Bool, cond, List, [], ◌∷◌, ◌++◌, map, ℕ, zero, suc, ◌+◌, ◌-◌, min, ℤ, pos, negsuc, eqb, ltb, length, take, replicate}
+use Rattle.std.specs.Prelude.{◌≡◌, refl, Bool, cond, List, [], ◌∷◌, ◌++◌, map, ℕ, zero, suc, ◌+◌, ◌-◌, min, ℤ, pos, negsuc, eqb, ltb, length, take, replicate, None, Option, Some}
 use Rattle.limits.specs.Limits.{lowest_point, lowest_rise, lowest_total}
 use Rattle.theory_lists.specs.Sum.{sum_for, at}
 use Rattle.theory_lists.specs.Written.{written}
@@ -20,8 +20,6 @@ use Rattle.session.specs.declared.Opened.{Opened}
 use Rattle.session_cuts.specs.declared.Cut.{Cut}
 use Rattle.session_cuts.specs.declared.Cut.TheVariants.{DayFloor, DayCeiling, TotalCeiling}
 use Rattle.session_order.specs.Order.{days_where, insert_day, settled_order}
-use Rattle.session_cuts.specs.declared.Numbered.{Numbered}
-use Rattle.session_cuts.specs.declared.Numbered.TheVariants.{Known, Unknown}
 use Rattle.session_cutting.specs.Cutting.{after_cut, early_cutting, clipped, list_after, after_numbered}
 use Rattle.session_cutting.specs.declared.AfterCut.{AfterCut}
 use Rattle.session_sheets.specs.Sheets.{not_asked, after_cuts, sheet_refusal, answers_to, after_sheet, list_after_sheet}
@@ -204,10 +202,10 @@ pub record SheetAnswer : Type 0 where
   pub list : List ℕ
   pub ends : Answer
 
-abbrev pub sheet_reply : Profile → List Numbered → SheetAnswer
+abbrev pub sheet_reply : Profile → List (Option Cut) → SheetAnswer
 sheet_reply p cs =
     let s : Session = (opened p).session in
-    let sheet : AskedSheet = record { count = length cs; entries = in_front (map (λ (c : Numbered). record { cut = c }) cs) (replicate 512 not_asked) } in
+    let sheet : AskedSheet = record { count = length cs; entries = in_front (map (λ (c : Option Cut). record { cut = c }) cs) (replicate 512 not_asked) } in
     let r : AfterSheet = after_sheet s sheet (length cs) 4 in
     record {
       cuts = map (λ (a : Answered). (a.answer.refusal, a.answer.changed)) (take r.answers.count r.answers.entries);
@@ -218,7 +216,7 @@ sheet_reply p cs =
 
 pub record SheetRow : Type 0 where
   pub given : Profile
-  pub asked : List Numbered
+  pub asked : List (Option Cut)
   pub gives : SheetAnswer
 
 abbrev pub sheet_table : List SheetRow
@@ -226,7 +224,7 @@ sheet_table =
     -- four cuts are refused; from start to end the days lost 2, 1, 2
     record {
       given = A;
-      asked = Known (DayFloor 0 (pos 3)) ∷ Known (DayFloor 3 (pos 5)) ∷ Unknown ∷ Known (TotalCeiling 1 (pos 11)) ∷ Known (DayFloor 1 (pos 5000)) ∷ Known (TotalCeiling 0 (pos 11)) ∷ [];
+      asked = Some (DayFloor 0 (pos 3)) ∷ Some (DayFloor 3 (pos 5)) ∷ None ∷ Some (TotalCeiling 1 (pos 11)) ∷ Some (DayFloor 1 (pos 5000)) ∷ Some (TotalCeiling 0 (pos 11)) ∷ [];
       gives = record {
         cuts = (0, 3) ∷ (7, 0) ∷ (12, 0) ∷ (12, 0) ∷ (3, 0) ∷ (0, 2) ∷ [];
         number = 3;
@@ -237,7 +235,7 @@ sheet_table =
     -- the second cut spends the session: the list is left as it came
     ∷ record {
       given = A;
-      asked = Known (TotalCeiling 0 (pos 11)) ∷ Known (DayFloor 0 (pos 4)) ∷ Known (DayFloor 0 (pos 3)) ∷ Unknown ∷ [];
+      asked = Some (TotalCeiling 0 (pos 11)) ∷ Some (DayFloor 0 (pos 4)) ∷ Some (DayFloor 0 (pos 3)) ∷ None ∷ [];
       gives = record { cuts = (0, 3) ∷ (8, 0) ∷ (9, 0) ∷ (12, 0) ∷ []; number = 0; list = 99 ∷ 99 ∷ 99 ∷ 99 ∷ []; ends = spent 0 };
     }
     -- no cut
@@ -245,7 +243,7 @@ sheet_table =
     -- each cut changes one day; from start to end the days lost 3, 1, 0
     ∷ record {
       given = starred_profile (0 ⋯ 4 ∷ 0 ⋯ 10 ∷ 0 ⋯ 6 ∷ []) (negsuc 9 ∷ negsuc 9 ∷ []) (0 ⋯ 20);
-      asked = Known (DayCeiling 0 (pos 3)) ∷ Known (TotalCeiling 0 (pos 9)) ∷ Known (DayCeiling 0 (pos 1)) ∷ [];
+      asked = Some (DayCeiling 0 (pos 3)) ∷ Some (TotalCeiling 0 (pos 9)) ∷ Some (DayCeiling 0 (pos 1)) ∷ [];
       gives = record {
         cuts = (0, 1) ∷ (0, 1) ∷ (0, 1) ∷ [];
         number = 2;

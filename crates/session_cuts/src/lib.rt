@@ -16,13 +16,6 @@ pub enum Cut {
     TotalCeiling(usize, i32),
 }
 
-// A cut given by numbers, or that its kind is unknown (12).
-#[derive(Clone, Copy)]
-pub enum Numbered {
-    Known(Cut),
-    Unknown,
-}
-
 // An entry of a sheet.
 #[derive(Clone, Copy)]
 pub struct Entry {
@@ -37,16 +30,16 @@ pub struct Sheet {
 }
 
 impl Cut {
-    // Kinds: 0 a day's floor, 1 a day's ceiling, 2 the total's floor, 3 the total's ceiling.
-    pub fn numbered(kind: usize, day: usize, value: i32) -> Numbered
+    // Kinds: 0 a day's floor, 1 a day's ceiling, 2 the total's floor, 3 the total's ceiling; none for an unknown one (12).
+    pub fn numbered(kind: usize, day: usize, value: i32) -> Option<Cut>
         ensures { result ≡ numbered kind day value }
     {
         match kind {
-            0 => Numbered::Known(Cut::DayFloor(day, value)),
-            1 => Numbered::Known(Cut::DayCeiling(day, value)),
-            2 => Numbered::Known(Cut::TotalFloor(day, value)),
-            3 => Numbered::Known(Cut::TotalCeiling(day, value)),
-            _ => Numbered::Unknown,
+            0 => Some(Cut::DayFloor(day, value)),
+            1 => Some(Cut::DayCeiling(day, value)),
+            2 => Some(Cut::TotalFloor(day, value)),
+            3 => Some(Cut::TotalCeiling(day, value)),
+            _ => None,
         }
     }
 

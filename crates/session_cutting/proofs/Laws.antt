@@ -1,4 +1,5 @@
 -- What holds of a cut: what its checks let pass, what a refusal leaves, and that a session's numbers stay in bounds.
+use Rattle.std.specs.Prelude.{None, Option, Some}
 use mathlib.Core.Path.{◌≡◌, refl, sym, ◌∙◌}
 use mathlib.Core.Logic.{inl}
 use mathlib.Core.Bool.{Bool, true, false, cond, true≢false}
@@ -24,8 +25,6 @@ use Rattle.session.specs.declared.Ranges.{Ranges}
 use Rattle.session.specs.declared.Session.{Session}
 use Rattle.session_cuts.specs.declared.Cut.{Cut}
 use Rattle.session_cuts.specs.declared.Cut.TheVariants.{DayFloor, DayCeiling, TotalFloor, TotalCeiling}
-use Rattle.session_cuts.specs.declared.Numbered.{Numbered}
-use Rattle.session_cuts.specs.declared.Numbered.TheVariants.{Known, Unknown}
 use Rattle.session_cuts.specs.Sheet.{day_of}
 use Rattle.theory_lists.specs.Front.{in_front}
 use Rattle.session_order.specs.Order.{days_where}
@@ -120,10 +119,10 @@ cut-accepted s c room = go (eqb (early_cutting s c room) 0) (retightened s (clip
     go true false e f z = absurd (omega (arith, rw (accepted s c room e, f) at z))
     go false found e f z = absurd (eqb-false (early_cutting s c room) 0 e (rw (refused-same s c room e) at z))
 
-pub numbered-accepted : (s : Session) (t : Numbered) (room : ℕ) → (after_numbered s t room).answer.refusal ≡ 0 → Accepted s room (after_numbered s t room)
+pub numbered-accepted : (s : Session) (t : Option Cut) (room : ℕ) → (after_numbered s t room).answer.refusal ≡ 0 → Accepted s room (after_numbered s t room)
 unfolding after_numbered
-numbered-accepted s (Known c) room = cut-accepted s c room
-numbered-accepted s Unknown room = λ z. absurd (omega arith)
+numbered-accepted s (Some c) room = cut-accepted s c room
+numbered-accepted s None room = λ z. absurd (omega arith)
 
 -- refused or not, it has no more changed days than there are
 cut_few : (s : Session) (c : Cut) (room : ℕ) → (after_cut s c room).answer.changed ≤ s.days
@@ -134,10 +133,10 @@ cut_few s c room = go (eqb (early_cutting s c room) 0) (retightened s (clipped s
     go true false e f = rw (accepted s c room e, f) (omega arith)
     go false found e f = rw (refused-same s c room e) (omega arith)
 
-pub numbered_few : (s : Session) (t : Numbered) (room : ℕ) → (after_numbered s t room).answer.changed ≤ s.days
+pub numbered_few : (s : Session) (t : Option Cut) (room : ℕ) → (after_numbered s t room).answer.changed ≤ s.days
 unfolding after_numbered
-numbered_few s (Known c) room = cut_few s c room
-numbered_few s Unknown room = omega arith
+numbered_few s (Some c) room = cut_few s c room
+numbered_few s None room = omega arith
 
 -- ---- in bounds
 
@@ -205,10 +204,10 @@ cut_narrows s c room b = go (eqb (early_cutting s c room) 0) (retightened s (cli
     go true false e f z = absurd (omega (arith, rw (accepted s c room e, f) at z))
     go false found e f z = absurd (eqb-false (early_cutting s c room) 0 e (rw (refused-same s c room e) at z))
 
-pub numbered_narrows : (s : Session) (t : Numbered) (room : ℕ) → SessionInBounds s → (after_numbered s t room).answer.refusal ≡ 0 → Narrows s (after_numbered s t room).session
+pub numbered_narrows : (s : Session) (t : Option Cut) (room : ℕ) → SessionInBounds s → (after_numbered s t room).answer.refusal ≡ 0 → Narrows s (after_numbered s t room).session
 unfolding after_numbered
-numbered_narrows s (Known c) room b = cut_narrows s c room b
-numbered_narrows s Unknown room b = λ z. absurd (omega arith)
+numbered_narrows s (Some c) room b = cut_narrows s c room b
+numbered_narrows s None room b = λ z. absurd (omega arith)
 
 -- ---- in bounds after a cut
 
@@ -222,10 +221,10 @@ cut_in_bounds s c room b = go (eqb (early_cutting s c room) 0) (retightened s (c
     go true false e f = rw (accepted s c room e, f) (record { opened = b.opened; present = b.opened })
     go false found e f = rw (refused-same s c room e) b
 
-pub numbered_in_bounds : (s : Session) (t : Numbered) (room : ℕ) → SessionInBounds s → SessionInBounds (after_numbered s t room).session
+pub numbered_in_bounds : (s : Session) (t : Option Cut) (room : ℕ) → SessionInBounds s → SessionInBounds (after_numbered s t room).session
 unfolding after_numbered
-numbered_in_bounds s (Known c) room b = cut_in_bounds s c room b
-numbered_in_bounds s Unknown room b = b
+numbered_in_bounds s (Some c) room b = cut_in_bounds s c room b
+numbered_in_bounds s None room b = b
 
 -- ---- what a cut keeps of a session
 
@@ -274,13 +273,13 @@ cut_keeps s c room = go (eqb (early_cutting s c room) 0) (retightened s (clipped
         })
     go false found e f = rw (refused-same s c room e) (keeps-refused s (early_cutting s c room))
 
-pub keeps : (s : Session) (t : Numbered) (room : ℕ) → Keeps s (after_numbered s t room)
+pub keeps : (s : Session) (t : Option Cut) (room : ℕ) → Keeps s (after_numbered s t room)
 unfolding after_numbered
-keeps s (Known c) room = cut_keeps s c room
-keeps s Unknown room = keeps-refused s 12
+keeps s (Some c) room = cut_keeps s c room
+keeps s None room = keeps-refused s 12
 
 -- a cut that does not spend the session leaves no range that is not the one before, or within it
-pub numbered_within : (s : Session) (t : Numbered) (room : ℕ) → SessionInBounds s → (after_numbered s t room).session.spent ≡ false → Narrows s (after_numbered s t room).session
+pub numbered_within : (s : Session) (t : Option Cut) (room : ℕ) → SessionInBounds s → (after_numbered s t room).session.spent ≡ false → Narrows s (after_numbered s t room).session
 numbered_within s t room b u = go (ℕ_discrete (after_numbered s t room).answer.refusal 0)
   where
     go : Dec ((after_numbered s t room).answer.refusal ≡ 0) → Narrows s (after_numbered s t room).session

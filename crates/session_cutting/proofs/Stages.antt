@@ -1,4 +1,5 @@
 -- A cut by what its tests found.
+use Rattle.std.specs.Prelude.{None, Option, Some}
 use mathlib.Core.Path.{◌≡◌, refl, ap, sym, ◌∙◌}
 use mathlib.Core.Bool.{Bool, true, false, cond}
 use mathlib.Core.List.{List}
@@ -23,8 +24,6 @@ use Rattle.session.specs.declared.Ranges.{Ranges}
 use Rattle.session.specs.declared.Session.{Session}
 use Rattle.session_cuts.specs.declared.Cut.{Cut}
 use Rattle.session_cuts.specs.declared.Cut.TheVariants.{DayFloor, DayCeiling, TotalFloor, TotalCeiling}
-use Rattle.session_cuts.specs.declared.Numbered.{Numbered}
-use Rattle.session_cuts.specs.declared.Numbered.TheVariants.{Known, Unknown}
 use Rattle.theory_lists.specs.Front.{in_front}
 use Rattle.session_cutting.specs.Cutting.{day_cut_refusal, total_cut_refusal, malformed, early_cutting, clipped, retightened, changed_days, spend, with_present, refusing, tightened_to, after_cut, after_numbered, list_after}
 use Rattle.session_cutting.specs.declared.AfterCut.{AfterCut}
@@ -115,12 +114,12 @@ module _ (s : Session) (c : Cut) (room : ℕ) where
 
 -- ---- cut_told
 
-module _ (s : Session) (room : ℕ) {t u : Numbered} (e : t ≡ u) where
-  pub numbered_unknown : t ≡ Unknown → refusing 12 s ≡ after_numbered s u room
+module _ (s : Session) (room : ℕ) {t u : Option Cut} (e : t ≡ u) where
+  pub numbered_unknown : t ≡ None → refusing 12 s ≡ after_numbered s u room
   unfolding after_numbered
   numbered_unknown h = rw (← e, h)
 
-  pub numbered-known : {c : Cut} → t ≡ Known c → after_cut s c room ≡ after_numbered s u room
+  pub numbered-known : {c : Cut} → t ≡ Some c → after_cut s c room ≡ after_numbered s u room
   unfolding after_numbered
   numbered-known h = rw (← e, h)
 

@@ -1,5 +1,5 @@
 -- Document 01: what a cut makes of a session, and of the list that is lent for changed days.
-use Rattle.std.specs.Prelude.{true, cond, List, ℕ, min, max, ℤ, eqb, ltb, length, set}
+use Rattle.std.specs.Prelude.{true, cond, List, ℕ, min, max, ℤ, eqb, ltb, length, set, None, Option, Some}
 use Rattle.limits.specs.Limits.{lowest_point, highest_point, lowest_total, highest_total}
 use Rattle.theory_lists.specs.Sum.{at}
 use Rattle.base_codes.specs.Code.{within, code}
@@ -10,8 +10,6 @@ use Rattle.session.specs.declared.Ranges.{Ranges}
 use Rattle.session.specs.declared.Session.{Session}
 use Rattle.session_cuts.specs.declared.Cut.{Cut}
 use Rattle.session_cuts.specs.declared.Cut.TheVariants.{DayFloor, DayCeiling, TotalFloor, TotalCeiling}
-use Rattle.session_cuts.specs.declared.Numbered.{Numbered}
-use Rattle.session_cuts.specs.declared.Numbered.TheVariants.{Known, Unknown}
 use Rattle.theory_lists.specs.Front.{in_front}
 use Rattle.session_changed.specs.Changes.{differs, lost}
 use Rattle.session_order.specs.Order.{days_where, settled_order}
@@ -83,13 +81,13 @@ unfoldable pub after_cut : Session → Cut → ℕ → AfterCut
 after_cut s c room = cond (eqb (early_cutting s c room) 0) (tightened_to s (retightened s (clipped s.present c))) (refusing (early_cutting s c room) s)
 
 -- the same for a cut given by numbers: an unknown kind is 12
-abbrev pub early_numbered : Session → Numbered → ℕ → ℕ
-early_numbered s (Known c) room = early_cutting s c room
-early_numbered s Unknown room = 12
+abbrev pub early_numbered : Session → Option Cut → ℕ → ℕ
+early_numbered s (Some c) room = early_cutting s c room
+early_numbered s None room = 12
 
-unfoldable pub after_numbered : Session → Numbered → ℕ → AfterCut
-after_numbered s (Known c) room = after_cut s c room
-after_numbered s Unknown room = refusing 12 s
+unfoldable pub after_numbered : Session → Option Cut → ℕ → AfterCut
+after_numbered s (Some c) room = after_cut s c room
+after_numbered s None room = refusing 12 s
 
 -- the lent list afterwards: as it was beside a refusal, else with the changed days at its front
 unfoldable pub list_after : Session → AfterCut → List ℕ → List ℕ

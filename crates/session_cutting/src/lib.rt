@@ -15,7 +15,7 @@ use base_codes::{Coded, CodedNumbers};
 use base_numbers::{max, min, wide};
 use limits::MOST_DAYS;
 use session::{Ranges, Session};
-use session_cuts::{Cut, Numbered};
+use session_cuts::Cut;
 use tighten_filtering::Totals;
 
 // The refusal's number, 0 for none, and the number of days whose range changed.
@@ -257,14 +257,14 @@ pub fn cut(session: Session, cut: Cut, changed: &mut [u16]) -> AfterCut
 }
 
 // The same for a cut whose kind may be unknown, which is 12.
-pub fn cut_asked(session: Session, asked: Numbered, changed: &mut [u16]) -> AfterCut
+pub fn cut_asked(session: Session, asked: Option<Cut>, changed: &mut [u16]) -> AfterCut
     requires { SessionInBounds session }
     ensures value { result ≡ after_numbered session asked (length changed.old) }
     ensures changed_after { changed.new ≡ list_after session result changed.old }
 {
     match asked {
-        Numbered::Known(known) => cut(session, known, changed),
-        Numbered::Unknown => refuse(session, 12),
+        Some(known) => cut(session, known, changed),
+        None => refuse(session, 12),
     }
 }
 
@@ -280,7 +280,7 @@ pub fn cut_numbered(
     ensures value { result ≡ after_numbered session (numbered kind day value) (length changed.old) }
     ensures changed_after { changed.new ≡ list_after session result changed.old }
 {
-    let Numbered::Known(c) = Cut::numbered(kind, day, value) else {
+    let Some(c) = Cut::numbered(kind, day, value) else {
         return refuse(session, 12);
     };
     cut(session, c, changed)

@@ -1,4 +1,5 @@
 -- What holds of cuts made one after another on a session, and the loop that makes them.
+use Rattle.std.specs.Prelude.{Option}
 use mathlib.Core.Path.{◌≡◌, refl, ap, sym, ◌∙◌}
 use mathlib.Core.Bool.{Bool, true, false, cond, true≢false}
 use mathlib.Core.List.{List, [], ◌∷◌}
@@ -13,7 +14,6 @@ use Rattle.theory_lists.specs.Front.{in_front}
 use Rattle.theory_lists.specs.Filled.{Filled, filled_none, filled_more, filled-all}
 use Rattle.session.specs.Showing.{SessionInBounds}
 use Rattle.session.specs.declared.Session.{Session}
-use Rattle.session_cuts.specs.declared.Numbered.{Numbered}
 use Rattle.session_order.specs.Order.{settled_losers}
 use Rattle.session_changed.specs.Changes.{lost}
 use Rattle.session_changed.proofs.Laws.{narrowed-losers, narrowed_none, narrowed-again}
@@ -26,6 +26,7 @@ use Rattle.session_sheets.specs.declared.Answered.{Answered}
 use Rattle.session_sheets.specs.declared.AskedSheet.{AskedSheet}
 use Rattle.session_sheets.specs.declared.AfterSheet.{AfterSheet}
 use Rattle.session_sheets.specs.declared.Made.{Made}
+use Rattle.session_cuts.specs.declared.Cut.{Cut}
 
 -- ---- cuts one after another
 
@@ -37,14 +38,14 @@ pub record Kept (s e : Session) : Type 0 where
   pub opened : e.opened ≡ s.opened
 
 -- a session that a cut leaves unspent was unspent
-was_unspent : (s : Session) (t : Numbered) (room : ℕ) → (after_numbered s t room).session.spent ≡ false → s.spent ≡ false
+was_unspent : (s : Session) (t : Option Cut) (room : ℕ) → (after_numbered s t room).session.spent ≡ false → s.spent ≡ false
 was_unspent s t room u = go s.spent refl
   where
     go : (b : Bool) → s.spent ≡ b → s.spent ≡ false
     go false e = e
     go true e = absurd (true≢false (sym e ∙ ap (λ (x : Session). x.spent) (sym ((keeps s t room).spent e)) ∙ u))
 
-module _ (s : Session) (f : ℕ → Numbered) where
+module _ (s : Session) (f : ℕ → Option Cut) where
   pub after_none : after_cuts s f 0 ≡ s
   unfolding after_cuts
   after_none = refl
@@ -152,7 +153,7 @@ module _ (s e : Session) (l : List ℕ) where
 -- ---- the loop
 
 -- a single cut with a list of n places
-pub one-cut : (s : Session) (t : Numbered) {room : ℕ} {r : AfterCut} → SessionInBounds s → r ≡ after_numbered s t room → room ≡ s.days
+pub one-cut : (s : Session) (t : Option Cut) {room : ℕ} {r : AfterCut} → SessionInBounds s → r ≡ after_numbered s t room → room ≡ s.days
     → (r ≡ after_numbered s t s.days) × SessionInBounds r.session
 one-cut s t {room} b e n = (e ∙ ap (after_numbered s t) n, rw e (numbered_in_bounds s t room b))
 
@@ -163,23 +164,23 @@ asked-same (a ∷ l) zero d h = refl
 asked-same (a ∷ l) (suc j) d h = asked-same l j d (omega arith)
 
 -- the first j of n cuts are made, and each is answered
-pub record Making (s : Session) (f : ℕ → Numbered) (n j : ℕ) (blank : List Answered) (after : AfterCut) (entries : List Answered) : Type 0 where
+pub record Making (s : Session) (f : ℕ → Option Cut) (n j : ℕ) (blank : List Answered) (after : AfterCut) (entries : List Answered) : Type 0 where
   pub made : after.session ≡ after_cuts s f j
   pub bounds : SessionInBounds after.session
   pub answered : Filled (λ i. record { cut = f i; answer = answer_on s f i }) n j blank entries
 
-module _ {s : Session} {f : ℕ → Numbered} {n : ℕ} {blank : List Answered} where
+module _ {s : Session} {f : ℕ → Option Cut} {n : ℕ} {blank : List Answered} where
   pub making_none : {o : AfterCut} → o.session ≡ s → SessionInBounds o.session → Making s f n 0 blank o blank
   making_none e b = record { made = e ∙ sym (after_none s f); bounds = b; answered = filled_none }
 
   -- t is the cut that the code read
-  pub making_more : {j : ℕ} {after next : AfterCut} {entries : List Answered} {t : Numbered} {v : Answered} → Making s f n j blank after entries → j < n → t ≡ f j
+  pub making_more : {j : ℕ} {after next : AfterCut} {entries : List Answered} {t : Option Cut} {v : Answered} → Making s f n j blank after entries → j < n → t ≡ f j
       → (next ≡ after_numbered after.session t after.session.days) × SessionInBounds next.session → v ≡ record { cut = t; answer = next.answer }
       → Making s f n (j + 1) blank next (set entries j v)
   making_more {j} {next = next} {t = t} h u same e v =
       let one : next ≡ after_numbered (after_cuts s f j) (f j) s.days =
       e.0 ∙ ap (λ (x : Session). after_numbered x t x.days) h.made ∙ ap (after_numbered (after_cuts s f j) t) (after-days s f j)
-      ∙ ap (λ (x : Numbered). after_numbered (after_cuts s f j) x s.days) same in
+      ∙ ap (λ (x : Option Cut). after_numbered (after_cuts s f j) x s.days) same in
       record {
         made = ap (λ (a : AfterCut). a.session) one ∙ sym (after_more s f j);
         bounds = e.1;
@@ -195,7 +196,7 @@ module _ {s : Session} {f : ℕ → Numbered} {n : ℕ} {blank : List Answered} 
 
 -- ---- the sheet
 
-pub made_narrows : (s : Session) (f : ℕ → Numbered) (m : ℕ) {out : Made} → out ≡ record { answers = answers_to s f m; session = after_cuts s f m } → SessionInBounds s
+pub made_narrows : (s : Session) (f : ℕ → Option Cut) (m : ℕ) {out : Made} → out ≡ record { answers = answers_to s f m; session = after_cuts s f m } → SessionInBounds s
     → out.session.spent ≡ false → Narrows s out.session
 made_narrows s f m e b u = rw e (after_narrows s f m b (rw e at u))
 

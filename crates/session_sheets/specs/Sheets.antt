@@ -1,11 +1,9 @@
 -- Request Three: a sheet of cuts in one press. The session and the answers are those of single calls made in that order, refused ones included.
-use Rattle.std.specs.Prelude.{cond, List, [], ℕ, zero, suc, eqb, ltb, length, get_or, replicate}
+use Rattle.std.specs.Prelude.{cond, List, [], ℕ, zero, suc, eqb, ltb, length, get_or, replicate, None, Option}
 use Rattle.limits.specs.Limits.{most_cuts}
 use Rattle.theory_lists.specs.Written.{written}
 use Rattle.theory_lists.specs.Front.{in_front}
 use Rattle.session.specs.declared.Session.{Session}
-use Rattle.session_cuts.specs.declared.Numbered.{Numbered}
-use Rattle.session_cuts.specs.declared.Numbered.TheVariants.{Unknown}
 use Rattle.session_cutting.specs.Cutting.{changed_days, after_numbered}
 use Rattle.session_cutting.specs.declared.CutAnswer.{CutAnswer}
 use Rattle.session_sheets.specs.declared.Asked.{Asked}
@@ -13,16 +11,17 @@ use Rattle.session_sheets.specs.declared.AskedSheet.{AskedSheet}
 use Rattle.session_sheets.specs.declared.Answered.{Answered}
 use Rattle.session_sheets.specs.declared.Answers.{Answers}
 use Rattle.session_sheets.specs.declared.AfterSheet.{AfterSheet}
+use Rattle.session_cuts.specs.declared.Cut.{Cut}
 
 -- ---- the cuts, each a single call with a list of n places for changed days
 
 -- the session after the first j cuts
-unfoldable pub after_cuts : Session → (ℕ → Numbered) → ℕ → Session
+unfoldable pub after_cuts : Session → (ℕ → Option Cut) → ℕ → Session
 after_cuts s f zero = s
 after_cuts s f (suc j) = (after_numbered (after_cuts s f j) (f j) s.days).session
 
 -- what cut j is answered, from the session that the one before left
-abbrev pub answer_on : Session → (ℕ → Numbered) → ℕ → CutAnswer
+abbrev pub answer_on : Session → (ℕ → Option Cut) → ℕ → CutAnswer
 answer_on s f j = (after_numbered (after_cuts s f j) (f j) s.days).answer
 
 -- ---- the sheet
@@ -39,23 +38,23 @@ sheet_days s e = cond e.spent [] (changed_days s.days s.present e.present)
 
 -- what stands past a sheet's cuts, and past its answers
 abbrev pub not_asked : Asked
-not_asked = record { cut = Unknown }
+not_asked = record { cut = None }
 
 abbrev pub not_answered : Answered
-not_answered = record { cut = Unknown; answer = record { refusal = 0; changed = 0 } }
+not_answered = record { cut = None; answer = record { refusal = 0; changed = 0 } }
 
-abbrev pub asked_on : AskedSheet → ℕ → Numbered
+abbrev pub asked_on : AskedSheet → ℕ → Option Cut
 asked_on t j = (get_or t.entries j not_asked).cut
 
 -- the answers of the first m cuts, each beside its cut as it was asked
-unfoldable pub answers_to : Session → (ℕ → Numbered) → ℕ → Answers
+unfoldable pub answers_to : Session → (ℕ → Option Cut) → ℕ → Answers
 answers_to s f m = record { count = m; entries = written (λ j. record { cut = f j; answer = answer_on s f j }) m (replicate most_cuts not_answered) }
 
 -- beside a refusal's number: no answer, no changed day, and the session as it was, since a refused sheet makes no cut
 abbrev pub refused_sheet : ℕ → Session → AfterSheet
 refused_sheet number s = record { refusal = number; changed = 0; answers = record { count = 0; entries = replicate most_cuts not_answered }; session = s }
 
-abbrev pub taken_sheet : Session → (ℕ → Numbered) → ℕ → AfterSheet
+abbrev pub taken_sheet : Session → (ℕ → Option Cut) → ℕ → AfterSheet
 taken_sheet s f m =
     let e : Session = after_cuts s f m in
     record { refusal = 0; changed = length (sheet_days s e); answers = answers_to s f m; session = e }

@@ -11,13 +11,13 @@ ghost use Rattle.session_sheets.specs.Sheets.{not_asked, after_cuts, answers_to,
 
 use limits::{MOST_CUTS, MOST_DAYS};
 use session::Session;
-use session_cuts::Numbered;
+use session_cuts::Cut;
 use session_cutting::{AfterCut, CutAnswer};
 
 // A cut of a sheet, as it is asked for: its kind may be unknown.
 #[derive(Clone, Copy)]
 pub struct Asked {
-    pub cut: Numbered,
+    pub cut: Option<Cut>,
 }
 
 // The first `count` entries are a sheet's cuts, in their order.
@@ -30,7 +30,7 @@ pub struct AskedSheet {
 // A cut as it was asked for, with its refusal's number, 0 for none, and its number of changed days.
 #[derive(Clone, Copy)]
 pub struct Answered {
-    pub cut: Numbered,
+    pub cut: Option<Cut>,
     pub answer: CutAnswer,
 }
 
@@ -125,7 +125,7 @@ fn cut_all(session: Session, count: usize, asked: [Asked; MOST_CUTS]) -> Made
 {
     let mut after = start(session);
     let blank = Answered {
-        cut: Numbered::Unknown,
+        cut: None,
         answer: CutAnswer {
             refusal: 0,
             changed: 0,
@@ -163,7 +163,7 @@ fn refuse(number: u8, session: Session) -> AfterSheet
     ensures { result ≡ refused_sheet number session }
 {
     let blank = Answered {
-        cut: Numbered::Unknown,
+        cut: None,
         answer: CutAnswer {
             refusal: 0,
             changed: 0,

@@ -1,4 +1,5 @@
 -- Widths left and counted day by day; and what a cut leaves of a session in arrays, by what its tests found.
+use Rattle.std.specs.Prelude.{Option, Some}
 use Prim.Native.Nat.{ℕ, ◌+◌, ◌-◌, ◌≤◌, ◌<◌}
 use mathlib.Core.Path.{◌≡◌, refl, ap, sym, subst, ◌∙◌}
 use mathlib.Core.Bool.{Bool, true, false, cond, true≢false}
@@ -21,8 +22,6 @@ use Rattle.session.specs.Opening.{ranges_of}
 use Rattle.session.specs.Showing.{box_of, SessionInBounds}
 use Rattle.session.specs.declared.Session.{Session}
 use Rattle.session_cuts.specs.declared.Cut.{Cut}
-use Rattle.session_cuts.specs.declared.Numbered.{Numbered}
-use Rattle.session_cuts.specs.declared.Numbered.TheVariants.{Known}
 use Rattle.session_cutting.specs.Cutting.{malformed, clipped, retightened, changed_days, spend, refusing, tightened_to, after_numbered}
 use Rattle.session_cutting.proofs.Laws.{tightened_narrows}
 use Rattle.session_cutting.proofs.Stages.{again-found, again-none, cut-taken, numbered-known}
@@ -74,17 +73,17 @@ module _ {fs cs : List ℕ} {n : ℕ} {ws : List ℕ} where
 -- ---- a cut, by what its tests found
 
 -- an unspent session is cut by a well-formed cut, and k is what clipping and tightening leave
-pub record Cuts (s : Session) (t : Numbered) (k : Tight) : Type 0 where
+pub record Cuts (s : Session) (t : Option Cut) (k : Tight) : Type 0 where
   pub cut : Cut
   pub bounds : SessionInBounds s
-  pub known : t ≡ Known cut
+  pub known : t ≡ Some cut
   pub formed : malformed s.days cut ≡ 0
   pub unspent : s.spent ≡ false
   pub tight : k ≡ retightened s (clipped s.present cut)
 
 module _ {s : Session} {p : Step} {rs fs cs ws : List ℕ} (h : Holds s p rs fs cs ws) where
   -- a refusal other than 8
-  pub stays : (t : Numbered) {number : ℕ} {q : Step} → refusing number s ≡ after_numbered s t s.days
+  pub stays : (t : Option Cut) {number : ℕ} {q : Step} → refusing number s ≡ after_numbered s t s.days
       → q ≡ record { numbers = p.numbers; spent = p.spent; answer = record { refusal = number; changed = 0 } } → Stepped (after_numbered s t s.days) q rs fs cs ws
   stays t {number} {q} a e =
       subst (λ b. Stepped b q rs fs cs ws) a
@@ -104,7 +103,7 @@ module _ {s : Session} {p : Step} {rs fs cs ws : List ℕ} (h : Holds s p rs fs 
       → k ≡ retightened s (clipped s.present c)
   held_tight c u e = rw (h.rises-held, h.days, h.first, h.present u) at e
 
-  module _ (t : Numbered) {k : Tight} (d : Cuts s t k) where
+  module _ (t : Option Cut) {k : Tight} (d : Cuts s t k) where
     taken : tightened_to s (retightened s (clipped s.present d.cut)) ≡ after_numbered s t s.days
     taken = cut-taken s d.cut s.days d.formed (omega arith) d.unspent ∙ numbered-known s s.days refl d.known
 

@@ -14,7 +14,7 @@ ghost use Rattle.session_steps.specs.Steps.{width, Holds, Holding, Stepped};
 use base_codes::CodedNumbers;
 use base_numbers::less;
 use limits::MOST_DAYS;
-use session_cuts::Numbered;
+use session_cuts::Cut;
 use session_cutting::CutAnswer;
 
 // A session's numbers while cuts are made of it, whether it is spent, and the answer to the last cut.
@@ -70,7 +70,7 @@ fn refuse(numbers: CodedNumbers, spent: bool, number: u8) -> Step
 // Makes one cut: document 01's checks 12, 7, 3 or 5, 9, 8.
 pub fn cut_next(
     step: Step,
-    asked: Numbered,
+    asked: Option<Cut>,
     rises: &[u16; MOST_DAYS],
     floors: &mut [u16; MOST_DAYS],
     ceilings: &mut [u16; MOST_DAYS],
@@ -82,7 +82,7 @@ pub fn cut_next(
     let numbers = step.numbers;
     let n = numbers.days;
     let spent = step.spent;
-    let Numbered::Known(cut) = asked else {
+    let Some(cut) = asked else {
         return refuse(numbers, spent, 12);
     };
     let checked = session_cutting::check(cut, n);

@@ -1,12 +1,9 @@
-use Prim.Native.Nat.{◌-◌}
 use mathlib.Core.Path.{refl}
 use lib.ListN.{length}
-use mir.Syntax.{w32}
-use mir.Val.{to_z}
 use Rattle.base_codes.specs.Code.{on}
 use Rattle.base_codes.proofs.Casts.{bounds_seen}
-use Rattle.base_codes.proofs.Loops.{Coding, coding_none, coding_more, coding_seen}
-use borrow.Author.Rules.{rules, sfits_of}
+use Rattle.base_codes.proofs.Loops.{coding_none, coding_more, coding_seen}
+use borrow.Author.Rules.{rules}
 use Rattle.base_codes.proofs.code_all.Goals as goal
 
 pub loop-i-init : goal.loop-i-init
@@ -17,7 +14,7 @@ code_cell-cell-requires c = bounds_seen c.ranges.low c.ranges.high c.requires.0
 
 pub loop-i-preserved : goal.loop-i-preserved
 loop-i-preserved c =
-    coding_more c.loop-i.invariant c.loop-i-test.true (sfits_of c.code_cell-arg-1.given) refl c.code_cell-cell.ensures
+    coding_more c.loop-i.invariant _ c.loop-i-test.true (search rules) refl c.code_cell-cell.ensures c.unwrap_or.ensures c.is_none-outside.ensures
 
 pub returns : goal.returns
 returns c =

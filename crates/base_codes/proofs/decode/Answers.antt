@@ -1,5 +1,4 @@
 -- `decode` meets its contract: the sum is the decoded number, and fits (`shown`, `add_fits` of Casts).
-use borrow.Author.Rules.{rules}
 use Rattle.base_codes.proofs.Casts.{add_fits, shown}
 use Rattle.base_codes.proofs.decode.Goals as goal
 

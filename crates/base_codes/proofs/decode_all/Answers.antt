@@ -1,11 +1,5 @@
-use Prim.Native.Nat.{◌-◌}
-use lib.ListN.{get_or}
-use Rattle.theory_lists.specs.Filled.{Filled, filled_none, filled_more, filled-all}
-use mir.Syntax.{w32}
-use mir.Val.{to_z}
-use Rattle.base_codes.specs.Code.{decoded}
+use Rattle.theory_lists.specs.Filled.{filled_none, filled_more, filled-all}
 use Rattle.base_codes.proofs.Loops.{low_seen, short_seen, decoded_seen}
-use borrow.Author.Rules.{rules}
 use native.Mathlib.Omega.{arith}
 use Rattle.base_codes.proofs.decode_all.Goals as goal
 

@@ -2,4 +2,4 @@
 use Rattle.c_files.proofs.numbered_refusal.Goals as goal
 
 pub returns : goal.returns
-returns c = rw c.in-Known.is c.malformed.ensures
+returns c = rw c.in-Some.is c.malformed.ensures

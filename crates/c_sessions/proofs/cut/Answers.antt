@@ -22,6 +22,6 @@ returns-in_default c = let whole = cut-read _ _ _ c.if-session-ne-SESSION_BYTES.
 
 pub returns : goal.returns
 returns c = let whole = cut-read _ _ _ c.if-session-ne-SESSION_BYTES.false
-    (cuts-same _ _ (numbered-known _ _ (tells (goal.at.returns c).After-numbered) c.in-Known.is)
+    (cuts-same _ _ (numbered-known _ _ (tells (goal.at.returns c).After-numbered) c.in-Some.is)
     (c.cut_known.ensures.value, (c.cut_known.ensures.session_after, c.cut_known.ensures.changed_after))) in
     record { value = whole.0; session_after = whole.1.0; changed_after = whole.1.1 }

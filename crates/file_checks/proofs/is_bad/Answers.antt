@@ -3,7 +3,7 @@ use mathlib.Core.Path.{refl}
 use Rattle.file_checks.proofs.is_bad.Goals as goal
 
 pub returns-in-TotalFloor : goal.returns-in-TotalFloor
-returns-in-TotalFloor c = rw (c.in-Known.is, c.in-TotalFloor.is) refl
+returns-in-TotalFloor c = rw (c.in-Some.is, c.in-TotalFloor.is) refl
 
 pub returns-in-TotalCeiling : goal.returns-in-TotalCeiling
-returns-in-TotalCeiling c = rw (c.in-Known.is, c.in-TotalCeiling.is) refl
+returns-in-TotalCeiling c = rw (c.in-Some.is, c.in-TotalCeiling.is) refl

@@ -1,4 +1,5 @@
 -- `print_sheet` meets its contract: a sheet keeps the numbers in bounds, and gives at most 512 answers. The list is as long as asked.
+use Rattle.std.specs.Prelude.{Option}
 use mathlib.Core.Path.{◌≡◌, refl, sym}
 use mathlib.Core.Bool.{Bool, true, false, cond}
 use Prim.Native.Nat.{ℕ, ◌≤◌}
@@ -8,18 +9,18 @@ use lib.Seq.{length-take-le}
 use borrow.Author.Tests.{eqb-true}
 use Rattle.session.specs.Showing.{SessionInBounds}
 use Rattle.session.specs.declared.Session.{Session}
-use Rattle.session_cuts.specs.declared.Numbered.{Numbered}
 use Rattle.session_sheets.specs.Sheets.{answers_to, sheet_refusal, asked_on, taken_sheet, refused_sheet, after_sheet}
 use Rattle.session_sheets.specs.declared.AskedSheet.{AskedSheet}
 use Rattle.session_sheets.specs.declared.AfterSheet.{AfterSheet}
 use Rattle.session_sheets.proofs.Laws.{after-bounds, sheet_passed}
 use Rattle.program_sheets.proofs.print_sheet.Goals as goal
 use Rattle.program_sheets.proofs.print_sheet.Goals.{After-cut_sheet-after}
+use Rattle.session_cuts.specs.declared.Cut.{Cut}
 
 abbrev Printable : AfterSheet → Type 0
 Printable r = (r.answers.count ≤ 512) × SessionInBounds r.session
 
-taken : (s : Session) (f : ℕ → Numbered) (m : ℕ) → SessionInBounds s → m ≤ 512 → Printable (taken_sheet s f m)
+taken : (s : Session) (f : ℕ → Option Cut) (m : ℕ) → SessionInBounds s → m ≤ 512 → Printable (taken_sheet s f m)
 unfolding answers_to
 taken s f m b few = (few, after-bounds s f m b)
 

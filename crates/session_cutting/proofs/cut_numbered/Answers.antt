@@ -18,5 +18,5 @@ returns-in_default c =
 
 pub returns : goal.returns
 returns c =
-    let t = sym (tells (goal.at.returns c).After-numbered) ∙ c.in-Known.is in
+    let t = sym (tells (goal.at.returns c).After-numbered) ∙ c.in-Some.is in
     record { value = c.cut.ensures.value ∙ numbered-known _ _ refl t; changed_after = c.cut.ensures.changed_after }

@@ -15,10 +15,10 @@ use Rattle.session_steps.proofs.Laws.{Cuts, stays, ends, goes_on, held-bounds, h
 use Rattle.session_steps.proofs.cut_next.Goals as goal
 use Rattle.session_steps.proofs.cut_next.Goals.{After-check-checked, After-cut_ranges-t, Else-checked-ne0, Else-spent, Start}
 
-refusal : (c : After-check-checked) {s : Session} → (let a = c.args in Holds s a.step a.rises.now a.floors.now a.ceilings.now a.widths.now) → c.check-checked.result.refusal ≡ malformed s.days c.in-Known.cut
-refusal c h = checked-refusal _ _ c.check-checked.ensures ∙ ap (λ n. malformed n c.in-Known.cut) h.days
+refusal : (c : After-check-checked) {s : Session} → (let a = c.args in Holds s a.step a.rises.now a.floors.now a.ceilings.now a.widths.now) → c.check-checked.result.refusal ≡ malformed s.days c.in-Some.cut
+refusal c h = checked-refusal _ _ c.check-checked.ensures ∙ ap (λ n. malformed n c.in-Some.cut) h.days
 
-formed : (c : Else-checked-ne0) {s : Session} → (let a = c.args in Holds s a.step a.rises.now a.floors.now a.ceilings.now a.widths.now) → malformed s.days c.in-Known.cut ≡ 0
+formed : (c : Else-checked-ne0) {s : Session} → (let a = c.args in Holds s a.step a.rises.now a.floors.now a.ceilings.now a.widths.now) → malformed s.days c.in-Some.cut ≡ 0
 formed c h = sym (refusal c.before.before h) ∙ c.if-checked-ne0.false
 
 unspent : (c : Else-spent) {s : Session} → (let a = c.args in Holds s a.step a.rises.now a.floors.now a.ceilings.now a.widths.now) → s.spent ≡ false
@@ -36,12 +36,12 @@ cuts : (c : After-cut_ranges-t) (s : Session) → SessionInBounds s →
     }))
 cuts c s b h =
     record {
-      cut = c.in-Known.cut;
+      cut = c.in-Some.cut;
       bounds = b;
-      known = c.in-Known.is;
+      known = c.in-Some.is;
       formed = formed c.before.before.before.before h;
       unspent = unspent c.before.before.before h;
-      tight = held_tight h c.in-Known.cut (unspent c.before.before.before h) c.cut_ranges-t.ensures;
+      tight = held_tight h c.in-Some.cut (unspent c.before.before.before h) c.cut_ranges-t.ensures;
     }
 
 pub returns-in_default : goal.returns-in_default
@@ -49,12 +49,12 @@ returns-in_default c = λ s b h. stays h _ (numbered_unknown s s.days refl c.in_
 
 pub returns-then-checked-ne0 : goal.returns-then-checked-ne0
 returns-then-checked-ne0 c = λ s b h.
-    stays h _ (cut-malformed s c.in-Known.cut s.days (refusal (goal.at.returns-then-checked-ne0 c).After-check-checked h) c.if-checked-ne0.true ∙ numbered-known s s.days refl c.in-Known.is) c.refuse-then-checked-ne0.ensures
+    stays h _ (cut-malformed s c.in-Some.cut s.days (refusal (goal.at.returns-then-checked-ne0 c).After-check-checked h) c.if-checked-ne0.true ∙ numbered-known s s.days refl c.in-Some.is) c.refuse-then-checked-ne0.ensures
 
 pub returns-then-spent : goal.returns-then-spent
 returns-then-spent c = λ s b h.
     let spent : s.spent ≡ true = sym h.mark ∙ c.if-spent.true in
-    stays h _ (cut-spent s c.in-Known.cut s.days (formed (goal.at.returns-then-spent c).Else-checked-ne0 h) (omega arith) spent ∙ numbered-known s s.days refl c.in-Known.is) c.refuse-then-spent.ensures
+    stays h _ (cut-spent s c.in-Some.cut s.days (formed (goal.at.returns-then-spent c).Else-checked-ne0 h) (omega arith) spent ∙ numbered-known s s.days refl c.in-Some.is) c.refuse-then-spent.ensures
 
 pub cut_ranges-t-requires : goal.cut_ranges-t-requires
 cut_ranges-t-requires c =
