@@ -18,6 +18,13 @@ pub struct CodedNumbers {
     pub highest: usize,
 }
 
+// The total's range as it is held.
+#[derive(Clone, Copy)]
+pub struct TotalRange {
+    pub lowest: usize,
+    pub highest: usize,
+}
+
 // A number's code, or none where the number is outside its bounds.
 pub fn code(z: i32, low: i32, high: i32) -> Option<usize>
     requires { code low high ≤ 2147483647 }

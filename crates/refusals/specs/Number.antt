@@ -1,5 +1,5 @@
 -- Document 01: the numbers of refusals.
-use Rattle.std.specs.Prelude.{ℕ, Result, Ok, Err}
+use Rattle.std.specs.Prelude.{ℕ, Option, None, Some, Result, Ok, Err}
 use Rattle.refusals.specs.declared.Refusal.{Refusal}
 use Rattle.refusals.specs.declared.Refusal.TheVariants.{Count, Length, Point, Rise, Total, Crossed, Day, NoSchedule, Spent, OutOfRange, Layout, Kind, FirstDay, Answers}
 
@@ -19,12 +19,12 @@ refusal_number Kind = 12
 refusal_number FirstDay = 13
 refusal_number Answers = 14
 
+-- 0 for none
+abbrev pub number_or_zero : Option Refusal → ℕ
+number_or_zero None = 0
+number_or_zero (Some refusal) = refusal_number refusal
+
 -- an answer's refusal by number, 0 for none
 abbrev pub refusal_of : {A : Type 0} → Result A Refusal → ℕ
 refusal_of (Ok a) = 0
 refusal_of (Err refusal) = refusal_number refusal
-
--- what an answer gives, or what stands beside a refusal
-abbrev pub given_or : {A : Type 0} → A → Result A Refusal → A
-given_or none (Ok a) = a
-given_or none (Err refusal) = none

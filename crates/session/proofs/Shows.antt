@@ -15,9 +15,8 @@ use Rattle.base_codes.proofs.Casts.{less_fits}
 use lib.Dec.{ltb}
 use borrow.Author.Tests.{lt-ltb, le-ltb}
 use Rattle.theory_lists.specs.Lent.{lent_list, list_left}
-use Rattle.session.specs.Showing.{shown, list_too_short, total_floor, total_ceiling}
+use Rattle.session.specs.Showing.{Shown, shown, list_too_short, total_floor, total_ceiling}
 use Rattle.session.specs.declared.Session.{Session}
-use Rattle.session.specs.declared.Shown.{Shown}
 use Rattle.session.proofs.Entered.{or-true}
 
 module _ (s : Session) (a b : ℕ) where

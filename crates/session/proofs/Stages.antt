@@ -6,24 +6,23 @@ use Prim.Native.Nat.{ℕ, ◌≤◌, ◌<◌}
 use lib.IntN.{ℤ}
 use lib.Dec.{ltb}
 use borrow.Author.Tests.{eq-eqb, ne_eqb, lt-ltb, le-ltb, ltb-true, not-false}
-use mir.Syntax.{w32}
-use mir.Val.{SFits}
 use Rattle.limits.specs.Limits.{lowest_total, highest_total}
 use Rattle.theory_lists.specs.Sum.{at}
 use Rattle.theory_lists.specs.Checks.{cond-zero}
 use Rattle.base_codes.specs.Code.{within, code, coded}
 use Rattle.base_codes.specs.declared.CodedNumbers.{CodedNumbers}
-use Rattle.base_codes.specs.declared.Coded.{Coded}
-use Rattle.base_codes.specs.declared.Coded.TheVariants.{Code, Outside}
+use Rattle.std.specs.Prelude.{Option, None, Some, Result, Ok, Err}
+use Rattle.refusals.specs.declared.Refusal.{Refusal}
+use Rattle.refusals.specs.Number.{refusal_number}
+use Rattle.refusals.proofs.Laws.{refused}
+use Rattle.base_codes.specs.declared.TotalRange.{TotalRange}
 use Rattle.base_codes.proofs.Laws.{coded-code, coded-outside}
-use Rattle.base_codes.proofs.Casts.{seen, coded_seen}
 use Rattle.theory_method.specs.Filter.{Box, all_counted, InBounds, Tight, tightened, first_crossed}
 use Rattle.theory_method.proofs.Levels.{recount}
 use Rattle.tighten_filtering.specs.Boxed.{boxed}
-use Rattle.session.specs.Stages.{not_coded, coded_with, codes_crossed, range_refusal, RangesOpened, no_ranges, ranges_with, ranges_opened, opened_codes}
+use Rattle.session.specs.Stages.{not_coded, coded_with, codes_crossed, range_refusal, RangesOpened, ranges_as, no_ranges, ranges_with, ranges_opened, opened_codes}
 use Rattle.session.specs.Opening.{fresh, refused_with}
 use Rattle.session.specs.declared.Numbers.{Numbers}
-use Rattle.session.specs.declared.OpenedRanges.{OpenedRanges}
 
 -- ---- 3 to 5
 
@@ -37,18 +36,11 @@ module _ (m : Numbers) {point : Bool} (rise : Bool) where
   rise-refused p h = rw (p, h)
 
 -- a bound of the total, by its call
-pub record Called (z : ℤ) (r : Coded) : Type 0 where
-  pub fits : SFits w32 z
-  pub gave : r ≡ coded lowest_total highest_total (seen z)
-
-module _ {z : ℤ} {r : Coded} (c : Called z r) where
-  answer : r ≡ coded lowest_total highest_total z
-  answer = coded_seen lowest_total highest_total c.fits c.gave
-
-  total-outside : r ≡ Outside → within lowest_total highest_total z ≡ false
+module _ (z : ℤ) {r : Option ℕ} (answer : r ≡ coded lowest_total highest_total z) where
+  total-outside : r ≡ None → within lowest_total highest_total z ≡ false
   total-outside o = coded-outside lowest_total highest_total z answer o
 
-  total-coded : {t : ℕ} → r ≡ Code t → (within lowest_total highest_total z ≡ true) × (t ≡ code lowest_total z)
+  total-coded : {t : ℕ} → r ≡ Some t → (within lowest_total highest_total z ≡ true) × (t ≡ code lowest_total z)
   total-coded {t} o = coded-code lowest_total highest_total z t answer o
 
 -- a point and a rise are within their bounds
@@ -56,31 +48,24 @@ pub record Inside (point rise : Bool) : Type 0 where
   pub points : point ≡ false
   pub rises : rise ≡ false
 
-module _ (m : Numbers) {point rise : Bool} (d : Inside point rise) {low : Coded} (l : Called m.lowest low) where
-  pub lowest-refused : low ≡ Outside → not_coded 5 ≡ coded_with m point rise
+module _ (m : Numbers) {point rise : Bool} (d : Inside point rise) {low : Option ℕ} (l : low ≡ coded lowest_total highest_total m.lowest) where
+  pub lowest-refused : low ≡ None → not_coded 5 ≡ coded_with m point rise
   unfolding coded_with
-  lowest-refused o = rw (d.points, d.rises, total-outside l o)
+  lowest-refused o = rw (d.points, d.rises, total-outside _ l o)
 
-  module _ {t : ℕ} (o : low ≡ Code t) {high : Coded} (h : Called m.highest high) where
-    pub highest-refused : high ≡ Outside → not_coded 5 ≡ coded_with m point rise
+  module _ {t : ℕ} (o : low ≡ Some t) {high : Option ℕ} (h : high ≡ coded lowest_total highest_total m.highest) where
+    pub highest-refused : high ≡ None → not_coded 5 ≡ coded_with m point rise
     unfolding coded_with
-    highest-refused u = rw (d.points, d.rises, (total-coded l o).0, total-outside h u)
+    highest-refused u = rw (d.points, d.rises, (total-coded _ l o).0, total-outside _ h u)
 
-    pub numbers-coded : {v : ℕ} → high ≡ Code v → record { refusal = 0; numbers = record { days = m.days; first = m.first; lowest = t; highest = v } } ≡ coded_with m point rise
+    pub numbers-coded : {v : ℕ} → high ≡ Some v → record { refusal = 0; numbers = record { days = m.days; first = m.first; lowest = t; highest = v } } ≡ coded_with m point rise
     unfolding coded_with
     numbers-coded u =
-        let a = total-coded l o in
-        let b = total-coded h u in
+        let a = total-coded m.lowest l o in
+        let b = total-coded m.highest h u in
         rw (d.points, d.rises, a.0, b.0, a.1, b.1)
 
 -- ---- 6, 13 and 8
-
--- what `open_ranges` gives, with its arrays
-abbrev pub with_arrays : OpenedRanges → List ℕ → List ℕ → RangesOpened
-with_arrays r fs cs = record { refusal = r.refusal; floors = fs; ceilings = cs; lowest = r.lowest; highest = r.highest }
-
-no_ranges_lem : (number : ℕ) {r : OpenedRanges} (fs cs : List ℕ) → r ≡ record { refusal = number; lowest = 0; highest = 0 } → with_arrays r fs cs ≡ no_ranges number fs cs
-no_ranges_lem number fs cs e = ap (λ x. with_arrays x fs cs) e
 
 module _ (crossed : Bool) (m : CodedNumbers) where
   pub said_6 : (crossed || ltb m.highest m.lowest) ≡ true → 6 ≡ range_refusal crossed m
@@ -103,11 +88,10 @@ module _ (fs cs rs : List ℕ) (m : CodedNumbers) {days : Bool} {x : ℕ} (told 
   pub judged : x ≡ cond (codes_crossed fs cs m.days m.lowest m.highest) 6 (cond (not (ltb m.first m.days)) 13 0)
   judged = asked ∙ ap (λ d. range_refusal d m) told
 
-  pub ranges-refused : {r : OpenedRanges} → (x ≡ 0 → ⊥) → r ≡ record { refusal = x; lowest = 0; highest = 0 } → with_arrays r fs cs ≡ ranges_opened (boxed fs cs rs m)
+  pub ranges-refused : (x ≡ 0 → ⊥) → no_ranges x fs cs ≡ ranges_opened (boxed fs cs rs m)
   unfolding ranges_opened
-  ranges-refused h n =
-      no_ranges_lem x fs cs n
-      ∙ by_number (codes_crossed fs cs m.days m.lowest m.highest) (not (ltb m.first m.days)) fs cs (ranges_with (tightened (boxed fs cs rs m))) judged h
+  ranges-refused h =
+      by_number (codes_crossed fs cs m.days m.lowest m.highest) (not (ltb m.first m.days)) fs cs (ranges_with (tightened (boxed fs cs rs m))) judged h
 
   module _ (h : x ≡ 0) where
     passes : (codes_crossed fs cs m.days m.lowest m.highest ≡ false) × (not (ltb m.first m.days) ≡ false)
@@ -126,17 +110,17 @@ module _ (fs cs rs : List ℕ) (m : CodedNumbers) {days : Bool} {x : ℕ} (told 
     pub ranges-found : t.found ≡ true → record { refusal = 0; floors = t.floors; ceilings = t.ceilings; lowest = t.lowest; highest = t.highest } ≡ ranges_opened (boxed fs cs rs m)
     ranges-found f = (rw f at tight)
 
-    pub ranges-none : {r : OpenedRanges} → t.found ≡ false → r ≡ record { refusal = 8; lowest = 0; highest = 0 } → with_arrays r t.floors t.ceilings ≡ ranges_opened (boxed fs cs rs m)
-    ranges-none f n = no_ranges_lem 8 t.floors t.ceilings n ∙ (rw f at tight)
+    pub ranges-none : t.found ≡ false → no_ranges 8 t.floors t.ceilings ≡ ranges_opened (boxed fs cs rs m)
+    ranges-none f = (rw f at tight)
 
 -- ---- the session
 
-module _ (b : Box) {r : OpenedRanges} {fs cs : List ℕ} (e : with_arrays r fs cs ≡ ranges_opened b) where
-  pub session-refused : (r.refusal ≡ 0 → ⊥) → refused_with r.refusal ≡ opened_codes b
+module _ (b : Box) (fs cs : List ℕ) {r : Result TotalRange Refusal} (e : ranges_as r fs cs ≡ ranges_opened b) where
+  pub session-refused : {x : Refusal} → r ≡ Err x → refused_with (refusal_number x) ≡ opened_codes b
   unfolding opened_codes
-  session-refused h = rw (← e, ne_eqb r.refusal 0 h)
+  session-refused {x} h = let o = rw h at e in rw (← o, ne_eqb (refusal_number x) 0 (refused x))
 
-  pub session-fresh : r.refusal ≡ 0
-      → record { refusal = 0; session = fresh b.days b.first b.rises (record { floors = fs; ceilings = cs; lowest = r.lowest; highest = r.highest }) } ≡ opened_codes b
+  pub session-fresh : {t : TotalRange} → r ≡ Ok t
+      → record { refusal = 0; session = fresh b.days b.first b.rises (record { floors = fs; ceilings = cs; lowest = t.lowest; highest = t.highest }) } ≡ opened_codes b
   unfolding opened_codes
-  session-fresh h = rw (← e, eq-eqb r.refusal 0 h)
+  session-fresh h = let o = rw h at e in rw (← o)

@@ -9,7 +9,8 @@ use Rattle.session.specs.Profile.{Profile}
 use Rattle.session.specs.declared.Numbers.{Numbers}
 use Rattle.session.specs.declared.Ranges.{Ranges}
 use Rattle.session.specs.declared.Session.{Session}
-use Rattle.session.specs.declared.Opened.{Opened}
+use Rattle.refusals.specs.Number.{number_or_zero}
+use Rattle.session.specs.declared.Opened as Code
 
 -- what is handed over at opening: a profile's numbers and its lists
 abbrev pub profile : Numbers → List ℤ → List ℤ → List ℤ → Profile
@@ -104,6 +105,14 @@ all_zero = record {
   lowest = code lowest_total (pos 0);
   highest = code lowest_total (pos 0);
 }
+
+-- what opening hands back: the refusal's number, 0 for none, and the session
+pub record Opened : Type 0 where
+  pub refusal : ℕ
+  pub session : Session
+
+abbrev pub opened_as : Code.Opened → Opened
+opened_as o = record { refusal = number_or_zero o.refusal; session = o.session }
 
 -- what stands beside a refusal: a spent session of one day with all values 0
 abbrev pub refused_with : ℕ → Opened

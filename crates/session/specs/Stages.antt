@@ -1,16 +1,17 @@
 -- Opening by stages, as the code takes them. A reader may pass this page over: `open`'s own contract does not cite it.
-use Rattle.std.specs.Prelude.{Bool, cond, not, ◌&&◌, ◌||◌, List, ℕ, ◌-◌, ℤ, eqb, ltb, length}
+use Rattle.std.specs.Prelude.{Bool, cond, not, ◌&&◌, ◌||◌, List, Result, Ok, Err, ℕ, ◌-◌, ℤ, eqb, ltb, length}
 use Rattle.limits.specs.Limits.{most_days, lowest_total, highest_total}
 use Rattle.theory_lists.specs.Sum.{at}
 use Rattle.theory_lists.specs.Lent.{lent_list}
 use Rattle.base_codes.specs.Code.{within, code, on, code_or_zero}
 use Rattle.base_codes.specs.declared.CodedNumbers.{CodedNumbers}
+use Rattle.base_codes.specs.declared.TotalRange.{TotalRange}
+use Rattle.refusals.specs.declared.Refusal.{Refusal}
+use Rattle.refusals.specs.Number.{refusal_number}
 use Rattle.theory_method.specs.Filter.{Box, Tight, tightened, first_crossed}
 use Rattle.session.specs.Profile.{Profile}
-use Rattle.session.specs.Opening.{bad_count, bad_length, bad_point, bad_rise, numbers_of, fresh, refused_with}
+use Rattle.session.specs.Opening.{Opened, bad_count, bad_length, bad_point, bad_rise, numbers_of, fresh, refused_with}
 use Rattle.session.specs.declared.Numbers.{Numbers}
-use Rattle.session.specs.declared.CodedProfile.{CodedProfile}
-use Rattle.session.specs.declared.Opened.{Opened}
 
 -- ---- 1 and 2
 
@@ -27,9 +28,18 @@ lengths_of p = length_refusal p.days (length p.floors) (length p.ceilings) (leng
 abbrev pub coded_numbers : Numbers → CodedNumbers
 coded_numbers m = record { days = m.days; first = m.first; lowest = code lowest_total m.lowest; highest = code lowest_total m.highest }
 
+-- what coding gives: its refusal, 0 for none, and the numbers
+pub record CodedProfile : Type 0 where
+  pub refusal : ℕ
+  pub numbers : CodedNumbers
+
 -- beside a refusal all are 0
 abbrev pub not_coded : ℕ → CodedProfile
 not_coded number = record { refusal = number; numbers = record { days = 0; first = 0; lowest = 0; highest = 0 } }
+
+abbrev pub coded_as : Result CodedNumbers Refusal → CodedProfile
+coded_as (Ok m) = record { refusal = 0; numbers = m }
+coded_as (Err refusal) = not_coded (refusal_number refusal)
 
 -- by whether a point and a rise are outside their bounds
 unfoldable pub coded_with : Numbers → Bool → Bool → CodedProfile
@@ -70,6 +80,10 @@ pub record RangesOpened : Type 0 where
 
 abbrev pub no_ranges : ℕ → List ℕ → List ℕ → RangesOpened
 no_ranges number fs cs = record { refusal = number; floors = fs; ceilings = cs; lowest = 0; highest = 0 }
+
+abbrev pub ranges_as : Result TotalRange Refusal → List ℕ → List ℕ → RangesOpened
+ranges_as (Ok t) fs cs = record { refusal = 0; floors = fs; ceilings = cs; lowest = t.lowest; highest = t.highest }
+ranges_as (Err refusal) fs cs = no_ranges (refusal_number refusal) fs cs
 
 abbrev pub ranges_with : Tight → RangesOpened
 ranges_with t =

@@ -2,17 +2,20 @@
 #![tactic(auto)]
 
 ghost use Rattle.std.specs.Prelude.{◌≡◌, ltb, length};
-ghost use Rattle.limits.specs.Limits.{lowest_point, highest_point, lowest_rise, highest_rise};
+ghost use Rattle.limits.specs.Limits.{lowest_point, highest_point, lowest_rise, highest_rise, lowest_total, highest_total};
+ghost use Rattle.base_codes.specs.Code.{coded};
 ghost use Rattle.theory_lists.specs.Sum.{at};
 ghost use Rattle.theory_lists.specs.Lent.{lent_list};
 ghost use Rattle.theory_method.specs.Filter.{InBounds, all_counted, first_crossed};
 ghost use Rattle.tighten_filtering.specs.Boxed.{boxed};
-ghost use Rattle.session.specs.Opening.{opened, early_opening, refused_with, profile};
-ghost use Rattle.session.specs.Stages.{length_refusal, lengths_of, not_coded, coded_with, coded_list, coded_profile, range_refusal, ranges_opened, opened_codes};
-ghost use Rattle.session.specs.Showing.{SessionInBounds, shown, list_too_short, floor_on, ceiling_on};
+ghost use Rattle.refusals.specs.Number.{refusal_number, refusal_of};
+ghost use Rattle.session.specs.Opening.{opened, opened_as, early_opening, refused_with, profile};
+ghost use Rattle.session.specs.Stages.{length_refusal, lengths_of, coded_as, coded_with, coded_list, coded_profile, range_refusal, ranges_as, ranges_opened, opened_codes};
+ghost use Rattle.session.specs.Showing.{SessionInBounds, shown, shown_as, floor_on, ceiling_on};
 
-use base_codes::{Coded, CodedNumbers, code_all};
+use base_codes::{CodedNumbers, TotalRange, code_all};
 use limits::{MOST_DAYS, TOTAL_OFFSET};
+use refusals::Refusal;
 
 // A profile's numbers, beside its lists: the day count, the first counted day, and the total's floor and ceiling.
 #[derive(Clone, Copy)]
@@ -53,32 +56,16 @@ pub struct Session {
     pub spent: bool,
 }
 
-// A profile's numbers as codes, or all 0 beside a refusal's number.
-#[derive(Clone, Copy)]
-pub struct CodedProfile {
-    pub refusal: u8,
-    pub numbers: CodedNumbers,
-}
-
-// The total's range of ranges that are opened, or both 0 beside a refusal's number.
-#[derive(Clone, Copy)]
-pub struct OpenedRanges {
-    pub refusal: u8,
-    pub lowest: usize,
-    pub highest: usize,
-}
-
-// The refusal's number, 0 for none, and the session.
+// What opening gives. Document 01 has a session beside a refusal too, so this is no Result.
 #[derive(Clone, Copy)]
 pub struct Opened {
-    pub refusal: u8,
+    pub refusal: Option<Refusal>,
     pub session: Session,
 }
 
-// What showing gives beside the lists: the refusal's number, 0 for none, the total's range, and whether the session is spent.
+// What showing gives beside the lists: the total's range, and whether the session is spent.
 #[derive(Clone, Copy)]
 pub struct Shown {
-    pub refusal: u8,
     pub lowest: i32,
     pub highest: i32,
     pub spent: bool,
@@ -88,8 +75,8 @@ pub struct Shown {
 const ZERO_LEVEL: u16 = limits::LEVEL_OFFSET as u16;
 
 // Beside a refusal stands a spent session of one day with all values 0.
-fn refused(number: u8) -> Opened
-    ensures { result ≡ refused_with number }
+fn refused(refusal: Refusal) -> Opened
+    ensures { opened_as result ≡ refused_with (refusal_number refusal) }
 {
     let mut floors = [0u16; MOST_DAYS];
     floors[0] = ZERO_LEVEL;
@@ -100,7 +87,7 @@ fn refused(number: u8) -> Opened
         highest: TOTAL_OFFSET,
     };
     Opened {
-        refusal: number,
+        refusal: Some(refusal),
         session: Session {
             days: 1,
             first: 0,
@@ -112,75 +99,60 @@ fn refused(number: u8) -> Opened
     }
 }
 
-// 1 for a bad day count, 2 for a list of the wrong length, else 0.
-fn length_refusal(days: usize, floors: usize, ceilings: usize, rises: usize) -> u8
-    ensures { result ≡ length_refusal days floors ceilings rises }
+// 1 for a bad day count, then 2 for a list of the wrong length.
+fn check_lengths(days: usize, floors: usize, ceilings: usize, rises: usize) -> Result<(), Refusal>
+    ensures { refusal_of result ≡ length_refusal days floors ceilings rises }
 {
     if days == 0 {
-        return 1;
+        return Err(Refusal::Count);
     }
     if Session::MOST_DAYS < days {
-        return 1;
+        return Err(Refusal::Count);
     }
     if floors != days {
-        return 2;
+        return Err(Refusal::Length);
     }
     if ceilings != days {
-        return 2;
+        return Err(Refusal::Length);
     }
     if rises != days - 1 {
-        return 2;
+        return Err(Refusal::Length);
     }
-    0
+    Ok(())
 }
 
-fn not_coded(number: u8) -> CodedProfile
-    ensures { result ≡ not_coded number }
+fn code_total(z: i32) -> Option<usize>
+    ensures { result ≡ coded lowest_total highest_total z }
 {
-    CodedProfile {
-        refusal: number,
-        numbers: CodedNumbers {
-            days: 0,
-            first: 0,
-            lowest: 0,
-            highest: 0,
-        },
-    }
+    base_codes::code(z, Session::LOWEST_TOTAL, Session::HIGHEST_TOTAL)
 }
 
-// 3, 4, then 5, from whether a point and a rise are outside their bounds, else a profile's numbers as codes.
-pub fn code_numbers(numbers: Numbers, bad_point: bool, bad_rise: bool) -> CodedProfile
-    ensures { result ≡ coded_with numbers bad_point bad_rise }
+// A profile's numbers as codes; 3, 4, then 5, from whether a point and a rise are outside their bounds.
+pub fn code_numbers(
+    numbers: Numbers,
+    bad_point: bool,
+    bad_rise: bool,
+) -> Result<CodedNumbers, Refusal>
+    ensures { coded_as result ≡ coded_with numbers bad_point bad_rise }
 {
     if bad_point {
-        return not_coded(3);
+        return Err(Refusal::Point);
     }
     if bad_rise {
-        return not_coded(4);
+        return Err(Refusal::Rise);
     }
-    let Coded::Code(lowest) = base_codes::code(
-        numbers.lowest,
-        Session::LOWEST_TOTAL,
-        Session::HIGHEST_TOTAL,
-    ) else {
-        return not_coded(5);
+    let Some(lowest) = code_total(numbers.lowest) else {
+        return Err(Refusal::Total);
     };
-    let Coded::Code(highest) = base_codes::code(
-        numbers.highest,
-        Session::LOWEST_TOTAL,
-        Session::HIGHEST_TOTAL,
-    ) else {
-        return not_coded(5);
+    let Some(highest) = code_total(numbers.highest) else {
+        return Err(Refusal::Total);
     };
-    CodedProfile {
-        refusal: 0,
-        numbers: CodedNumbers {
-            days: numbers.days,
-            first: numbers.first,
-            lowest,
-            highest,
-        },
-    }
+    Ok(CodedNumbers {
+        days: numbers.days,
+        first: numbers.first,
+        lowest,
+        highest,
+    })
 }
 
 // Codes a profile: document 01's checks 1 to 5. The arrays are written where 1 and 2 are passed.
@@ -192,16 +164,13 @@ fn code_profile(
     low: &mut [u16; MOST_DAYS],
     high: &mut [u16; MOST_DAYS],
     steps: &mut [u16; MOST_DAYS],
-) -> CodedProfile
-    ensures value { result ≡ coded_profile (profile numbers floors.now ceilings.now rises.now) }
+) -> Result<CodedNumbers, Refusal>
+    ensures value { coded_as result ≡ coded_profile (profile numbers floors.now ceilings.now rises.now) }
     ensures low_after { low.new ≡ coded_list (lengths_of (profile numbers floors.now ceilings.now rises.now)) lowest_point highest_point floors.now low.old }
     ensures high_after { high.new ≡ coded_list (lengths_of (profile numbers floors.now ceilings.now rises.now)) lowest_point highest_point ceilings.now high.old }
     ensures steps_after { steps.new ≡ coded_list (lengths_of (profile numbers floors.now ceilings.now rises.now)) lowest_rise highest_rise rises.now steps.old }
 {
-    let refusal = length_refusal(numbers.days, floors.len(), ceilings.len(), rises.len());
-    if refusal != 0 {
-        return not_coded(refusal);
-    }
+    check_lengths(numbers.days, floors.len(), ceilings.len(), rises.len())?;
     let bad_floor = code_all(floors, Session::LOWEST_POINT, Session::HIGHEST_POINT, low);
     let bad_ceiling = code_all(
         ceilings,
@@ -213,27 +182,17 @@ fn code_profile(
     code_numbers(numbers, bad_floor | bad_ceiling, bad_rise)
 }
 
-// 6 for a floor above its ceiling, of a day, which the caller tells, or of the total, 13 for a first counted day not in the profile, else 0.
-fn range_refusal(crossed: bool, numbers: CodedNumbers) -> u8
-    ensures { result ≡ range_refusal crossed numbers }
+// 6 for a floor above its ceiling, of a day, which the caller tells, or of the total, then 13 for a first counted day not in the profile.
+fn check_ranges(crossed: bool, numbers: CodedNumbers) -> Result<(), Refusal>
+    ensures { refusal_of result ≡ range_refusal crossed numbers }
 {
     if crossed | (numbers.highest < numbers.lowest) {
-        return 6;
+        return Err(Refusal::Crossed);
     }
     if numbers.first < numbers.days {
-        return 0;
+        return Ok(());
     }
-    13
-}
-
-fn no_ranges(number: u8) -> OpenedRanges
-    ensures { result ≡ record { refusal = number; lowest = 0; highest = 0 } }
-{
-    OpenedRanges {
-        refusal: number,
-        lowest: 0,
-        highest: 0,
-    }
+    Err(Refusal::FirstDay)
 }
 
 // Opens ranges that have passed the checks on lengths and bounds: 6 and 13, which leave them, then 8, which leaves them
@@ -244,23 +203,19 @@ pub fn open_ranges(
     rises: &[u16; MOST_DAYS],
     numbers: CodedNumbers,
     crossed: bool,
-) -> OpenedRanges
+) -> Result<TotalRange, Refusal>
     requires { InBounds (all_counted (boxed floors.old ceilings.old rises.now numbers)) × (crossed ≡ ltb (first_crossed (at floors.old) (at ceilings.old) numbers.days) numbers.days) }
-    ensures { record { refusal = result.refusal; floors = floors.new; ceilings = ceilings.new; lowest = result.lowest; highest = result.highest } ≡ ranges_opened (boxed floors.old ceilings.old rises.now numbers) }
+    ensures { ranges_as result floors.new ceilings.new ≡ ranges_opened (boxed floors.old ceilings.old rises.now numbers) }
 {
-    let refusal = range_refusal(crossed, numbers);
-    if refusal != 0 {
-        return no_ranges(refusal);
-    }
+    check_ranges(crossed, numbers)?;
     let t = tighten_filtering::tighten(floors, ceilings, rises, numbers);
     if t.found {
-        return OpenedRanges {
-            refusal: 0,
+        return Ok(TotalRange {
             lowest: t.lowest,
             highest: t.highest,
-        };
+        });
     }
-    no_ranges(8)
+    Err(Refusal::NoSchedule)
 }
 
 // Opens what has passed the checks on lengths and bounds: 6, 13, then 8.
@@ -271,23 +226,23 @@ fn open_codes(
     rises: [u16; MOST_DAYS],
 ) -> Opened
     requires { InBounds (all_counted (boxed floors ceilings rises numbers)) }
-    ensures { result ≡ opened_codes (boxed floors ceilings rises numbers) }
+    ensures { opened_as result ≡ opened_codes (boxed floors ceilings rises numbers) }
 {
     let mut low = floors;
     let mut high = ceilings;
     let crossed = tighten_carry::is_crossed(&low, &high, numbers.days);
-    let opened = open_ranges(&mut low, &mut high, &rises, numbers, crossed);
-    if opened.refusal != 0 {
-        return refused(opened.refusal);
-    }
+    let total = match open_ranges(&mut low, &mut high, &rises, numbers, crossed) {
+        Ok(total) => total,
+        Err(refusal) => return refused(refusal),
+    };
     let ranges = Ranges {
         floors: low,
         ceilings: high,
-        lowest: opened.lowest,
-        highest: opened.highest,
+        lowest: total.lowest,
+        highest: total.highest,
     };
     Opened {
-        refusal: 0,
+        refusal: None,
         session: Session {
             days: numbers.days,
             first: numbers.first,
@@ -299,32 +254,23 @@ fn open_codes(
     }
 }
 
-// The first of the checks 1 to 6 and 13 of opening that refuses, or 0.
-pub fn early_refusal(numbers: Numbers, floors: &[i16], ceilings: &[i16], rises: &[i16]) -> u8
-    ensures { result ≡ early_opening (profile numbers floors.now ceilings.now rises.now) }
+// The first of the checks 1 to 6 and 13 of opening that refuses.
+pub fn check_early(
+    numbers: Numbers,
+    floors: &[i16],
+    ceilings: &[i16],
+    rises: &[i16],
+) -> Result<(), Refusal>
+    ensures { refusal_of result ≡ early_opening (profile numbers floors.now ceilings.now rises.now) }
 {
     let mut low = [0u16; MOST_DAYS];
     let mut high = [0u16; MOST_DAYS];
     let mut steps = [0u16; MOST_DAYS];
     let coded = code_profile(
         numbers, floors, ceilings, rises, &mut low, &mut high, &mut steps,
-    );
-    if coded.refusal != 0 {
-        return coded.refusal;
-    }
-    let crossed = tighten_carry::is_crossed(&low, &high, coded.numbers.days);
-    range_refusal(crossed, coded.numbers)
-}
-
-fn too_short() -> Shown
-    ensures { result ≡ list_too_short }
-{
-    Shown {
-        refusal: 2,
-        lowest: 0,
-        highest: 0,
-        spent: false,
-    }
+    )?;
+    let crossed = tighten_carry::is_crossed(&low, &high, coded.days);
+    check_ranges(crossed, coded)
 }
 
 impl Session {
@@ -345,44 +291,42 @@ impl Session {
 
     // Opens a profile: the checks 1, 2, 3, 4, 5, 6, 13, then 8.
     pub fn open(numbers: Numbers, floors: &[i16], ceilings: &[i16], rises: &[i16]) -> Opened
-        ensures { result ≡ opened (profile numbers floors.now ceilings.now rises.now) }
+        ensures { opened_as result ≡ opened (profile numbers floors.now ceilings.now rises.now) }
     {
         let mut low = [0u16; MOST_DAYS];
         let mut high = [0u16; MOST_DAYS];
         let mut steps = [0u16; MOST_DAYS];
-        let coded = code_profile(
+        match code_profile(
             numbers, floors, ceilings, rises, &mut low, &mut high, &mut steps,
-        );
-        if coded.refusal != 0 {
-            return refused(coded.refusal);
+        ) {
+            Ok(coded) => open_codes(coded, low, high, steps),
+            Err(refusal) => refused(refusal),
         }
-        open_codes(coded.numbers, low, high, steps)
     }
 
     // Fills both lists with the present range of each day, or, where either is too short, neither (2).
-    pub fn show(self, floors: &mut [i16], ceilings: &mut [i16]) -> Shown
+    pub fn show(self, floors: &mut [i16], ceilings: &mut [i16]) -> Result<Shown, Refusal>
         requires { SessionInBounds self }
-        ensures value { result ≡ shown self (length floors.old) (length ceilings.old) }
-        ensures floors_after { floors.new ≡ lent_list result.refusal (floor_on self) self.days floors.old }
-        ensures ceilings_after { ceilings.new ≡ lent_list result.refusal (ceiling_on self) self.days ceilings.old }
+        ensures value { shown_as result ≡ shown self (length floors.old) (length ceilings.old) }
+        ensures floors_after { floors.new ≡ lent_list (refusal_of result) (floor_on self) self.days floors.old }
+        ensures ceilings_after { ceilings.new ≡ lent_list (refusal_of result) (ceiling_on self) self.days ceilings.old }
     {
         let n = self.days;
         if floors.len() < n {
-            return too_short();
+            return Err(Refusal::Length);
         }
         if ceilings.len() < n {
-            return too_short();
+            return Err(Refusal::Length);
         }
         let ranges = self.present;
         let low = ranges.floors;
         let high = ranges.ceilings;
         base_codes::decode_all(&low, n, Self::LOWEST_POINT, floors);
         base_codes::decode_all(&high, n, Self::LOWEST_POINT, ceilings);
-        Shown {
-            refusal: 0,
+        Ok(Shown {
             lowest: base_codes::decode(ranges.lowest, Self::LOWEST_TOTAL),
             highest: base_codes::decode(ranges.highest, Self::LOWEST_TOTAL),
             spent: self.spent,
-        }
+        })
     }
 }

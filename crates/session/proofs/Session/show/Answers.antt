@@ -8,10 +8,10 @@ use Rattle.session.proofs.Session.show.Goals as goal
 use Rattle.session.proofs.Session.show.Goals.{Else-ceilings-n}
 
 pub returns-then-floors-n : goal.returns-then-floors-n
-returns-then-floors-n c = let e = c.too_short.ensures in record { value = e ∙ first_short _ _ _ c.if-floors-n.true; floors_after = left _ _ _ e; ceilings_after = left _ _ _ e }
+returns-then-floors-n c = record { value = first_short _ _ _ c.if-floors-n.true; floors_after = left _ _ _ refl; ceilings_after = left _ _ _ refl }
 
 pub returns-then-ceilings-n : goal.returns-then-ceilings-n
-returns-then-ceilings-n c = let e = c.too_short-then-ceilings-n.ensures in record { value = e ∙ second_short _ _ _ c.if-ceilings-n.true; floors_after = left _ _ _ e; ceilings_after = left _ _ _ e }
+returns-then-ceilings-n c = record { value = second_short _ _ _ c.if-ceilings-n.true; floors_after = left _ _ _ refl; ceilings_after = left _ _ _ refl }
 
 pub decode_all-requires : goal.decode_all-requires
 decode_all-requires c = let p = c.requires.present in (refl, omega (arith, p.most), search rules, λ k h. omega (arith, p.floor k h))

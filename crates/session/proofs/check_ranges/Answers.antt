@@ -1,6 +1,6 @@
--- `range_refusal` meets its contract: a law of Stages for each return.
+-- `check_ranges` meets its contract: a law of Stages for each return.
 use Rattle.session.proofs.Stages.{said_6, said_none, said_13}
-use Rattle.session.proofs.range_refusal.Goals as goal
+use Rattle.session.proofs.check_ranges.Goals as goal
 
 pub returns-then-crossed-numbers : goal.returns-then-crossed-numbers
 returns-then-crossed-numbers c = let a = c.args in said_6 a.crossed a.numbers c.if-crossed-numbers.true

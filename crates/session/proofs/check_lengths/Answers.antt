@@ -1,8 +1,8 @@
--- `length_refusal` meets its contract: a law of Lengths for each return. That the day count has passed is said once.
+-- `check_lengths` meets its contract: a law of Lengths for each return. That the day count has passed is said once.
 use Rattle.session.proofs.Lengths.{Counted, no_days, many_days, floors_wrong, ceilings_wrong, rises_wrong, lengths_right}
 use native.Mathlib.Omega.{arith}
-use Rattle.session.proofs.length_refusal.Goals as goal
-use Rattle.session.proofs.length_refusal.Goals.{Else-days-gt-MOST_DAYS}
+use Rattle.session.proofs.check_lengths.Goals as goal
+use Rattle.session.proofs.check_lengths.Goals.{Else-days-gt-MOST_DAYS}
 
 pub returns-then-days-eq0 : goal.returns-then-days-eq0
 returns-then-days-eq0 c = no_days c.args.days _ c.if-days-eq0.true
