@@ -1,5 +1,5 @@
 -- Raising floors to a total over plain lists and numbers: what holds at the loop's head, and what starts, keeps and ends it.
-use Prim.Native.Nat.{ℕ, suc, ◌+◌, ◌-◌, ◌≤◌, ◌<◌, min, max}
+use Prim.Native.Nat.{ℕ, suc, ◌+◌, ◌-◌, ◌≤◌, ◌<◌, max}
 use mathlib.Core.Path.{◌≡◌, refl, ap, sym, ◌∙◌}
 use mathlib.Core.List.{List}
 use native.Mathlib.Omega.{arith}
@@ -16,11 +16,6 @@ use Rattle.schedule_raising.specs.declared.Raised.{Raised}
 -- ---- raise_day
 
 module _ (floor ceiling rise : ℕ) (next : Raised) where
-  pub day_is : {bound limit low level : ℕ} → bound ≡ next.level + 2000 - rise → limit ≡ min ceiling bound → low ≡ min (floor + next.rest) limit → level ≡ max floor low
-      → record { level = level; rest = floor + next.rest - level } ≡ raised_day floor ceiling rise next
-  unfolding raised_day
-  day_is b l m e = rw (e, m, l, b) refl
-
   day-level : (raised_day floor ceiling rise next).level ≤ max floor ceiling
   unfolding raised_day
   day-level = omega arith

@@ -27,6 +27,7 @@ fn most_before(next: usize, rise: usize) -> usize
 }
 
 // The level of the day before `next`, raised as far as the sum, the ceiling and the rise allow.
+#[tactic(auto, unfolding(crate::specs::Raising::raised_day))]
 fn raise_day(floor: usize, ceiling: usize, rise: usize, next: Raised) -> Raised
     requires { (floor ≤ highest_level) × (ceiling ≤ highest_level) × (rise ≤ highest_rise_code) × (next.level ≤ free_level) × (next.rest ≤ highest_total_code) }
     ensures { result ≡ raised_day floor ceiling rise next }
