@@ -10,24 +10,24 @@ use Rattle.tighten_passes.proofs.drop_last.Goals as goal
 use Rattle.tighten_passes.proofs.drop_last.Goals.{After-rise}
 
 -- the rise read is that of the days in view
-rises : (c : After-rise) → let a = c.args in c.rise.result ≡ at (viewed_rises a.back a.rises.now a.n a.days) (a.w.past - 1 - 1)
-rises c =
+rises : (g : _) (c : After-rise g) → let a = c.args in c.rise.result ≡ at (viewed_rises g.E.End.back a.rises.now a.n a.days) (a.w.past - 1 - 1)
+rises g c =
     let a = c.args in
-    rise_seen a.back a.rises.now a.n a.days (a.w.past - 1 - 1) c.requires.sight.carried.most (omega (arith, c.requires.sticking.more, c.requires.sticking.window.span.inside)) c.rise.ensures.0
+    rise_seen g.E.End.back a.rises.now a.n a.days (a.w.past - 1 - 1) c.requires.sight.carried.most (omega (arith, c.requires.sticking.more, c.requires.sticking.window.span.inside)) c.rise.ensures.0
 
 pub shift_before-end-requires : goal.shift_before-end-requires
-shift_before-end-requires c =
+shift_before-end-requires g c =
     (end_most c.requires.sight.carried c.requires.sticking, c.rise.ensures.1, omega (arith, end_least c.requires.sight.carried c.requires.sticking))
 
 pub level-requires : goal.level-requires
-level-requires c = (search rules, search rules, c.requires.sight.small)
+level-requires g c = (search rules, search rules, c.requires.sight.small)
 
 pub overflow_add-top : goal.overflow_add-top
-overflow_add-top c =
-    omega (arith, end_most c.requires.sight.carried c.requires.sticking, c.level.ensures.1, c.shift_before-end.ensures, c.rise.ensures.1)
+overflow_add-top g c =
+    omega (arith, end_most c.requires.sight.carried c.requires.sticking, c.level.ensures.1, c.shift_before-end.ensures.0, c.rise.ensures.1)
 
 pub overflow_sub-result-2 : goal.overflow_sub-result-2
-overflow_sub-result-2 c = top_fits c.requires.sight.carried c.requires.sticking
+overflow_sub-result-2 g c = top_fits c.requires.sight.carried c.requires.sticking
 
 pub returns : goal.returns
-returns c = record { v_value = (refl, omega (arith, c.requires.sticking.more)); fact = dropped c.requires.sight.carried c.requires.sticking (rises (goal.at.returns c).After-rise) c.shift_before-end.ensures c.level.ensures.0 }
+returns g c = record { v_value = (refl, omega (arith, c.requires.sticking.more)); fact = dropped c.requires.sight.carried c.requires.sticking (rises g (goal.at.returns g c).After-rise) c.shift_before-end.ensures.0 c.level.ensures.0 }

@@ -7,34 +7,34 @@ use Rattle.tighten_passes.proofs.lower.Goals as goal
 use Rattle.tighten_passes.proofs.lower.Goals.{In-loop-at}
 
 -- a turn's level is over the margin
-above : (c : In-loop-at) → let at = c.loop-at.at in at.room < at.count * at.v
-above c = let at = c.loop-at.at in ltb-true at.room (at.count * at.v) (rw c.is_over.ensures at c.loop-at-test.true)
+above : (g : _) (c : In-loop-at g) → let at = c.loop-at.at in at.room < at.count * at.v
+above g c = let at = c.loop-at.at in ltb-true at.room (at.count * at.v) (rw c.is_over.ensures at c.loop-at-test.true)
 
 pub settle-at-requires : goal.settle-at-requires
-settle-at-requires c = record { sight = c.requires.sight; fact = c.requires.fact }
+settle-at-requires g c = record { sight = c.requires.sight; fact = c.requires.fact }
 
 pub loop-at-init : goal.loop-at-init
-loop-at-init c =
+loop-at-init g c =
     let e = c.settle-at.ensures in
     stand_start (refl, rw e.0 e.1) (omega (arith, e.0, c.requires.v_le_highest_shifted.1))
 
 pub is_over-requires : goal.is_over-requires
-is_over-requires c =
+is_over-requires g c =
     (found_few c.requires.sight.carried c.loop-at.invariant.window, omega (arith, c.loop-at.invariant.fits, c.settle-at.ensures.0, c.requires.v_le_highest_shifted.0))
 
 pub round-at-requires : goal.round-at-requires
-round-at-requires c = record { sight = c.requires.sight; overloaded = stand_over c.requires.sight.carried c.loop-at.invariant (above (goal.at.round-at-requires c).In-loop-at) }
+round-at-requires g c = record { sight = c.requires.sight; overloaded = stand_over c.requires.sight.carried c.loop-at.invariant (above g (goal.at.round-at-requires g c).In-loop-at) }
 
 pub loop-at-smaller : goal.loop-at-smaller
-loop-at-smaller c =
-    stand_less c.requires.sight.carried c.loop-at.invariant (above (goal.at.loop-at-smaller c).In-loop-at) c.round-at.ensures
+loop-at-smaller g c =
+    stand_less c.requires.sight.carried c.loop-at.invariant (above g (goal.at.loop-at-smaller g c).In-loop-at) c.round-at.ensures
 
 pub loop-at-preserved : goal.loop-at-preserved
-loop-at-preserved c =
-    stand_turn c.requires.sight.carried c.loop-at.invariant (above (goal.at.loop-at-preserved c).In-loop-at) c.round-at.ensures
+loop-at-preserved g c =
+    stand_turn c.requires.sight.carried c.loop-at.invariant (above g (goal.at.loop-at-preserved g c).In-loop-at) c.round-at.ensures
 
 pub returns : goal.returns
-returns c =
+returns g c =
     let at = c.loop-at.at in
     let within = ltb-false at.room (at.count * at.v) (rw c.is_over.ensures at c.loop-at-test.false) in
     stand_done c.requires.sight.carried c.loop-at.invariant c.settle-at.ensures.0 within

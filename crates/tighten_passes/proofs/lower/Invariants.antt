@@ -4,8 +4,8 @@ use Rattle.tighten_passes.proofs.Laws.{Stand}
 use Rattle.tighten_passes.proofs.lower.Given as goal
 
 abbrev pub invariant-loop-at : goal.invariant-loop-at
-invariant-loop-at l =
-    Stand (viewed l.back l.floors l.n) (viewed_rises l.back l.rises l.n l.days) l.days l.i l.margin l.initial.at.v l.at.v l.at.past l.at.count l.at.room l.at.top l.at.end
+invariant-loop-at g l =
+    Stand (viewed g.E.End.back l.floors l.n) (viewed_rises g.E.End.back l.rises l.n l.days) l.days l.i l.margin l.initial.at.v l.at.v l.at.past l.at.count l.at.room l.at.top l.at.end
 
 abbrev pub decreases-loop-at : goal.decreases-loop-at
-decreases-loop-at l = l.at.v
+decreases-loop-at g l = l.at.v

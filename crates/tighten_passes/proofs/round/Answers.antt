@@ -4,12 +4,12 @@ use Rattle.tighten_passes.proofs.Laws.{round_even, top_open, round_top}
 use Rattle.tighten_passes.proofs.round.Goals as goal
 
 pub returns-then-w-even : goal.returns-then-w-even
-returns-then-w-even c = rw c.lowered_to.ensures (round_even c.requires.sight.carried c.requires.overloaded refl c.if-w-even.true)
+returns-then-w-even g c = rw c.lowered_to.ensures (round_even c.requires.sight.carried c.requires.overloaded refl c.if-w-even.true)
 
 pub settle-requires : goal.settle-requires
-settle-requires c =
+settle-requires g c =
     record { sight = c.requires.sight; fact = rw c.lowered_to-2.ensures (top_open c.requires.sight.carried c.requires.overloaded refl c.if-w-even.false) }
 
 pub returns : goal.returns
-returns c =
+returns g c =
     round_top c.requires.sight.carried c.requires.overloaded refl c.if-w-even.false (rw c.lowered_to-2.ensures at c.settle.ensures)
