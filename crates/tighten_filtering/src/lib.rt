@@ -7,7 +7,6 @@ ghost use Rattle.tighten_filtering.specs.Boxed.{boxed};
 
 use base_arrays::held_total;
 use base_codes::CodedNumbers;
-use base_numbers::{max, min};
 use limits::MOST_DAYS;
 use tighten_carry::carry;
 use tighten_passes::{lower_ceilings, raise_floors};
@@ -53,8 +52,8 @@ pub fn tighten(
     }
     lower_ceilings(floors, ceilings, rises, n, first, (highest - bottom) as u32);
     let top = held_total(ceilings, n, first);
-    let low = max(numbers.lowest, bottom);
-    let high = min(highest, top);
+    let low = numbers.lowest.max(bottom);
+    let high = highest.min(top);
     if high < low {
         return none();
     }
