@@ -93,21 +93,6 @@ struct Window {
 }
 
 impl Window {
-    // Before the last day, whose shift is `end`: its levels, shifted, and no day yet.
-    fn start(ceiling: u32, floor: u32, end: u32, n: u32, margin: u32) -> Window
-        requires { (ceiling < 65536) × (floor < 65536) × (end ≤ highest_shift) }
-        ensures { result ≡ record { v = ceiling + end; past = n; count = 0; room = margin; top = floor + end; end = end } }
-    {
-        Window {
-            v: ceiling + end,
-            past: n,
-            count: 0,
-            room: margin,
-            top: floor + end,
-            end,
-        }
-    }
-
     // With a day in front, whose shifted ceiling and floor are given.
     fn entered(self, ceiling: u32, floor: u32) -> Window
         requires { (self.count < most_days) × (self.room + floor ≤ highest_room) }
@@ -162,121 +147,106 @@ impl Window {
     }
 }
 
-// Drops the window's last day. Here and below the margin and the days of the pass are for the contracts alone.
-fn drop_last<E: End>(
-    floors: &[u16; MOST_DAYS],
-    rises: &[u16; MOST_DAYS],
+// What a pass reads: the floors and rises of n days, of which `days` count, and the margin.
+#[derive(Clone, Copy)]
+struct Pass<'a> {
+    floors: &'a [u16; MOST_DAYS],
+    rises: &'a [u16; MOST_DAYS],
     n: usize,
     days: usize,
-    i: usize,
     margin: u32,
-    w: Window,
-) -> Window
-    requires sight { Sight E.back floors.now rises.now n days }
-    requires sticking { Sticking (viewed E.back floors.now n) (viewed_rises E.back rises.now n days) days i margin w.v w.past w.count w.room w.top w.end }
-    ensures v_value { (result.v ≡ w.v) × (result.past < w.past) }
-    ensures fact { Open (viewed E.back floors.now n) (viewed_rises E.back rises.now n days) days i margin w.v result.past result.count result.room result.top result.end }
-{
-    let past = w.past - 1;
-    let last = past as usize - 1;
-    let end = shift_before(w.end, E::rise(rises, n, last));
-    let top = E::level(floors, n, last) + end;
-    Window {
-        v: w.v,
-        past,
-        count: w.count - 1,
-        room: w.room - w.top,
-        top,
-        end,
-    }
 }
 
-// The level with its window, from a window that may be too long.
-fn settle<E: End>(
-    floors: &[u16; MOST_DAYS],
-    rises: &[u16; MOST_DAYS],
-    n: usize,
-    days: usize,
-    i: usize,
-    margin: u32,
-    w: Window,
-) -> Window
-    requires sight { Sight E.back floors.now rises.now n days }
-    requires fact { Open (viewed E.back floors.now n) (viewed_rises E.back rises.now n days) days i margin w.v w.past w.count w.room w.top w.end }
-    ensures { (result.v ≡ w.v) × Found (viewed E.back floors.now n) (viewed_rises E.back rises.now n days) days i margin w.v result.past result.count result.room result.top result.end }
-{
-    let mut at = w;
-    while at.sticks(i) {
-        at = drop_last::<E>(floors, rises, n, days, i, margin, at);
+impl Pass<'_> {
+    // Before the last day, whose shift is `end`: its levels, shifted, and no day yet.
+    fn start(&self, ceiling: u32, floor: u32, end: u32) -> Window
+        requires { (ceiling < 65536) × (floor < 65536) × (end ≤ highest_shift) × (self.now.days ≤ most_days) }
+        ensures { result ≡ record { v = ceiling + end; past = self.now.days; count = 0; room = self.now.margin; top = floor + end; end = end } }
+    {
+        Window {
+            v: ceiling + end,
+            past: self.days as u32,
+            count: 0,
+            room: self.margin,
+            top: floor + end,
+            end,
+        }
     }
-    at
-}
 
-// One round for day i: the level falls to what the room has for each day of the window, or to the floor of the last if that is more, and its window is
-// found again.
-fn round<E: End>(
-    floors: &[u16; MOST_DAYS],
-    rises: &[u16; MOST_DAYS],
-    n: usize,
-    days: usize,
-    i: usize,
-    margin: u32,
-    w: Window,
-) -> Window
-    requires sight { Sight E.back floors.now rises.now n days }
-    requires overloaded { Overloaded (viewed E.back floors.now n) (viewed_rises E.back rises.now n days) days i margin w.v w.past w.count w.room w.top w.end }
-    ensures { Rounded (viewed E.back floors.now n) (viewed_rises E.back rises.now n days) days i margin w.v result.v result.past result.count result.room result.top result.end }
-{
-    let even = w.room / w.count;
-    if w.top < even {
-        return w.lowered_to(even);
+    // Drops the window's last day.
+    fn drop_last<E: End>(&self, i: usize, w: Window) -> Window
+        requires sight { let p = self.now in Sight E.back p.floors.now p.rises.now p.n p.days }
+        requires sticking { let p = self.now in Sticking (viewed E.back p.floors.now p.n) (viewed_rises E.back p.rises.now p.n p.days) p.days i p.margin w.v w.past w.count w.room w.top w.end }
+        ensures v_value { (result.v ≡ w.v) × (result.past < w.past) }
+        ensures fact { let p = self.now in Open (viewed E.back p.floors.now p.n) (viewed_rises E.back p.rises.now p.n p.days) p.days i p.margin w.v result.past result.count result.room result.top result.end }
+    {
+        let past = w.past - 1;
+        let last = past as usize - 1;
+        let end = shift_before(w.end, E::rise(self.rises, self.n, last));
+        let top = E::level(self.floors, self.n, last) + end;
+        Window {
+            v: w.v,
+            past,
+            count: w.count - 1,
+            room: w.room - w.top,
+            top,
+            end,
+        }
     }
-    settle::<E>(floors, rises, n, days, i, margin, w.lowered_to(w.top))
-}
 
-// Lowers day i's shifted ceiling by rounds until it is within the margin.
-fn lower<E: End>(
-    floors: &[u16; MOST_DAYS],
-    rises: &[u16; MOST_DAYS],
-    n: usize,
-    days: usize,
-    i: usize,
-    margin: u32,
-    w: Window,
-) -> Window
-    requires sight { Sight E.back floors.now rises.now n days }
-    requires fact { Open (viewed E.back floors.now n) (viewed_rises E.back rises.now n days) days i margin w.v w.past w.count w.room w.top w.end }
-    requires v_le_highest_shifted { (w.v ≤ highest_shifted) × (shifted (viewed E.back floors.now n) (viewed_rises E.back rises.now n days) days i ≤ w.v) }
-    ensures { Lowest (viewed E.back floors.now n) (viewed_rises E.back rises.now n days) days i margin w.v result.v result.past result.count result.room result.top result.end }
-{
-    let mut at = settle::<E>(floors, rises, n, days, i, margin, w);
-    while at.is_over() {
-        at = round::<E>(floors, rises, n, days, i, margin, at);
+    // The level with its window, from a window that may be too long.
+    fn settle<E: End>(&self, i: usize, w: Window) -> Window
+        requires sight { let p = self.now in Sight E.back p.floors.now p.rises.now p.n p.days }
+        requires fact { let p = self.now in Open (viewed E.back p.floors.now p.n) (viewed_rises E.back p.rises.now p.n p.days) p.days i p.margin w.v w.past w.count w.room w.top w.end }
+        ensures { let p = self.now in (result.v ≡ w.v) × Found (viewed E.back p.floors.now p.n) (viewed_rises E.back p.rises.now p.n p.days) p.days i p.margin w.v result.past result.count result.room result.top result.end }
+    {
+        let mut at = w;
+        while at.sticks(i) {
+            at = self.drop_last::<E>(i, at);
+        }
+        at
     }
-    at
-}
 
-// Lowers the ceiling of day i after that of the next day. Most days fit as they are.
-fn lower_day<E: End>(
-    floors: &[u16; MOST_DAYS],
-    rises: &[u16; MOST_DAYS],
-    n: usize,
-    days: usize,
-    i: usize,
-    margin: u32,
-    ceiling: u32,
-    floor: u32,
-    next: Window,
-) -> Window
-    requires sight { Sight E.back floors.now rises.now n days }
-    requires entering { Entering (viewed E.back floors.now n) (viewed_rises E.back rises.now n days) days i margin ceiling floor next.v next.past next.count next.room next.top next.end }
-    ensures { Lowest (viewed E.back floors.now n) (viewed_rises E.back rises.now n days) days i margin (min next.v ceiling) result.v result.past result.count result.room result.top result.end }
-{
-    let w = next.entered(ceiling, floor);
-    if w.fits() {
-        return w;
+    // One round for day i: the level falls to what the room has for each day of the window, or to the floor of the last if that is more, and its window is
+    // found again.
+    fn round<E: End>(&self, i: usize, w: Window) -> Window
+        requires sight { let p = self.now in Sight E.back p.floors.now p.rises.now p.n p.days }
+        requires overloaded { let p = self.now in Overloaded (viewed E.back p.floors.now p.n) (viewed_rises E.back p.rises.now p.n p.days) p.days i p.margin w.v w.past w.count w.room w.top w.end }
+        ensures { let p = self.now in Rounded (viewed E.back p.floors.now p.n) (viewed_rises E.back p.rises.now p.n p.days) p.days i p.margin w.v result.v result.past result.count result.room result.top result.end }
+    {
+        let even = w.room / w.count;
+        if w.top < even {
+            return w.lowered_to(even);
+        }
+        self.settle::<E>(i, w.lowered_to(w.top))
     }
-    lower::<E>(floors, rises, n, days, i, margin, w)
+
+    // Lowers day i's shifted ceiling by rounds until it is within the margin.
+    fn lower<E: End>(&self, i: usize, w: Window) -> Window
+        requires sight { let p = self.now in Sight E.back p.floors.now p.rises.now p.n p.days }
+        requires fact { let p = self.now in Open (viewed E.back p.floors.now p.n) (viewed_rises E.back p.rises.now p.n p.days) p.days i p.margin w.v w.past w.count w.room w.top w.end }
+        requires v_le_highest_shifted { let p = self.now in (w.v ≤ highest_shifted) × (shifted (viewed E.back p.floors.now p.n) (viewed_rises E.back p.rises.now p.n p.days) p.days i ≤ w.v) }
+        ensures { let p = self.now in Lowest (viewed E.back p.floors.now p.n) (viewed_rises E.back p.rises.now p.n p.days) p.days i p.margin w.v result.v result.past result.count result.room result.top result.end }
+    {
+        let mut at = self.settle::<E>(i, w);
+        while at.is_over() {
+            at = self.round::<E>(i, at);
+        }
+        at
+    }
+
+    // Lowers the ceiling of day i after that of the next day. Most days fit as they are.
+    fn lower_day<E: End>(&self, i: usize, ceiling: u32, floor: u32, next: Window) -> Window
+        requires sight { let p = self.now in Sight E.back p.floors.now p.rises.now p.n p.days }
+        requires entering { let p = self.now in Entering (viewed E.back p.floors.now p.n) (viewed_rises E.back p.rises.now p.n p.days) p.days i p.margin ceiling floor next.v next.past next.count next.room next.top next.end }
+        ensures { let p = self.now in Lowest (viewed E.back p.floors.now p.n) (viewed_rises E.back p.rises.now p.n p.days) p.days i p.margin (min next.v ceiling) result.v result.past result.count result.room result.top result.end }
+    {
+        let w = next.entered(ceiling, floor);
+        if w.fits() {
+            return w;
+        }
+        self.lower::<E>(i, w)
+    }
 }
 
 // ---- all days
@@ -294,21 +264,26 @@ pub fn lower_ceilings(
     requires { Ready floors.now ceilings.old rises.now n × (first < n) × (margin ≤ highest_held) }
     ensures { ceilings.new ≡ written (lowered floors.now ceilings.old rises.now n (counted first n) margin) n ceilings.old }
 {
+    let pass = Pass {
+        floors,
+        rises,
+        n,
+        days: n,
+        margin,
+    };
     let last = n - 1;
     let mut here = LAST_SHIFT as u32;
-    let mut day = Window::start(
+    let mut day = pass.start(
         ceilings[last] as u32,
         floors[last] as u32,
         shift_before(here, rises[last] as u32),
-        n as u32,
-        margin,
     );
     for i in (first as u32..n as u32).rev() {
         let k = i as usize;
         here = shift_before(here, rises[k] as u32);
         let ceiling = ceilings[k] as u32 + here;
         let floor = floors[k] as u32 + here;
-        day = lower_day::<FromFirst>(floors, rises, n, n, k, margin, ceiling, floor, day);
+        day = pass.lower_day::<FromFirst>(k, ceiling, floor, day);
         ceilings[k] = day.shown(here);
     }
     carry_back(ceilings, rises, first);
@@ -327,32 +302,26 @@ pub fn raise_floors(
     requires { FloorsReady floors.old ceilings.now rises.now n × (first < n) × (margin ≤ highest_held) }
     ensures { floors.new ≡ raised floors.old ceilings.now rises.now n first margin }
 {
-    let days = n - first;
+    let pass = Pass {
+        floors: ceilings,
+        rises,
+        n,
+        days: n - first,
+        margin,
+    };
     let mut here = LAST_SHIFT as u32;
     let mut rise = 0u32;
-    let mut day = Window::start(
+    let mut day = pass.start(
         mirror_level(floors[first]),
         mirror_level(ceilings[first]),
         shift_before(here, rise),
-        days as u32,
-        margin,
     );
     for i in first as u32..n as u32 {
         let k = i as usize;
         here = shift_before(here, rise);
         let ceiling = mirror_level(floors[k]) + here;
         let floor = mirror_level(ceilings[k]) + here;
-        day = lower_day::<FromLast>(
-            ceilings,
-            rises,
-            n,
-            days,
-            n - (k + 1),
-            margin,
-            ceiling,
-            floor,
-            day,
-        );
+        day = pass.lower_day::<FromLast>(n - (k + 1), ceiling, floor, day);
         floors[k] = mirror_level(day.shown(here)) as u16;
         rise = rises[k] as u32;
     }
