@@ -8,7 +8,6 @@ ghost use Rattle.theory_chains.specs.Sum.{sum};
 ghost use Rattle.theory_method.specs.Counted.{counted};
 ghost use Rattle.theory_method.specs.Filter.{held};
 
-use base_numbers::word;
 use limits::{LEVEL_OFFSET, MOST_DAYS};
 
 // The sum of a list of levels. 32 bits hold it.
@@ -17,11 +16,8 @@ pub fn sum(levels: &[u16]) -> usize
     ensures { (result ≡ sum_for (at levels.now) 0 (length levels.now)) × (result ≤ length levels.now * 65535) }
 {
     let mut total = 0u32;
-    let mut count = 0u32;
-    let end = levels.len() as u32;
-    while count < end {
-        total += word(levels[count as usize]);
-        count += 1;
+    for level in levels {
+        total += *level as u32;
     }
     total as usize
 }
@@ -31,11 +27,11 @@ pub fn counted_sum(levels: &[u16; MOST_DAYS], n: usize, first: usize) -> usize
     requires { (first ≤ n) × (n ≤ most_days) }
     ensures { (result ≡ sum (counted first n) n (at levels.now)) × (result ≤ most_days * 65535) }
 {
-    let days = &levels[..];
-    sum(&days[first..n])
+    sum(&levels[first..n])
 }
 
 // The same as a total is held.
+#[tactic(auto, unfolding(theory_method::specs::Filter::spare))]
 pub fn held_total(levels: &[u16; MOST_DAYS], n: usize, first: usize) -> usize
     requires { (first ≤ n) × (n ≤ most_days) }
     ensures { (result ≡ held n first (at levels.now)) × (result ≤ highest_held) }

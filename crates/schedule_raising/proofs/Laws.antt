@@ -1,5 +1,5 @@
 -- Raising floors to a total over plain lists and numbers: what holds at the loop's head, and what starts, keeps and ends it.
-use Prim.Native.Nat.{ℕ, suc, ◌+◌, ◌-◌, ◌≤◌, ◌<◌, min, max}
+use Prim.Native.Nat.{ℕ, suc, ◌+◌, ◌-◌, ◌≤◌, ◌<◌, max}
 use mathlib.Core.Path.{◌≡◌, refl, ap, sym, ◌∙◌}
 use mathlib.Core.List.{List}
 use native.Mathlib.Omega.{arith}
@@ -16,11 +16,6 @@ use Rattle.schedule_raising.specs.declared.Raised.{Raised}
 -- ---- raise_day
 
 module _ (floor ceiling rise : ℕ) (next : Raised) where
-  pub day_is : {bound limit low level : ℕ} → bound ≡ next.level + 2000 - rise → limit ≡ min ceiling bound → low ≡ min (floor + next.rest) limit → level ≡ max floor low
-      → record { level = level; rest = floor + next.rest - level } ≡ raised_day floor ceiling rise next
-  unfolding raised_day
-  day_is b l m e = rw (e, m, l, b) refl
-
   day-level : (raised_day floor ceiling rise next).level ≤ max floor ceiling
   unfolding raised_day
   day-level = omega arith
@@ -85,52 +80,38 @@ module _ {fs cs rs : List ℕ} {n rest : ℕ} where
           (λ _. sym (ap (λ o. at o j) p.made ∙ last-before _ 0 n (n - k) fs j (omega (arith, p.most))))
           (λ v. absurd (omega arith))
 
--- a turn reads the floor x, the ceiling y and the rise z of the day before
-pub record Reading (fs cs rs : List ℕ) (n first rest L U : ℕ) (out : List ℕ) (day : Raised) (k x y z : ℕ) : Type 0 where
-  pub bounds : InBounds (box fs cs rs n first L U)
-  pub head : Raising fs cs rs n rest out day k
-  pub more : first < k
-  pub floor : x ≡ at out (k - 1)
-  pub ceiling : y ≡ at cs (k - 1)
-  pub rise : z ≡ at rs (k - 1)
-
-module _ {fs cs rs : List ℕ} {n first rest L U : ℕ} {out : List ℕ} {day : Raised} {k x y z : ℕ} (d : Reading fs cs rs n first rest L U out day k x y z) where
+-- a turn reads the day before k, and finds day'
+module _ {fs cs rs : List ℕ} {n first rest L U : ℕ} {out : List ℕ} {day : Raised} {k : ℕ} (b : InBounds (box fs cs rs n first L U))
+    (p : Raising fs cs rs n rest out day k) (more : first < k) where
   abbrev before_last : k - 1 < n
-  before_last = omega (arith, d.more, d.head.most)
+  before_last = omega (arith, p.most)
 
-  floor : x ≡ at fs (k - 1)
-  floor = d.floor ∙ ap (λ l. at l (k - 1)) d.head.made ∙ last-before _ 0 n (n - k) fs (k - 1) (omega (arith, d.more, d.head.most))
+  floor : at out (k - 1) ≡ at fs (k - 1)
+  floor = ap (λ l. at l (k - 1)) p.made ∙ last-before _ 0 n (n - k) fs (k - 1) (omega (arith, p.most))
 
-  pub raising_asks : (x ≤ 5000) × (y ≤ 5000) × (z ≤ 4000) × (day.level ≤ 7000) × (day.rest ≤ 2560000)
-  raising_asks = (
-    omega (arith, floor, d.bounds.floor (k - 1) before_last),
-    omega (arith, d.ceiling, d.bounds.ceiling (k - 1) before_last),
-    omega (arith, d.rise, d.bounds.rise (k - 1) before_last),
-    d.head.level,
-    d.head.left,
-  )
+  pub raising_asks : (at out (k - 1) ≤ 5000) × (at cs (k - 1) ≤ 5000) × (at rs (k - 1) ≤ 4000) × (day.level ≤ 7000) × (day.rest ≤ 2560000)
+  raising_asks = (omega (arith, floor, b.floor (k - 1) before_last), b.ceiling (k - 1) before_last, b.rise (k - 1) before_last, p.level, p.left)
 
-  module _ {day' : Raised} (e : day' ≡ raised_day x y z day) where
+  module _ {day' : Raised} (e : day' ≡ raised_day (at out (k - 1)) (at cs (k - 1)) (at rs (k - 1)) day) where
     pub raising_level : day'.level ≤ 5000
-    raising_level = rw e (omega (arith, day-level x y z day, raising_asks.0, raising_asks.1))
+    raising_level = rw e (omega (arith, day-level (at out (k - 1)) (at cs (k - 1)) (at rs (k - 1)) day, raising_asks.0, raising_asks.1))
 
-    pub raising_turn : {w : ℕ} → w ≡ day'.level → Raising fs cs rs n rest (set out (k - 1) w) day' (k - 1)
-    raising_turn {w} ew =
-        let p = d.head in
-        let h = d.more in
+    pub raising_turn : Raising fs cs rs n rest (set out (k - 1) day'.level) day' (k - 1)
+    raising_turn =
         let q : n - k + 1 ≡ n - (k - 1) = omega (arith, p.most) in
         let r : n - (n - (k - 1)) ≡ k - 1 = omega (arith, p.most) in
         let t : k - 1 + 1 ≡ k = omega arith in
-        let more : raised_from fs cs rs n rest (n - (k - 1)) ≡ raised_day (at fs (k - 1)) (at cs (k - 1)) (at rs (k - 1)) (raised_from fs cs rs n rest (n - k)) =
+        let next : raised_from fs cs rs n rest (n - (k - 1)) ≡ raised_day (at fs (k - 1)) (at cs (k - 1)) (at rs (k - 1)) (raised_from fs cs rs n rest (n - k)) =
         rw t at (raised_at fs cs rs n rest (k - 1) (omega (arith, p.most))) in
-        let here : day' ≡ raised_from fs cs rs n rest (n - (k - 1)) = e ∙ rw (floor, d.ceiling, d.rise, p.same) (sym more) in
-        let stored : w ≡ (raised_from fs cs rs n rest (n - k + 1)).level = rw q (ew ∙ ap (λ d. d.level) here) in
+        let here : day' ≡ raised_from fs cs rs n rest (n - (k - 1)) = e ∙ rw (floor, p.same) (sym next) in
+        let stored : day'.level ≡ (raised_from fs cs rs n rest (n - k + 1)).level = rw q (ap (λ d. d.level) here) in
         record {
           most = omega (arith, p.most);
-          made = ap (λ l. set l (k - 1) w) p.made ∙ (rw (q, r) at (last_more (λ m. (raised_from fs cs rs n rest m).level) n (n - k) fs w stored));
+          made = ap (λ l. set l (k - 1) day'.level) p.made
+              ∙ (rw (q, r) at (last_more (λ m. (raised_from fs cs rs n rest m).level) n (n - k) fs day'.level stored));
           same = here;
           level = omega (arith, raising_level);
-          left = rw e (omega (arith, day-rest x y z day, p.left));
+          left = rw e (omega (arith, day-rest (at out (k - 1)) (at cs (k - 1)) (at rs (k - 1)) day, p.left));
         }
 
 -- ---- the raised levels, as they stand in an array

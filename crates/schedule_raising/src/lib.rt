@@ -8,7 +8,7 @@ ghost use Rattle.theory_lists.specs.Written.{written};
 ghost use Rattle.theory_method.specs.Filter.{box, InBounds, held};
 ghost use Rattle.schedule_raising.specs.Raising.{raised_day, raised_to};
 
-use base_numbers::{max, min, narrow, wide};
+use base_arrays::held_total;
 use limits::{FREE_LEVEL, MOST_DAYS, RISE_OFFSET};
 
 // A day's level, and what the sum still lacks.
@@ -23,38 +23,22 @@ fn most_before(next: usize, rise: usize) -> usize
     requires { (next ≤ free_level) × (rise ≤ highest_rise_code) }
     ensures { result ≡ next + rise_offset - rise }
 {
-    let up = next + RISE_OFFSET;
-    if up < rise { 0 } else { up - rise }
+    (next + RISE_OFFSET).saturating_sub(rise)
 }
 
 // The level of the day before `next`, raised as far as the sum, the ceiling and the rise allow.
+#[tactic(auto, unfolding(crate::specs::Raising::raised_day))]
 fn raise_day(floor: usize, ceiling: usize, rise: usize, next: Raised) -> Raised
     requires { (floor ≤ highest_level) × (ceiling ≤ highest_level) × (rise ≤ highest_rise_code) × (next.level ≤ free_level) × (next.rest ≤ highest_total_code) }
     ensures { result ≡ raised_day floor ceiling rise next }
 {
     let most = floor + next.rest;
-    let limit = min(ceiling, most_before(next.level, rise));
-    let level = max(floor, min(most, limit));
+    let limit = ceiling.min(most_before(next.level, rise));
+    let level = floor.max(most.min(limit));
     Raised {
         level,
         rest: most - level,
     }
-}
-
-fn level_of(day: Raised) -> u16
-    requires { day.level ≤ highest_level }
-    ensures { result ≡ day.level }
-{
-    narrow(day.level)
-}
-
-// What the floors' sum lacks of the total, or 0.
-fn lack(floors: &[u16; MOST_DAYS], n: usize, first: usize, total: usize) -> usize
-    requires { (first ≤ n) × (n ≤ most_days) }
-    ensures { (result ≡ total - held n first (at floors.now)) × (result ≤ total) }
-{
-    let sum = base_arrays::held_total(floors, n, first);
-    if total < sum { 0 } else { total - sum }
 }
 
 // Raises the floors of the counted days, from the last day on, until their sum is the total.
@@ -71,12 +55,15 @@ pub fn raise_to(
 {
     let mut day = Raised {
         level: FREE_LEVEL,
-        rest: lack(floors, n, first, total),
+        rest: total.saturating_sub(held_total(floors, n, first)),
     };
-    let mut k = n;
-    while first < k {
-        k -= 1;
-        day = raise_day(wide(floors[k]), wide(ceilings[k]), wide(rises[k]), day);
-        floors[k] = level_of(day);
+    for k in (first..n).rev() {
+        day = raise_day(
+            floors[k] as usize,
+            ceilings[k] as usize,
+            rises[k] as usize,
+            day,
+        );
+        floors[k] = day.level as u16;
     }
 }

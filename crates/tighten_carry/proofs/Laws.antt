@@ -1,7 +1,6 @@
 -- The loops over plain lists and numbers: a record of what holds at each loop's head, what starts it, what a turn does, and each way out.
 use Prim.Native.Nat.{ℕ, suc, ◌+◌, ◌-◌, ◌≤◌, ◌<◌, min, max}
 use mathlib.Core.Path.{◌≡◌, refl, ap, sym, ◌∙◌}
-use mathlib.Core.Bool.{true}
 use mathlib.Core.List.{List}
 use native.Mathlib.Numerals.{add-one}
 use native.Mathlib.Omega.{arith}
@@ -22,20 +21,6 @@ pub record Upto (fs cs rs : List ℕ) (n i up : ℕ) (out : List ℕ) : Type 0 w
   pub floors : Filled (carried fs rs) n i fs out
   pub next : carried fs rs i ≡ max (at fs i + 2000) up - 2000
 
--- a turn reads the floor x and the ceiling y, and computes v
-pub record Turn (fs cs rs : List ℕ) (n i up : ℕ) (out : List ℕ) (x y v : ℕ) : Type 0 where
-  pub head : Upto fs cs rs n i up out
-  pub more : i < n
-  pub read : x ≡ at out i
-  pub floor : v ≡ max (x + 2000) up - 2000
-  pub ceiling : (y ≡ at cs i) × (y < 65536)
-
--- where v is not above y it is stored, and the rise z read
-pub record Kept (fs cs rs : List ℕ) (n i up : ℕ) (out : List ℕ) (x y v z : ℕ) : Type 0 where
-  pub turn : Turn fs cs rs n i up out x y v
-  pub under : v ≤ y
-  pub rise : z ≡ at rs i
-
 -- what is left: r days carried, the first crossed day or all n
 abbrev Left : List ℕ → List ℕ → List ℕ → ℕ → ℕ → List ℕ → Type 0
 Left fs cs rs n r out = (r ≡ first_crossed (carried fs rs) (at cs) n) × (out ≡ written (carried fs rs) r fs)
@@ -48,27 +33,22 @@ module _ {fs cs rs : List ℕ} {n : ℕ} where
   pub upto_all : {i up : ℕ} {out : List ℕ} → Upto fs cs rs n i up out → n ≤ i → Left fs cs rs n n out
   upto_all h l = (nowhere_all h.under l, filled-all h.floors l)
 
-  module _ {i up : ℕ} {out : List ℕ} {x y v : ℕ} (t : Turn fs cs rs n i up out x y v) where
-    floor : v ≡ carried fs rs i
-    floor =
-        let h = t.head in
-        omega (arith, t.floor, t.read, h.next, ap (λ o. at o i) h.floors.made, written-past (carried fs rs) 0 i fs i (omega arith))
+  -- a turn computes what day i is to be at least, plus 2000: m
+  module _ {i up : ℕ} {out : List ℕ} (h : Upto fs cs rs n i up out) (more : i < n) {m : ℕ} (q : m ≡ max (at out i + 2000) up) where
+    floor : m - 2000 ≡ carried fs rs i
+    floor = omega (arith, h.next, ap (λ o. at o i) h.floors.made, written-past (carried fs rs) 0 i fs i (omega arith))
 
-    pub upto-crossed : y < v → Left fs cs rs n i out
-    upto-crossed u =
-        let h = t.head in
-        let crossed : ltb (at cs i) (carried fs rs i) ≡ true = lt-ltb (at cs i) (carried fs rs i) (omega (arith, floor, t.ceiling)) in
-        (nowhere_here h.under t.more crossed, h.floors.made)
+    pub upto-crossed : at cs i < m - 2000 → Left fs cs rs n i out
+    upto-crossed u = (nowhere_here h.under more (lt-ltb (at cs i) (carried fs rs i) (omega (arith, floor))), h.floors.made)
 
-  pub upto-more : {i up : ℕ} {out : List ℕ} {x y v z : ℕ} → Kept fs cs rs n i up out x y v z → Upto fs cs rs n (i + 1) (v + z) (set out i v)
-  unfolding carried
-  upto-more {i} k =
-      let t = k.turn in
-      record {
-        under = nowhere_more t.head.under t.more (le-ltb (at cs i) (carried fs rs i) (omega (arith, floor t, t.ceiling, k.under)));
-        floors = filled_more t.head.floors t.more (floor t);
-        next = rw add-one (omega (arith, floor t, k.rise));
-      }
+    pub upto-more : m - 2000 ≤ at cs i → Upto fs cs rs n (i + 1) (m - 2000 + at rs i) (set out i (m - 2000))
+    unfolding carried
+    upto-more u =
+        record {
+          under = nowhere_more h.under more (le-ltb (at cs i) (carried fs rs i) (omega (arith, floor)));
+          floors = filled_more h.floors more floor;
+          next = rw add-one (omega (arith, floor));
+        }
 
 -- ---- carrying back: the days from i on are carried, and the last of them is at `high`
 
@@ -79,35 +59,35 @@ pub record Backing (l rs : List ℕ) (n : ℕ) (out : List ℕ) (high i : ℕ) :
   pub made : out ≡ last_written (back_from l rs n) n (n - i) l
 
 module _ {l rs : List ℕ} {n : ℕ} where
-  pub back_start : {y : ℕ} → (y ≡ at l n) × (y < 65536) → Backing l rs n l y n
+  pub back_start : at l n < 65536 → Backing l rs n l (at l n) n
   unfolding back_from
   back_start q =
       let z : n - n ≡ 0 = omega arith in
-      record { most = omega arith; small = q.1; level = rw z q.0; made = rw z (sym (last_none _ n l)) }
+      record { most = omega arith; small = q; level = rw z refl; made = rw z (sym (last_none _ n l)) }
 
   pub back_end : {out : List ℕ} {high i : ℕ} → Backing l rs n out high i → i ≤ 0 → out ≡ written (carried_back l rs n) n l
   back_end {i = i} t h =
       let z : n - i ≡ n = omega arith in
       (rw z at t.made) ∙ last-all (back_from l rs n) (carried_back l rs n) n l (λ k u. refl)
 
-  -- a turn reads the level y and the rise z of day i - 1, and computes v
-  module _ {out : List ℕ} {high i : ℕ} (t : Backing l rs n out high i) (h : 0 < i) {y z v : ℕ} (qy : (y ≡ at out (i - 1)) × (y < 65536)) (qz : z ≡ at rs (i - 1))
-      (qv : v ≡ min y (max (high + 2000) z - z)) where
+  -- a turn computes the level v of day i - 1
+  module _ {out : List ℕ} {high i : ℕ} (t : Backing l rs n out high i) (h : 0 < i) {m v : ℕ} (qm : m ≡ high + 2000 - at rs (i - 1))
+      (qv : v ≡ min m (at out (i - 1))) where
     next : v ≡ back_from l rs n (n - i + 1)
     unfolding back_from
     next =
         let m : n - i + 1 ≡ suc (n - i) = omega arith in
         let k : n - suc (n - i) ≡ i - 1 = omega (arith, t.most) in
         let old : at out (i - 1) ≡ at l (i - 1) = ap (λ o. at o (i - 1)) t.made ∙ last-before _ 0 n (n - i) l (i - 1) (omega (arith, t.most)) in
-        rw (m, k) (omega (arith, qv, qy.0, qz, old, t.level))
+        rw (m, k) (omega (arith, qv, qm, old, t.level))
 
-    pub back_turn : Backing l rs n (set out (i - 1) v) v (i - 1)
-    back_turn =
+    pub back_turn : at out (i - 1) < 65536 → Backing l rs n (set out (i - 1) v) v (i - 1)
+    back_turn small =
         let m : n - i + 1 ≡ n - (i - 1) = omega (arith, t.most) in
         let k : n - (n - (i - 1)) ≡ i - 1 = omega (arith, t.most) in
         record {
           most = omega (arith, t.most);
-          small = omega (arith, qv, qy.1);
+          small = omega (arith, qv);
           level = rw m at next;
           made = ap (λ o. set o (i - 1) v) t.made ∙ (rw (m, k) at (last_more (back_from l rs n) n (n - i) l v next));
         }

@@ -8,7 +8,6 @@ ghost use Rattle.theory_lists.specs.Written.{written};
 ghost use Rattle.theory_method.specs.Filter.{carried, first_crossed};
 ghost use Rattle.tighten_carry.specs.Back.{carried_back};
 
-use base_numbers::{larger, smaller, word};
 use limits::{MOST_DAYS, RISE_OFFSET};
 
 // Carries the floors forward, up to the first day whose carried floor is above its ceiling: the result, or n. `up` is the
@@ -24,17 +23,14 @@ pub fn carry(
     ensures floors_after { floors.new ≡ written (carried floors.old rises.now) result floors.old }
 {
     let mut up = 0u32;
-    let mut i = 0u32;
-    let end = n as u32;
-    while i < end {
+    for i in 0..n as u32 {
         let k = i as usize;
-        let floor = larger(word(floors[k]) + RISE_OFFSET as u32, up) - RISE_OFFSET as u32;
-        if word(ceilings[k]) < floor {
+        let floor = (floors[k] as u32 + RISE_OFFSET as u32).max(up) - RISE_OFFSET as u32;
+        if (ceilings[k] as u32) < floor {
             return k;
         }
         floors[k] = floor as u16;
-        up = floor + word(rises[k]);
-        i += 1;
+        up = floor + rises[k] as u32;
     }
     n
 }
@@ -44,16 +40,11 @@ pub fn carry_back(levels: &mut [u16; MOST_DAYS], rises: &[u16; MOST_DAYS], n: us
     requires { n < most_days }
     ensures { levels.new ≡ written (carried_back levels.old rises.now n) n levels.old }
 {
-    let mut high = word(levels[n]);
-    let mut i = n as u32;
-    while 0 < i {
-        i -= 1;
+    let mut high = levels[n] as u32;
+    for i in (0..n as u32).rev() {
         let k = i as usize;
-        let rise = word(rises[k]);
-        high = smaller(
-            word(levels[k]),
-            larger(high + RISE_OFFSET as u32, rise) - rise,
-        );
+        let allowed = (high + RISE_OFFSET as u32).saturating_sub(rises[k] as u32);
+        high = allowed.min(levels[k] as u32);
         levels[k] = high as u16;
     }
 }
@@ -64,10 +55,8 @@ pub fn is_crossed(floors: &[u16; MOST_DAYS], ceilings: &[u16; MOST_DAYS], n: usi
     ensures { result ≡ ltb (first_crossed (at floors.now) (at ceilings.now) n) n }
 {
     let mut crossed = false;
-    let mut i = 0;
-    while i < n {
-        crossed = crossed | (ceilings[i] < floors[i]);
-        i += 1;
+    for i in 0..n {
+        crossed |= ceilings[i] < floors[i];
     }
     crossed
 }

@@ -24,7 +24,7 @@ use Rattle.theory_method.proofs.Counting.{lowered-counted, lowered-before, lower
 use Rattle.tighten_carry.specs.Back.{back_from, carried_back}
 use Rattle.tighten_passes.specs.Round.{over, window, rounded}
 use Rattle.tighten_passes.proofs.WindowLaws.{rounded_is, window-under, window-past, window_is}
-use Rattle.tighten_passes.specs.View.{viewed, viewed_rises, Carried, Sight, FloorsReady}
+use Rattle.tighten_passes.specs.View.{viewed_rises, Carried, Sight, FloorsReady}
 use Rattle.tighten_passes.specs.Pass.{highest_shifted, highest_room, Span, Open, Sticking, Found, Overloaded, Rounded, Lowest, Entering}
 
 -- ---- shifted floors
@@ -62,19 +62,6 @@ over_none : (a : ℕ → ℕ) (n i v : ℕ) → Rising a n → v ≤ a i → ove
 over_none a n i v up h = omega (arith, sum-most (above a v) i (n - i) 0 (λ k l u. omega (arith, up i k l (omega arith))))
 
 -- ---- what is read through a view
-
-module _ {back : Bool} {n : ℕ} (few : n ≤ most_days) where
-  pub level-back : (l : List ℕ) (k : ℕ) {r : ℕ} → back ≡ true → k < n → r ≡ at l (n - (k + 1)) → highest_level - r ≡ at (viewed back l n) k
-  level-back l k e h q = rw (e, q) (sym (mirrored_at n few l k h))
-
-  pub rise-back : (rs : List ℕ) (k : ℕ) {r : ℕ} → back ≡ true → r ≡ at rs (n - (k + 2)) → r ≡ cond back (reversed rs n k) (at rs k)
-  rise-back rs k e q = rw (e, q) refl
-
-  pub level-plain : (l : List ℕ) (k : ℕ) {r : ℕ} → back ≡ false → r ≡ at l k → r ≡ at (viewed back l n) k
-  level-plain l k e q = rw (e, q) refl
-
-  pub rise-plain : (rs : List ℕ) (k : ℕ) {r : ℕ} → back ≡ false → r ≡ at rs k → r ≡ cond back (reversed rs n k) (at rs k)
-  rise-plain rs k e q = rw (e, q) refl
 
 zeros-length : length zeros ≡ most_days
 zeros-length = length-replicate {A = ℕ} most_days 0
@@ -338,7 +325,7 @@ module _ {fs rs : List ℕ} {n i margin cap v past c room top e : ℕ} (g : Carr
             higher = λ w l m. passed w (omega (arith, stand_level)) m (dec_lt v w);
           }
 
--- ---- lower_ceiling, raise_floor
+-- ---- lower_day
 
 module _ {fs rs : List ℕ} {n i margin ceiling floor v past c room top e : ℕ} (g : Carried fs rs n) (t : Entering fs rs n i margin ceiling floor v past c room top e) where
   pub entering_few : c + 1 ≤ most_days
@@ -373,14 +360,17 @@ pub record Pass (fs cs rs : List ℕ) (n margin v past c room top e i : ℕ) : T
 pub floors-carried : {fs cs rs : List ℕ} {n : ℕ} → Ready fs cs rs n → Carried fs rs n
 floors-carried g = record { most = g.most; floor = λ k h. omega (arith, g.fits k h, g.ceiling k h); rise = g.rise; climb = g.rising }
 
-module _ {fs cs rs : List ℕ} {n : ℕ} (g : Ready fs cs rs n) where
-  last-shift : shift (at rs) n (n - 1) + rise_offset ≡ last_shift + at rs (n - 1)
-  last-shift =
-      let z : n - n ≡ 0 = omega arith in
-      let first : shift (at rs) n n ≡ last_shift = rw z (shift_start (at rs) n) in
-      let e : n - 1 + 1 ≡ n = omega (arith, g.some) in
-      let p : shift (at rs) n (n - 1) + rise_offset ≡ shift (at rs) n n + at rs (n - 1) = rw e at (shift-next (floors-carried g) (n - 1) (omega (arith, g.some))) in
-      omega (arith, first)
+-- past the last day, and on it
+shift-past : (rs : List ℕ) (n : ℕ) → shift (at rs) n n ≡ last_shift
+shift-past rs n = let z : n - n ≡ 0 = omega arith in rw z (shift_start (at rs) n)
+
+-- from one day's shift and the rise code before it, that of the day before
+module _ {fs rs : List ℕ} {n here w k : ℕ} (g : Carried fs rs n) (few : k < n) (is : here ≡ shift (at rs) n (k + 1)) (q : w ≡ at rs k) where
+  shift-asks : (here ≤ highest_shift) × (w < 65536) × (rise_offset ≤ here + w)
+  shift-asks = (omega (arith, shift-most g (k + 1) (omega arith)), omega (arith, g.rise k few), omega (arith, shift-next g k few))
+
+  shift_now : {e : ℕ} → e ≡ here + w - rise_offset → e ≡ shift (at rs) n k
+  shift_now h = omega (arith, shift-next g k few)
 
 module _ {fs cs rs : List ℕ} {n margin : ℕ} (g : Ready fs cs rs n) where
   -- before the last day, whose shift is e, its ceiling y and its floor x
@@ -516,79 +506,74 @@ module _ {fs cs rs : List ℕ} {n first : ℕ} (g : Ready fs cs rs n) (counts : 
       ∙ last-front (shown fs cs rs n margin) (lowered fs cs rs n (counted first n) margin) n first cs (omega arith)
       (λ k h l. sym (lowered-counted g margin k h l))
 
--- at the loop's head, with the days past i done; `here` is the shift of day i
+-- at the loop's head, with the days from i on done; `here` is the shift of day i
 pub record Lowering (fs cs rs : List ℕ) (n first margin : ℕ) (out : List ℕ) (here v past c room top e i : ℕ) : Type 0 where
-  pub inside : i < n
   pub late : first ≤ i
   pub shift-here : here ≡ shift (at rs) n i
-  pub pass : Pass fs cs rs n margin v past c room top e (i + 1)
-  pub made : out ≡ last_written (shown fs cs rs n margin) n (n - (i + 1)) cs
+  pub pass : Pass fs cs rs n margin v past c room top e i
+  pub made : out ≡ last_written (shown fs cs rs n margin) n (n - i) cs
 
 pub plain_sight : {fs cs rs : List ℕ} {n : ℕ} → Ready fs cs rs n → Sight false fs rs n n
 plain_sight {n = n} g = record { all = g.most; some = le_refl n; small = (floors-carried g).floor; carried = floors-carried g }
 
-pub lowering_start : {fs cs rs : List ℕ} {n first margin : ℕ} → Ready fs cs rs n → first < n → {w e y x : ℕ} → w ≡ at rs (n - 1) → e ≡ last_shift + w - rise_offset → y ≡ at cs (n - 1)
-    → x ≡ at fs (n - 1) → Lowering fs cs rs n first margin cs e (y + e) n 0 margin (x + e) e (n - 1)
-lowering_start {fs} {cs} {rs} {n} g counts {e = e} qw qe qy qx =
-    let z : n - (n - 1 + 1) ≡ 0 = omega arith in
-    let o : n - 1 + 1 ≡ n = omega (arith, g.some) in
-    let end : e ≡ shift (at rs) n (n - 1) = omega (arith, last-shift g) in
-    record {
-      inside = omega (arith, g.some);
-      late = omega arith;
-      shift-here = end;
-      pass = rw o (pass_start g end qy qx);
-      made = rw z (sym (last_none _ n cs));
-    }
+module _ {fs cs rs : List ℕ} {n first margin : ℕ} (g : Ready fs cs rs n) where
+  pub lowering_start : first < n → {e : ℕ} → e ≡ last_shift + at rs (n - 1) - rise_offset
+      → Lowering fs cs rs n first margin cs last_shift (at cs (n - 1) + e) n 0 margin (at fs (n - 1) + e) e n
+  lowering_start counts qe =
+      let z : n - n ≡ 0 = omega arith in
+      let o : n - 1 + 1 ≡ n = omega (arith, g.some) in
+      let past : last_shift ≡ shift (at rs) n n = sym (shift-past rs n) in
+      record {
+        late = omega arith;
+        shift-here = past;
+        pass = pass_start g (shift_now (floors-carried g) (omega (arith, g.some)) (rw o past) refl qe) refl refl;
+        made = rw z (sym (last_none _ n cs));
+      }
 
-module _ {fs cs rs : List ℕ} {n first margin : ℕ} {out : List ℕ} {here v past c room top e i : ℕ} (g : Ready fs cs rs n)
-    (t : Lowering fs cs rs n first margin out here v past c room top e i) where
-  -- the days up to i are as they were
-  lowering_old : {y : ℕ} → y ≡ at out i → y ≡ at cs i
-  lowering_old q = q ∙ ap (λ l. at l i) t.made ∙ last-before _ 0 n (n - (i + 1)) cs i (omega (arith, t.inside))
+  -- a turn does day i - 1
+  module _ {out : List ℕ} {here v past c room top e i : ℕ} (t : Lowering fs cs rs n first margin out here v past c room top e i) (more : first < i) where
+    day_next : i ≡ i - 1 + 1
+    day_next = omega arith
 
-  pub lowering_most : here ≤ highest_shift
-  lowering_most = omega (arith, t.shift-here, shift-most (floors-carried g) i (omega (arith, t.inside)))
+    day_inside : i - 1 < n
+    day_inside = omega (arith, t.pass.most)
 
-  pub lowering_least : 0 < i → rise_offset ≤ here
-  lowering_least h = omega (arith, t.shift-here, shift-least (floors-carried g) i h (omega (arith, t.inside)))
+    pub lowering_asks : (here ≤ highest_shift) × (at rs (i - 1) < 65536) × (rise_offset ≤ here + at rs (i - 1))
+    lowering_asks = shift-asks (floors-carried g) day_inside (rw day_next at t.shift-here) refl
 
-  module _ {y x : ℕ} (qy : y ≡ at out i) (qx : x ≡ at fs i) where
-    pub lowering_enters : margin ≤ highest_held → Entering fs rs n i margin (y + here) (x + here) v past c room top e
-    lowering_enters small = pass_enters g t.pass i refl t.shift-here (lowering_old qy) qx small
+    ceiling_old : at out (i - 1) ≡ at cs (i - 1)
+    ceiling_old = ap (λ l. at l (i - 1)) t.made ∙ last-before _ 0 n (n - i) cs (i - 1) (omega (arith, t.pass.most))
 
-    module _ {v' past' c' room' top' e' : ℕ} (l : Lowest fs rs n i margin (min v (y + here)) v' past' c' room' top' e') where
-      pub lowering_shown : (here ≤ v') × (v' - here ≤ highest_level)
-      lowering_shown = pass_shown g t.pass i refl t.shift-here (lowering_old qy) qx l
+    module _ {here' : ℕ} (qh : here' ≡ here + at rs (i - 1) - rise_offset) where
+      shift_here : here' ≡ shift (at rs) n (i - 1)
+      shift_here = shift_now (floors-carried g) day_inside (rw day_next at t.shift-here) refl qh
 
-      module _ {u : ℕ} (qu : u ≡ v' - here) where
-        stored : set out i u ≡ last_written (shown fs cs rs n margin) n (n - i) cs
-        stored =
-            let m : n - (i + 1) + 1 ≡ n - i = omega (arith, t.inside) in
-            let k : n - (n - i) ≡ i = omega (arith, t.inside) in
-            let z : u ≡ shown fs cs rs n margin (n - (i + 1) + 1) = rw m (qu ∙ pass_stored g t.pass i refl t.shift-here (lowering_old qy) qx l) in
-            ap (λ l. set l i u) t.made ∙ (rw (m, k) at (last_more (shown fs cs rs n margin) n (n - (i + 1)) cs u z))
+      pub lowering_enters : margin ≤ highest_held → Entering fs rs n (i - 1) margin (at out (i - 1) + here') (at fs (i - 1) + here') v past c room top e
+      lowering_enters small = pass_enters g t.pass (i - 1) day_next shift_here ceiling_old refl small
 
-        pub lowering_turn : {w here' : ℕ} → first < i → w ≡ at rs (i - 1) → here' ≡ here + w - rise_offset
-            → Lowering fs cs rs n first margin (set out i u) here' v' past' c' room' top' e' (i - 1)
-        lowering_turn {w} {here'} h qw qh =
-            let o : i - 1 + 1 ≡ i = omega arith in
-            let s : shift (at rs) n (i - 1) + rise_offset ≡ shift (at rs) n i + at rs (i - 1) = rw o at (shift-next (floors-carried g) (i - 1) (omega (arith, t.inside))) in
+      module _ {v' past' c' room' top' e' : ℕ} (l : Lowest fs rs n (i - 1) margin (min v (at out (i - 1) + here')) v' past' c' room' top' e') where
+        pub lowering_shown : (here' ≤ v') × (v' - here' ≤ highest_level)
+        lowering_shown = pass_shown g t.pass (i - 1) day_next shift_here ceiling_old refl l
+
+        pub lowering_turn : {u : ℕ} → u ≡ v' - here' → Lowering fs cs rs n first margin (set out (i - 1) u) here' v' past' c' room' top' e' (i - 1)
+        lowering_turn {u} qu =
+            let m : n - i + 1 ≡ n - (i - 1) = omega (arith, t.pass.most) in
+            let k : n - (n - (i - 1)) ≡ i - 1 = omega (arith, t.pass.most) in
+            let z : u ≡ shown fs cs rs n margin (n - i + 1) = rw m (qu ∙ pass_stored g t.pass (i - 1) day_next shift_here ceiling_old refl l) in
             record {
-              inside = omega (arith, t.inside);
               late = omega arith;
-              shift-here = omega (arith, t.shift-here);
-              pass = rw o (pass_turn g t.pass i refl t.shift-here (lowering_old qy) qx l);
-              made = rw o stored;
+              shift-here = shift_here;
+              pass = pass_turn g t.pass (i - 1) day_next shift_here ceiling_old refl l;
+              made = ap (λ l. set l (i - 1) u) t.made ∙ (rw (m, k) at (last_more (shown fs cs rs n margin) n (n - i) cs u z));
             }
 
-        -- after the first counted day, whose ceiling is carried back to the days before it
-        pub lowering_end : first < n → i ≤ first → {l : List ℕ} → l ≡ written (carried_back (set out i u) rs first) first (set out i u)
-            → l ≡ written (lowered fs cs rs n (counted first n) margin) n cs
-        lowering_end counts below q =
-            let e : i ≡ first = omega (arith, t.late) in
-            let done : set out i u ≡ last_written (shown fs cs rs n margin) n (n - first) cs = stored ∙ ap (λ (j : ℕ). last_written (shown fs cs rs n margin) n (n - j) cs) e in
-            q ∙ (rw done (carried-all g counts margin))
+  -- after the first counted day, whose ceiling is carried back to the days before it
+  pub lowering_end : {out : List ℕ} {here v past c room top e i : ℕ} → Lowering fs cs rs n first margin out here v past c room top e i → first < n → i ≤ first
+      → {l : List ℕ} → l ≡ written (carried_back out rs first) first out → l ≡ written (lowered fs cs rs n (counted first n) margin) n cs
+  lowering_end {out} {i = i} t counts below q =
+      let e : i ≡ first = omega (arith, t.late) in
+      let done : out ≡ last_written (shown fs cs rs n margin) n (n - first) cs = rw e at t.made in
+      q ∙ (rw done (carried-all g counts margin))
 
 -- ---- raise_floors: the same over the mirror of the counted days
 
@@ -660,17 +645,25 @@ seen l n i few h q =
 abbrev high : List ℕ → List ℕ → List ℕ → ℕ → ℕ → ℕ → ℕ → ℕ
 high fs cs rs n first margin = mirrored (lowered_all (mirrored_all cs n) (mirrored_all fs n) (reversed_all rs n) n (counted 0 (n - first)) margin) n
 
--- at the loop's head, with the floors before day i raised; `here` is the shift of day i, seen from the other end
-pub record Raising (fs cs rs : List ℕ) (n first margin : ℕ) (out : List ℕ) (here v past c room top e i : ℕ) : Type 0 where
-  pub inside : i < n
+-- the rises between the counted days
+abbrev rises_from : List ℕ → ℕ → ℕ → List ℕ
+rises_from rs n first = viewed_rises true rs n (n - first)
+
+-- at the loop's head, with the floors before day i raised; `here` is the shift of the day before, seen from the other end, and `rise` that from it to day i
+pub record Raising (fs cs rs : List ℕ) (n first margin : ℕ) (out : List ℕ) (here rise v past c room top e i : ℕ) : Type 0 where
   pub late : first ≤ i
-  pub shift-here : here ≡ shift (at (viewed_rises true rs n (n - first))) (n - first) (n - (i + 1))
-  pub pass : Pass (mirrored_all cs n) (mirrored_all fs n) (viewed_rises true rs n (n - first)) (n - first) margin v past c room top e (n - i)
+  pub most : i ≤ n
+  pub shift-here : here ≡ shift (at (rises_from rs n first)) (n - first) (n - i)
+  pub rise-here : i < n → rise ≡ at (rises_from rs n first) (n - (i + 1))
+  pub pass : Pass (mirrored_all cs n) (mirrored_all fs n) (rises_from rs n first) (n - first) margin v past c room top e (n - i)
   pub made : out ≡ written (high fs cs rs n first margin) i fs
 
 module _ {fs cs rs : List ℕ} {n first : ℕ} (h : FloorsReady fs cs rs n) (counts : first < n) where
-  ready : Ready (mirrored_all cs n) (mirrored_all fs n) (viewed_rises true rs n (n - first)) (n - first)
+  ready : Ready (mirrored_all cs n) (mirrored_all fs n) (rises_from rs n first) (n - first)
   ready = part_ready h (omega arith) (omega arith)
+
+  carried-floors : Carried (mirrored_all cs n) (rises_from rs n first) (n - first)
+  carried-floors = floors-carried ready
 
   -- a floor before the counted days stays
   kept : (margin k : ℕ) → k < first → high fs cs rs n first margin k ≡ at fs k
@@ -686,77 +679,82 @@ module _ {fs cs rs : List ℕ} {n first : ℕ} (h : FloorsReady fs cs rs n) (cou
 
 module _ {fs cs rs : List ℕ} {n first margin : ℕ} (h : FloorsReady fs cs rs n) (counts : first < n) where
   pub raising_start : {e y x : ℕ} → e + rise_offset ≡ last_shift → y ≡ highest_level - at fs first → x ≡ highest_level - at cs first
-      → Raising fs cs rs n first margin fs e (y + e) (n - first) 0 margin (x + e) e first
+      → Raising fs cs rs n first margin fs last_shift 0 (y + e) (n - first) 0 margin (x + e) e first
   raising_start {e} {y} {x} qe qy qx =
       let one : n - (first + 1) ≡ n - first - 1 = omega arith in
-      let none : at (viewed_rises true rs n (n - first)) (n - first - 1) ≡ 0 = last-rise rs n (n - first) (n - first - 1) (omega arith) (omega (arith, h.ready.most)) in
-      let end : e ≡ shift (at (viewed_rises true rs n (n - first))) (n - first) (n - first - 1) = omega (arith, last-shift (ready h counts)) in
+      let o : n - first ≡ n - first - 1 + 1 = omega arith in
+      let none : 0 ≡ at (rises_from rs n first) (n - first - 1) = sym (last-rise rs n (n - first) (n - first - 1) (omega arith) (omega (arith, h.ready.most))) in
+      let past : last_shift ≡ shift (at (rises_from rs n first)) (n - first) (n - first) = sym (shift-past (rises_from rs n first) (n - first)) in
+      let end : e ≡ shift (at (rises_from rs n first)) (n - first) (n - first - 1) = shift_now (carried-floors h counts) (omega arith) (past ∙ ap (shift (at (rises_from rs n first)) (n - first)) o) none (omega arith) in
       record {
-        inside = counts;
         late = omega arith;
-        shift-here = rw one end;
+        most = omega arith;
+        shift-here = past;
+        rise-here = λ _. rw one none;
         pass = pass_start (ready h counts) end (rw one at (seen fs n first h.ready.most counts qy)) (rw one at (seen cs n first h.ready.most counts qx));
         made = sym (written_same (high fs cs rs n first margin) (at fs) first fs (kept h counts margin) ∙ written_own 0 first fs);
       }
 
-  module _ {out : List ℕ} {here v past c room top e i : ℕ} (t : Raising fs cs rs n first margin out here v past c room top e i) where
-    -- the days from i on are as they were
-    pub raising_old : at out i ≡ at fs i
-    raising_old = ap (λ l. at l i) t.made ∙ written-past _ 0 i fs i (omega arith)
+  module _ {out : List ℕ} {here rise v past c room top e i : ℕ} (t : Raising fs cs rs n first margin out here rise v past c room top e i) where
+    -- a turn does day i
+    module _ (more : i < n) where
+      next : n - i ≡ n - (i + 1) + 1
+      next = omega arith
 
-    next_is : n - i ≡ n - (i + 1) + 1
-    next_is = omega (arith, t.inside)
+      inside : n - (i + 1) < n - first
+      inside = omega (arith, t.late)
 
-    pub raising_most : here ≤ highest_shift
-    raising_most = omega (arith, t.shift-here, shift-most (floors-carried (ready h counts)) (n - (i + 1)) (omega (arith, t.late)))
+      pub raising_asks : (here ≤ highest_shift) × (rise < 65536) × (rise_offset ≤ here + rise)
+      raising_asks = shift-asks (carried-floors h counts) inside (rw next at t.shift-here) (t.rise-here more)
 
-    pub raising_least : i + 1 < n → rise_offset ≤ here
-    raising_least m = omega (arith, t.shift-here, shift-least (floors-carried (ready h counts)) (n - (i + 1)) (omega arith) (omega (arith, t.late)))
+      pub raising_old : at out i ≤ highest_level
+      raising_old = omega (arith, ap (λ l. at l i) t.made, written-past (high fs cs rs n first margin) 0 i fs i (omega arith), floor-small h i more)
 
-    module _ {y x : ℕ} (qy : y ≡ highest_level - at out i) (qx : x ≡ highest_level - at cs i) where
-      floor_is : y ≡ at (mirrored_all fs n) (n - (i + 1))
-      floor_is = seen fs n i h.ready.most t.inside (qy ∙ ap (λ (x : ℕ). highest_level - x) raising_old)
+      module _ {here' y x : ℕ} (qh : here' ≡ here + rise - rise_offset) (qy : y ≡ highest_level - at out i) (qx : x ≡ highest_level - at cs i) where
+        now : here' ≡ shift (at (rises_from rs n first)) (n - first) (n - (i + 1))
+        now = shift_now (carried-floors h counts) inside (rw next at t.shift-here) (t.rise-here more) qh
 
-      ceiling_is : x ≡ at (mirrored_all cs n) (n - (i + 1))
-      ceiling_is = seen cs n i h.ready.most t.inside qx
+        floor_is : y ≡ at (mirrored_all fs n) (n - (i + 1))
+        floor_is = seen fs n i h.ready.most more (omega (arith, ap (λ l. at l i) t.made, written-past (high fs cs rs n first margin) 0 i fs i (omega arith)))
 
-      pub raising_enters : margin ≤ highest_held
-          → Entering (mirrored_all cs n) (viewed_rises true rs n (n - first)) (n - first) (n - (i + 1)) margin (y + here) (x + here) v past c room top e
-      raising_enters small = pass_enters (ready h counts) t.pass (n - (i + 1)) next_is t.shift-here floor_is ceiling_is small
+        ceiling_is : x ≡ at (mirrored_all cs n) (n - (i + 1))
+        ceiling_is = seen cs n i h.ready.most more qx
 
-      module _ {v' past' c' room' top' e' : ℕ}
-          (l : Lowest (mirrored_all cs n) (viewed_rises true rs n (n - first)) (n - first) (n - (i + 1)) margin (min v (y + here)) v' past' c' room' top' e') where
-        pub raising_shown : (here ≤ v') × (v' - here ≤ highest_level)
-        raising_shown = pass_shown (ready h counts) t.pass (n - (i + 1)) next_is t.shift-here floor_is ceiling_is l
+        pub raising_enters : margin ≤ highest_held
+            → Entering (mirrored_all cs n) (rises_from rs n first) (n - first) (n - (i + 1)) margin (y + here') (x + here') v past c room top e
+        raising_enters small = pass_enters (ready h counts) t.pass (n - (i + 1)) next now floor_is ceiling_is small
 
-        module _ {u : ℕ} (qu : u ≡ highest_level - (v' - here)) where
-          written_up : set out i u ≡ written (high fs cs rs n first margin) (i + 1) fs
-          written_up =
-              let a : at (lowered_all (mirrored_all cs n) (mirrored_all fs n) (reversed_all rs n) n (counted 0 (n - first)) margin) (n - (i + 1)) ≡ v' - here =
-              lowered_at (back-ready h) (counted 0 (n - first)) margin (n - (i + 1)) (omega (arith, t.inside))
-              ∙ part_lowered h (omega arith) (omega arith) margin (n - (i + 1)) (omega (arith, t.late, t.inside))
-              ∙ sym (pass_stored (ready h counts) t.pass (n - (i + 1)) next_is t.shift-here floor_is ceiling_is l) in
+        module _ {v' past' c' room' top' e' : ℕ}
+            (l : Lowest (mirrored_all cs n) (rises_from rs n first) (n - first) (n - (i + 1)) margin (min v (y + here')) v' past' c' room' top' e') where
+          pub raising_shown : (here' ≤ v') × (v' - here' ≤ highest_level)
+          raising_shown = pass_shown (ready h counts) t.pass (n - (i + 1)) next now floor_is ceiling_is l
+
+          written_up : {u : ℕ} → u ≡ highest_level - (v' - here') → set out i u ≡ written (high fs cs rs n first margin) (i + 1) fs
+          written_up {u} qu =
+              let a : at (lowered_all (mirrored_all cs n) (mirrored_all fs n) (reversed_all rs n) n (counted 0 (n - first)) margin) (n - (i + 1)) ≡ v' - here' =
+              lowered_at (back-ready h) (counted 0 (n - first)) margin (n - (i + 1)) (omega arith)
+              ∙ part_lowered h (omega arith) (omega arith) margin (n - (i + 1)) inside
+              ∙ sym (pass_stored (ready h counts) t.pass (n - (i + 1)) next now floor_is ceiling_is l) in
               ap (λ o. set o i u) t.made ∙ written-more _ i fs u (qu ∙ ap (λ (x : ℕ). highest_level - x) (sym a))
 
-          pub raising_turn : {w here' : ℕ} → i + 1 < n → w ≡ at rs i → here' ≡ here + w - rise_offset
-              → Raising fs cs rs n first margin (set out i u) here' v' past' c' room' top' e' (i + 1)
-          raising_turn {w} {here'} m qw qh =
+          rise_is : i + 1 < n → at rs i ≡ at (rises_from rs n first) (n - (i + 1 + 1))
+          rise_is m =
               let k : n - (n - (i + 1 + 1) + 2) ≡ i = omega arith in
-              let o : n - (i + 1 + 1) + 1 ≡ n - (i + 1) = omega arith in
-              let b : at (viewed_rises true rs n (n - first)) (n - (i + 1 + 1)) ≡ at rs i =
-              rises_at rs n (n - first) (n - (i + 1 + 1)) (omega (arith, h.ready.most)) (omega (arith, t.late)) ∙ ap (at rs) k in
-              let s : shift (at (viewed_rises true rs n (n - first))) (n - first) (n - (i + 1 + 1)) + rise_offset
-              ≡ shift (at (viewed_rises true rs n (n - first))) (n - first) (n - (i + 1)) + at (viewed_rises true rs n (n - first)) (n - (i + 1 + 1)) =
-              rw o at (shift-next (floors-carried (ready h counts)) (n - (i + 1 + 1)) (omega (arith, t.late))) in
+              sym (rises_at rs n (n - first) (n - (i + 1 + 1)) (omega (arith, h.ready.most)) (omega (arith, t.late)) ∙ ap (at rs) k)
+
+          pub raising_turn : {u : ℕ} → u ≡ highest_level - (v' - here')
+              → Raising fs cs rs n first margin (set out i u) here' (at rs i) v' past' c' room' top' e' (i + 1)
+          raising_turn qu =
               record {
-                inside = m;
                 late = omega (arith, t.late);
-                shift-here = omega (arith, t.shift-here);
-                pass = pass_turn (ready h counts) t.pass (n - (i + 1)) next_is t.shift-here floor_is ceiling_is l;
-                made = written_up;
+                most = omega arith;
+                shift-here = now;
+                rise-here = rise_is;
+                pass = pass_turn (ready h counts) t.pass (n - (i + 1)) next now floor_is ceiling_is l;
+                made = written_up qu;
               }
 
-          pub raising_end : n ≤ i + 1 → set out i u ≡ raised fs cs rs n first margin
-          raising_end m =
-              let z : i + 1 ≡ n = omega (arith, t.inside) in
-              (rw z at written_up) ∙ sym (raised_is fs cs rs n first margin)
+    pub raising_end : n ≤ i → out ≡ raised fs cs rs n first margin
+    raising_end m =
+        let z : i ≡ n = omega (arith, t.most) in
+        (rw z at t.made) ∙ sym (raised_is fs cs rs n first margin)

@@ -1,15 +1,13 @@
-use Prim.Native.Nat.{◌-◌}
-use lib.ListN.{length}
-use Rattle.theory_lists.specs.Sum.{at}
-use Rattle.base_arrays.proofs.Laws.{Summed, summed_none, summed_more, summed_all}
-use borrow.Author.Rules.{rules}
+use Rattle.std.proofs.Common.{◌≡◌, ◌+◌, ap, arith}
+use Rattle.theory_lists.specs.Sum.{at, sum-none, sum_back}
 use Rattle.base_arrays.proofs.sum.Goals as goal
 
-pub loop-count-init : goal.loop-count-init
-loop-count-init c = summed_none
+pub loop-level-init : goal.loop-level-init
+loop-level-init c = grind (arith, sum-none)
 
-pub loop-count-preserved : goal.loop-count-preserved
-loop-count-preserved c = summed_more c.loop-count.invariant c.loop-count-test.true c.word-total.ensures
-
-pub returns : goal.returns
-returns c = summed_all c.loop-count.invariant c.loop-count-test.false
+pub loop-level-preserved : goal.loop-level-preserved
+loop-level-preserved c =
+    let levels = c.args.levels.now in
+    let i = c.loop-level.level-index in
+    let z : 0 + i ≡ i = omega arith in
+    (omega (arith, sum_back (at levels) 0 i, ap (at levels) z), omega (arith, c.type_inv.levels i))

@@ -1,13 +1,7 @@
--- `sum` meets its contract: at its loop's head stands the sum of the first `count` levels (`Summed` of Laws). The measure is the levels left.
-use Prim.Native.Nat.{◌-◌}
-use lib.ListN.{length}
-use Rattle.theory_lists.specs.Sum.{at}
-use Rattle.base_arrays.proofs.Laws.{Summed, summed_none, summed_more, summed_all}
-use borrow.Author.Rules.{rules}
+-- `sum` meets its contract: at its loop's head stands the sum of the levels before the next.
+use Rattle.std.proofs.Common.{◌≡◌, ◌*◌, ◌≤◌}
+use Rattle.theory_lists.specs.Sum.{sum_for, at}
 use Rattle.base_arrays.proofs.sum.Given as goal
 
-abbrev pub invariant-loop-count : goal.invariant-loop-count
-invariant-loop-count l = Summed (at l.levels) (length l.levels) l.count l.total
-
-abbrev pub decreases-loop-count : goal.decreases-loop-count
-decreases-loop-count l = length l.levels - l.count
+abbrev pub invariant-loop-level : goal.invariant-loop-level
+invariant-loop-level l = (l.total ≡ sum_for (at l.levels) 0 l.level-index) × (l.total ≤ l.level-index * 65535)

@@ -1,4 +1,4 @@
--- `raise_to` meets its contract. At its loop's head the days from k on hold the definition's levels; the measure is k. What a turn reads is said once.
+-- `raise_to` meets its contract. At its loop's head the days from k on hold the definition's levels. What a turn reads is said once.
 use Prim.Native.Nat.{◌-◌, ◌≤◌}
 use Rattle.theory_lists.specs.Sum.{at}
 use Rattle.theory_method.specs.Filter.{held}
@@ -7,6 +7,3 @@ use Rattle.schedule_raising.proofs.raise_to.Given as goal
 
 abbrev pub invariant-loop-k : goal.invariant-loop-k
 invariant-loop-k l = Raising l.initial.floors l.ceilings l.rises l.n (l.total - held l.n l.first (at l.initial.floors)) l.floors l.day l.k × (l.first ≤ l.k)
-
-abbrev pub decreases-loop-k : goal.decreases-loop-k
-decreases-loop-k l = l.k

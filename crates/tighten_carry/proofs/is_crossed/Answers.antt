@@ -1,9 +1,5 @@
-use Prim.Native.Nat.{◌-◌}
 use mathlib.Core.Path.{refl, ◌∙◌}
-use lib.Dec.{ltb}
-use Rattle.theory_lists.specs.Sum.{at}
-use Rattle.theory_lists.specs.Some.{Told, told_none, told_more, told_all, some_first}
-use borrow.Author.Rules.{rules}
+use Rattle.theory_lists.specs.Some.{told_none, told_more, told_all, some_first}
 use Rattle.tighten_carry.proofs.is_crossed.Goals as goal
 
 pub loop-i-init : goal.loop-i-init

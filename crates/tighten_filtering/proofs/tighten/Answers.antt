@@ -32,14 +32,14 @@ narrowed c =
 
 pub returns-then-carry-n : goal.returns-then-carry-n
 returns-then-carry-n c =
-    rw c.none.ensures (tight_crossed c.requires c.carry.ensures.value c.carry.ensures.floors_after c.if-carry-n.true)
+    (tight_crossed c.requires c.carry.ensures.value c.carry.ensures.floors_after c.if-carry-n.true)
 
 pub held_total-bottom-requires : goal.held_total-bottom-requires
 held_total-bottom-requires c = let h = c.requires in (omega (arith, h.counts), h.most)
 
 pub returns-then-highest-bottom : goal.returns-then-highest-bottom
 returns-then-highest-bottom c =
-    rw c.none-then-highest-bottom.ensures (tight_over (carried (goal.at.returns-then-highest-bottom c).Else-carry-n) c.held_total-bottom.ensures.0 c.if-highest-bottom.true)
+    (tight_over (carried (goal.at.returns-then-highest-bottom c).Else-carry-n) c.held_total-bottom.ensures.0 c.if-highest-bottom.true)
 
 -- margins are below 2 ^ 32, since totals are
 pub overflow_cast-highest : goal.overflow_cast-highest
@@ -54,7 +54,7 @@ pub held_total-top-requires : goal.held_total-top-requires
 held_total-top-requires c = let h = c.requires in (omega (arith, h.counts), h.most)
 
 pub returns-then-high-low : goal.returns-then-high-low
-returns-then-high-low c = rw c.none-then-high-low.ensures (tight_apart (narrowed (goal.at.returns-then-high-low c).After-min-high) c.if-high-low.true)
+returns-then-high-low c = (tight_apart (narrowed (goal.at.returns-then-high-low c).After-min-high) c.if-high-low.true)
 
 pub overflow_cast-top : goal.overflow_cast-top
 overflow_cast-top c = record { fits = omega (arith, c.held_total-top.ensures.1) }

@@ -2,11 +2,12 @@
 use mathlib.Core.Path.{◌≡◌}
 use Rattle.tighten_passes.specs.View.{viewed, viewed_rises}
 use Rattle.tighten_passes.specs.Pass.{Open}
-use Rattle.tighten_passes.proofs.settle.Given as goal
+use Rattle.tighten_passes.proofs.Pass.settle.Given as goal
 
 abbrev pub invariant-loop-at : goal.invariant-loop-at
-invariant-loop-at l =
-    (l.at.v ≡ l.initial.at.v) × Open (viewed l.back l.floors l.n) (viewed_rises l.back l.rises l.n l.days) l.days l.i l.margin l.initial.at.v l.at.past l.at.count l.at.room l.at.top l.at.end
+invariant-loop-at g l =
+    let p = l.self in
+    (l.at.v ≡ l.initial.at.v) × Open (viewed g.E.End.back p.floors.now p.n) (viewed_rises g.E.End.back p.rises.now p.n p.days) p.days l.i p.margin l.initial.at.v l.at.past l.at.count l.at.room l.at.top l.at.end
 
 abbrev pub decreases-loop-at : goal.decreases-loop-at
-decreases-loop-at l = l.at.past
+decreases-loop-at g l = l.at.past
