@@ -23,11 +23,9 @@ use Rattle.session_cuts.specs.declared.Cut.TheVariants.{DayFloor, DayCeiling, To
 use Rattle.session_order.specs.Order.{settled_losers, day_cells}
 use Rattle.session_changed.specs.Changes.{lost}
 use Rattle.session_changed.proofs.Laws.{narrowed-losers, narrowed_same}
-use Rattle.session_cutting.specs.Cutting.{malformed, clipped, retightened, spend, refusing, changed_days, after_numbered}
+use Rattle.session_cutting.specs.Cutting.{malformed, clipped, retightened, spend, refusing, changed_days, after_numbered, AfterCut, CutAnswer}
 use Rattle.session_cutting.proofs.Laws.{clipped_in_bounds, tightened_narrows}
 use Rattle.session_cutting.proofs.Stages.{again-found, again-none}
-use Rattle.session_cutting.specs.declared.AfterCut.{AfterCut}
-use Rattle.session_cutting.specs.declared.CutAnswer.{CutAnswer}
 use Rattle.c_layout.specs.Layout.{session_bytes, decoding, patched}
 use Rattle.c_layout.proofs.Inverse.{decoding_in_bounds}
 use Rattle.c_sessions.specs.Sessions.{bytes_for, list_for, cut_answer, bytes_cut, changed_bytes}

@@ -7,8 +7,7 @@ use lib.Dec.{eqb}
 use lib.ListN.{length}
 use borrow.Author.Tests.{eq-eqb, eqb-false}
 use Rattle.session.specs.declared.Session.{Session}
-use Rattle.session_cutting.specs.Cutting.{after_numbered}
-use Rattle.session_cutting.specs.declared.AfterCut.{AfterCut}
+use Rattle.session_cutting.specs.Cutting.{after_numbered, AfterCut}
 use Rattle.session_cutting.proofs.Laws.{keeps}
 use Rattle.c_layout.specs.Layout.{session_bytes, encoding, patched}
 use Rattle.c_layout.specs.Storing.{Storable}

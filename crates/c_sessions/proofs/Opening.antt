@@ -17,8 +17,7 @@ use Rattle.base_codes.specs.Code.{on, code_or_zero}
 use Rattle.theory_method.specs.Filter.{InBounds, first_crossed, zeros}
 use Rattle.session.specs.Opening.{fresh, opened, refused_with}
 use Rattle.session.specs.Showing.{box_of}
-use Rattle.session.specs.Stages.{lengths_of, coded_profile}
-use Rattle.session.specs.declared.CodedProfile.{CodedProfile}
+use Rattle.session.specs.Stages.{lengths_of, coded_profile, CodedProfile}
 use Rattle.session.specs.declared.Ranges.{Ranges}
 use Rattle.session.specs.declared.Session.{Session}
 use Rattle.session.proofs.Lengths as Lengths

@@ -6,8 +6,7 @@ use native.Mathlib.Omega.{arith}
 use lib.ListN.{length}
 use borrow.Author.Tests.{eq-eqb, ne_eqb}
 use Rattle.theory_lists.specs.Front.{in_front}
-use Rattle.session.specs.Showing.{list_too_short, floor_on, ceiling_on, total_floor, total_ceiling}
-use Rattle.session.specs.declared.Shown.{Shown}
+use Rattle.session.specs.Showing.{list_too_short, floor_on, ceiling_on, total_floor, total_ceiling, Shown}
 use Rattle.session.proofs.Shows.{first_short, second_short, both_long}
 use Rattle.c_lists.specs.Lists.{point_bytes, lent_points}
 use Rattle.c_lists.proofs.Laws.{points_left, points_filled}

@@ -4,13 +4,10 @@
 use Rattle.std.specs.Prelude.{Bool, cond, ◌||◌, List, ℕ, ◌/◌, ℤ, eqb, length, Option}
 use Rattle.theory_lists.specs.Front.{in_front}
 use Rattle.session.specs.Opening.{opened}
-use Rattle.session.specs.Showing.{shown, list_too_short}
+use Rattle.session.specs.Showing.{shown, list_too_short, Shown}
 use Rattle.session.specs.declared.Session.{Session}
-use Rattle.session.specs.declared.Shown.{Shown}
 use Rattle.session_order.specs.Order.{day_cells}
-use Rattle.session_cutting.specs.Cutting.{changed_days, after_numbered}
-use Rattle.session_cutting.specs.declared.AfterCut.{AfterCut}
-use Rattle.session_cutting.specs.declared.CutAnswer.{CutAnswer}
+use Rattle.session_cutting.specs.Cutting.{changed_days, after_numbered, AfterCut, CutAnswer}
 use Rattle.c_lists.specs.Profiles.{ByteProfile, byte_length_refusal, profile_of}
 use Rattle.c_layout.specs.Layout.{session_bytes, encoding, decoding, patched}
 use Rattle.session_cuts.specs.declared.Cut.{Cut}

@@ -2,9 +2,8 @@
 use Rattle.std.specs.Prelude.{◌≡◌, false, List, ℕ, ◌*◌, ◌≤◌, length}
 use Rattle.session.specs.declared.Session.{Session}
 use Rattle.session_cuts.specs.declared.Cut.{Cut}
-use Rattle.session_cutting.specs.Cutting.{malformed, clipped, retightened, tightened_to}
+use Rattle.session_cutting.specs.Cutting.{malformed, clipped, retightened, tightened_to, AfterCut}
 use Rattle.session_cutting.specs.Stages.{Clips}
-use Rattle.session_cutting.specs.declared.AfterCut.{AfterCut}
 use Rattle.c_layout.specs.Layout.{cell_length, session_bytes, decoding}
 
 -- no check before 8 refuses: b are a session's bytes, the cut is well-formed, v is its value, the list l is long enough, and the session is not spent

@@ -23,9 +23,8 @@ use Rattle.session.specs.declared.Ranges.{Ranges}
 use Rattle.session.specs.declared.Session.{Session}
 use Rattle.session_order.specs.Order.{settled_losers, day_cells}
 use Rattle.session_changed.specs.Changes.{lost}
-use Rattle.session_cutting.specs.Cutting.{after_numbered}
+use Rattle.session_cutting.specs.Cutting.{after_numbered, CutAnswer}
 use Rattle.session_cutting.proofs.Laws.{numbered_few}
-use Rattle.session_cutting.specs.declared.CutAnswer.{CutAnswer}
 use Rattle.session_sheets.specs.Sheets.{after_cuts, answer_on, sheet_refusal, sheet_days}
 use Rattle.session_sheets.proofs.Laws.{after_none, after_more, after-days, after-bounds, after-spent, after-shown, after_narrows, sheet_days-losers, sheet_passed}
 use Rattle.session_steps.specs.Steps.{width, Holds, Holding, Stepped}

@@ -6,7 +6,7 @@ use Rattle.theory_lists.specs.Front.{in_front}
 use Rattle.base_little_endian.specs.Fields.{u16_bytes}
 use Rattle.session.specs.declared.Session.{Session}
 use Rattle.session_order.specs.Order.{day_cells}
-use Rattle.session_cutting.specs.declared.CutAnswer.{CutAnswer}
+use Rattle.session_cutting.specs.Cutting.{CutAnswer}
 use Rattle.session_sheets.specs.Sheets.{after_cuts, answer_on, sheet_refusal, sheet_days}
 use Rattle.file_format.specs.Format.{cut_length, numbered_at}
 use Rattle.c_layout.specs.Layout.{decoding, patched}

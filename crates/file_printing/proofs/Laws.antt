@@ -13,10 +13,9 @@ use Rattle.theory_lists.specs.Rows.{sets_append}
 use Rattle.theory_lists.specs.Written.{written, written_below}
 use Rattle.theory_lists.specs.Lent.{lent_list, list-filled}
 use Rattle.base_codes.specs.Code.{on}
-use Rattle.session.specs.Showing.{SessionInBounds, floor_on, ceiling_on, total_floor, total_ceiling, shown}
+use Rattle.session.specs.Showing.{SessionInBounds, floor_on, ceiling_on, total_floor, total_ceiling, shown, Shown}
 use Rattle.session.specs.declared.Session.{Session}
-use Rattle.session.specs.declared.Shown.{Shown}
-use Rattle.session.specs.declared.Opened.{Opened}
+use Rattle.session.specs.Opening.{Opened}
 use Rattle.session_cuts.specs.declared.Cut.{Cut}
 use Rattle.base_text.specs.Numbers.{number}
 use Rattle.file_printing.specs.declared.Stage.{Stage}

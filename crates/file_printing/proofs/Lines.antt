@@ -17,9 +17,8 @@ use Rattle.base_codes.proofs.Laws.{point_less, total_less, decoded_less}
 use Rattle.base_text.specs.Numbers.{decimal, number}
 use Rattle.base_text.proofs.Digits.{decimal-length, number-length}
 use Rattle.session.specs.Showing.{SessionInBounds, floor_on, ceiling_on, total_floor, total_ceiling}
-use Rattle.session.specs.Opening.{opened, refused_with}
+use Rattle.session.specs.Opening.{opened, refused_with, Opened}
 use Rattle.session.specs.declared.Session.{Session}
-use Rattle.session.specs.declared.Opened.{Opened}
 use Rattle.session_cuts.specs.declared.Cut.{Cut}
 use Rattle.session_cuts.specs.declared.Sheet.{Sheet}
 use Rattle.session_cuts.specs.Sheet.{blank, cut_on, cuts_of}

@@ -4,14 +4,12 @@ use Rattle.limits.specs.Limits.{most_days}
 use Rattle.theory_lists.specs.Rows.{rows}
 use Rattle.base_text.specs.Ascii.{ascii}
 use Rattle.base_text.specs.Numbers.{decimal, number}
-use Rattle.session.specs.Opening.{opened, refused_with}
+use Rattle.session.specs.Opening.{opened, refused_with, Opened}
 use Rattle.session.specs.Showing.{floor_on, ceiling_on, total_floor, total_ceiling}
 use Rattle.session.specs.declared.Session.{Session}
-use Rattle.session.specs.declared.Opened.{Opened}
 use Rattle.session_cuts.specs.declared.Cut.{Cut}
 use Rattle.session_cuts.specs.Sheet.{cut_on}
-use Rattle.session_cutting.specs.Cutting.{after_cut}
-use Rattle.session_cutting.specs.declared.AfterCut.{AfterCut}
+use Rattle.session_cutting.specs.Cutting.{after_cut, AfterCut}
 use Rattle.file_format.specs.Format.{longest_file, profile_in, cuts_in}
 use Rattle.file_format.specs.Reading as Reading
 

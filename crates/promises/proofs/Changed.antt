@@ -25,9 +25,8 @@ use Rattle.session_order.proofs.Pairs.{at_mem, mem_at, Pairs, pairs_at, at_pairs
 use Rattle.session_order.proofs.Days.{days_where_lem, days_ascend}
 use Rattle.session_order.proofs.Listing.{days-length}
 use Rattle.session_order.proofs.Settled.{Ahead, settled-mem, settled_pairs, ahead_different}
-use Rattle.session_cutting.specs.Cutting.{changed_days, after_numbered, list_after}
+use Rattle.session_cutting.specs.Cutting.{changed_days, after_numbered, list_after, AfterCut}
 use Rattle.session_cutting.proofs.Laws.{changed_few, accepted-list, numbered-accepted, Narrows, numbered_narrows}
-use Rattle.session_cutting.specs.declared.AfterCut.{AfterCut}
 use Rattle.promises.specs.Demands.{lost_on, Before, Changes, DaysListed, DaysOrdered, Stays, ListedChanges}
 use Rattle.promises.specs.DemandsInBytes.{ListedBytes}
 use Rattle.base_little_endian.specs.Fields.{u16_at}

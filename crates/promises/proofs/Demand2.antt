@@ -13,9 +13,8 @@ use Rattle.limits.specs.Limits.{lowest_rise}
 use Rattle.theory_lists.specs.Sum.{at}
 use Rattle.theory_method.proofs.Exact.{none, exact}
 use Rattle.session.specs.Profile.{Profile, Schedule, total}
-use Rattle.session.specs.Opening.{early_opening, opened, refused_with, narrowed, codes, fresh, ranges_of}
+use Rattle.session.specs.Opening.{early_opening, opened, refused_with, narrowed, codes, fresh, ranges_of, Opened}
 use Rattle.promises.specs.Demands.{Exact, Demand2}
-use Rattle.session.specs.declared.Opened.{Opened}
 use Rattle.session.proofs.Entered.{Entered, entered, codes-bounds}
 use Rattle.session.proofs.SessionBounds.{early_not_8}
 use Rattle.promises.proofs.Bridge.{CodesOf, coding, codes_of, schedule_of, exact_points}

@@ -17,14 +17,12 @@ use Rattle.theory_lists.specs.Front.{in_front}
 use Rattle.theory_lists.specs.Rows.{rows}
 use Rattle.session.specs.Profile.{Profile, Schedule, Spans}
 use Rattle.session.specs.Opening.{early_opening, opened}
-use Rattle.session.specs.Showing.{floor_on, ceiling_on, total_floor, total_ceiling, list_too_short, shown}
+use Rattle.session.specs.Showing.{floor_on, ceiling_on, total_floor, total_ceiling, list_too_short, shown, Shown}
 use Rattle.session.specs.declared.Session.{Session}
-use Rattle.session.specs.declared.Shown.{Shown}
 use Rattle.session.proofs.Shows.{both_long}
 use Rattle.session_cuts.specs.declared.Cut.{Cut}
 use Rattle.session_order.specs.Order.{day_cells}
-use Rattle.session_cutting.specs.Cutting.{spend, changed_days, early_numbered, after_numbered}
-use Rattle.session_cutting.specs.declared.AfterCut.{AfterCut}
+use Rattle.session_cutting.specs.Cutting.{spend, changed_days, early_numbered, after_numbered, AfterCut}
 use Rattle.session_cutting.proofs.Laws.{Accepted, numbered-accepted, numbered_narrows}
 use Rattle.promises.specs.Cuts.{WellFormed, Looser, CutCall, Kept}
 use Rattle.promises.specs.Demands.{Exact}

@@ -11,10 +11,9 @@ use lib.Dec.{eqb}
 use lib.ListN.{length}
 use borrow.Author.Tests.{eqb-true, eqb-false}
 use Rattle.session.specs.Profile.{Profile, Spans}
-use Rattle.session.specs.Opening.{early_opening, opened, refused_with}
+use Rattle.session.specs.Opening.{early_opening, opened, refused_with, Opened}
 use Rattle.session.proofs.Entered.{entered}
 use Rattle.session.proofs.SessionBounds.{opened-refusal}
-use Rattle.session.specs.declared.Opened.{Opened}
 use Rattle.session_cuts.specs.declared.Cut.{Cut}
 use Rattle.session_cuts.specs.Sheet.{cut_on}
 use Rattle.session_cutting.specs.Cutting.{malformed}

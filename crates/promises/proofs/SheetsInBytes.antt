@@ -18,7 +18,7 @@ use Rattle.base_little_endian.proofs.Laws.{u16-length, u16-read}
 use Rattle.session.specs.Profile.{Profile}
 use Rattle.session.specs.declared.Session.{Session}
 use Rattle.session_order.specs.Order.{day_cells}
-use Rattle.session_cutting.specs.declared.CutAnswer.{CutAnswer}
+use Rattle.session_cutting.specs.Cutting.{CutAnswer}
 use Rattle.session_sheets.specs.Sheets.{after_cuts, answer_on, sheet_refusal, sheet_days}
 use Rattle.session_sheets.proofs.Laws.{after_kept, after-spent, after_narrows}
 use Rattle.file_format.specs.Format.{cut_length}

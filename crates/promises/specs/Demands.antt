@@ -7,8 +7,7 @@ use Rattle.session.specs.Showing.{SessionInBounds, floor_on, ceiling_on, total_f
 use Rattle.session.specs.Opening.{early_opening, opened}
 use Rattle.session.specs.declared.Session.{Session}
 use Rattle.session_cuts.specs.declared.Cut.{Cut}
-use Rattle.session_cutting.specs.Cutting.{spend, early_numbered, after_cut, after_numbered, list_after}
-use Rattle.session_cutting.specs.declared.AfterCut.{AfterCut}
+use Rattle.session_cutting.specs.Cutting.{spend, early_numbered, after_cut, after_numbered, list_after, AfterCut}
 use Rattle.promises.specs.Cuts.{WellFormed, Looser, CutCall, ValidIn, Kept, after}
 
 -- ---- demand 1 at a cut

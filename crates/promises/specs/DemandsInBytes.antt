@@ -3,10 +3,9 @@ use Rattle.std.specs.Prelude.{◌≡◌, true, false, cond, ◌↔◌, List, [],
 use Rattle.theory_lists.specs.Sum.{at}
 use Rattle.base_codes.specs.Code.{on}
 use Rattle.session.specs.Profile.{Profile, Schedule, Spans, total}
-use Rattle.session.specs.Showing.{floor_on, ceiling_on}
+use Rattle.session.specs.Showing.{floor_on, ceiling_on, Shown}
 use Rattle.session.specs.Opening.{early_opening, opened}
 use Rattle.session.specs.declared.Session.{Session}
-use Rattle.session.specs.declared.Shown.{Shown}
 use Rattle.session_cuts.specs.declared.Cut.{Cut}
 use Rattle.session_cutting.specs.Cutting.{spend, early_numbered}
 use Rattle.promises.specs.Cuts.{WellFormed, Looser, ValidIn, Kept}

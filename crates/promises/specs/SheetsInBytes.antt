@@ -5,7 +5,7 @@ use Rattle.theory_lists.specs.ListOf.{list_of}
 use Rattle.base_little_endian.specs.Fields.{u16_at}
 use Rattle.session.specs.Profile.{Profile}
 use Rattle.session.specs.declared.Session.{Session}
-use Rattle.session_cutting.specs.declared.CutAnswer.{CutAnswer}
+use Rattle.session_cutting.specs.Cutting.{CutAnswer}
 use Rattle.file_format.specs.Format.{cut_length}
 use Rattle.promises.specs.Demands.{Stays}
 use Rattle.promises.specs.InBytes.{ByteCutCall, bytes_after, CameFrom}

@@ -13,15 +13,13 @@ use Rattle.theory_method.specs.Filter.{tightened, tight_ceilings, tight_floors, 
 use Rattle.tighten_passes.specs.Round.{over, rounded, below}
 use Rattle.session.specs.Profile.{Profile}
 use Rattle.session.specs.Showing.{floor_on, ceiling_on, total_floor, total_ceiling}
-use Rattle.session.specs.Opening.{numbers_with, profile, opened, early_opening, codes}
+use Rattle.session.specs.Opening.{numbers_with, profile, opened, early_opening, codes, Opened}
 use Rattle.session.specs.declared.Numbers.{Numbers}
 use Rattle.session.specs.declared.Session.{Session}
-use Rattle.session.specs.declared.Opened.{Opened}
 use Rattle.session_cuts.specs.declared.Cut.{Cut}
 use Rattle.session_cuts.specs.declared.Cut.TheVariants.{DayFloor, DayCeiling, TotalCeiling}
 use Rattle.session_order.specs.Order.{days_where, insert_day, settled_order}
-use Rattle.session_cutting.specs.Cutting.{after_cut, early_cutting, clipped, list_after, after_numbered}
-use Rattle.session_cutting.specs.declared.AfterCut.{AfterCut}
+use Rattle.session_cutting.specs.Cutting.{after_cut, early_cutting, clipped, list_after, after_numbered, AfterCut}
 use Rattle.session_sheets.specs.Sheets.{not_asked, after_cuts, sheet_refusal, answers_to, after_sheet, list_after_sheet}
 use Rattle.session_sheets.specs.declared.AskedSheet.{AskedSheet}
 use Rattle.session_sheets.specs.declared.Answered.{Answered}

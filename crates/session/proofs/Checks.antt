@@ -24,8 +24,7 @@ use Rattle.theory_method.proofs.Stages.{crossing}
 use Rattle.tighten_filtering.specs.Boxed.{boxed}
 use Rattle.session.specs.Profile.{Profile}
 use Rattle.session.specs.Opening.{box_in, narrowed, numbers_of, opened_with, crossed, early_opening, opened, refused_with, codes, bad_count, bad_length, bad_point, bad_rise, bad_total, bad_range, bad_first}
-use Rattle.session.specs.Stages.{lengths_of, coded_numbers, not_coded, coded_with, coded_profile, coded_list, codes_crossed, range_refusal, no_ranges, ranges_with, ranges_opened, session_with, opened_codes}
-use Rattle.session.specs.Stages.{CodedProfile}
+use Rattle.session.specs.Stages.{lengths_of, coded_numbers, not_coded, coded_with, coded_profile, coded_list, codes_crossed, range_refusal, no_ranges, ranges_with, ranges_opened, session_with, opened_codes, CodedProfile}
 use Rattle.session.proofs.Stages.{judged}
 use Rattle.session.proofs.Entered.{Entered, Sized, sized, Unrefused, counting_all, passed_all, codes-bounds, or-true, floor_less, ceiling_less, lowest_less, highest_less}
 

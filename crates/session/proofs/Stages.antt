@@ -11,15 +11,16 @@ use Rattle.theory_lists.specs.Sum.{at}
 use Rattle.theory_lists.specs.Checks.{cond-zero}
 use Rattle.base_codes.specs.Code.{within, code, coded}
 use Rattle.base_codes.specs.declared.CodedNumbers.{CodedNumbers}
-use Rattle.std.specs.Prelude.{Option, None, Some, Result, Ok, Err}
+use Rattle.std.specs.Prelude.{Option, None, Some, Result, Ok, Err, ok_or}
 use Rattle.refusals.specs.declared.Refusal.{Refusal}
+use Rattle.refusals.specs.declared.Refusal.TheVariants.{NoSchedule}
 use Rattle.refusals.specs.Number.{refusal_number}
 use Rattle.refusals.proofs.Laws.{refused}
 use Rattle.base_codes.specs.declared.TotalRange.{TotalRange}
 use Rattle.base_codes.proofs.Laws.{coded-code, coded-outside}
 use Rattle.theory_method.specs.Filter.{Box, all_counted, InBounds, Tight, tightened, first_crossed}
 use Rattle.theory_method.proofs.Levels.{recount}
-use Rattle.tighten_filtering.specs.Boxed.{boxed}
+use Rattle.tighten_filtering.specs.Boxed.{boxed, tight_as}
 use Rattle.session.specs.Stages.{not_coded, coded_with, codes_crossed, range_refusal, RangesOpened, ranges_as, no_ranges, ranges_with, ranges_opened, opened_codes}
 use Rattle.session.specs.Opening.{fresh, refused_with}
 use Rattle.session.specs.declared.Numbers.{Numbers}
@@ -78,6 +79,11 @@ module _ (crossed : Bool) (m : CodedNumbers) where
     pub said_13 : m.days ≤ m.first → 13 ≡ range_refusal crossed m
     said_13 l = rw (h, le-ltb m.first m.days l)
 
+-- 8, or the total's range
+by_total : (t : Option TotalRange) (fs cs : List ℕ) → ranges_as (ok_or t NoSchedule) fs cs ≡ ranges_with (tight_as t fs cs)
+by_total (Some t) fs cs = refl
+by_total None fs cs = refl
+
 -- 6 or 13
 by_number : (a b : Bool) {x : ℕ} (fs cs : List ℕ) (t : RangesOpened) → x ≡ cond a 6 (cond b 13 0) → (x ≡ 0 → ⊥) → no_ranges x fs cs ≡ cond a (no_ranges 6 fs cs) (cond b (no_ranges 13 fs cs) t)
 by_number true b fs cs t e h = rw e refl
@@ -102,16 +108,10 @@ module _ (fs cs rs : List ℕ) (m : CodedNumbers) {days : Bool} {x : ℕ} (told 
     pub first_in_bounds : InBounds (all_counted (boxed fs cs rs m)) → InBounds (boxed fs cs rs m)
     first_in_bounds b = recount b (ltb-true _ _ (not-false _ passes.1))
 
-  module _ (h : x ≡ 0) {t : Tight} (e : t ≡ tightened (boxed fs cs rs m)) where
-    tight : ranges_with t ≡ ranges_opened (boxed fs cs rs m)
-    unfolding ranges_opened
-    tight = rw ((passes h).0, (passes h).1, e)
-
-    pub ranges-found : t.found ≡ true → record { refusal = 0; floors = t.floors; ceilings = t.ceilings; lowest = t.lowest; highest = t.highest } ≡ ranges_opened (boxed fs cs rs m)
-    ranges-found f = (rw f at tight)
-
-    pub ranges-none : t.found ≡ false → no_ranges 8 t.floors t.ceilings ≡ ranges_opened (boxed fs cs rs m)
-    ranges-none f = (rw f at tight)
+  pub ranges-tight : x ≡ 0 → (t : Option TotalRange) (floors ceilings : List ℕ) → tight_as t floors ceilings ≡ tightened (boxed fs cs rs m)
+      → ranges_as (ok_or t NoSchedule) floors ceilings ≡ ranges_opened (boxed fs cs rs m)
+  unfolding ranges_opened
+  ranges-tight h t floors ceilings e = rw ((passes h).0, (passes h).1, ← e) (by_total t floors ceilings)
 
 -- ---- the session
 

@@ -208,14 +208,8 @@ pub fn open_ranges(
     ensures { ranges_as result floors.new ceilings.new ≡ ranges_opened (boxed floors.old ceilings.old rises.now numbers) }
 {
     check_ranges(crossed, numbers)?;
-    let t = tighten_filtering::tighten(floors, ceilings, rises, numbers);
-    if t.found {
-        return Ok(TotalRange {
-            lowest: t.lowest,
-            highest: t.highest,
-        });
-    }
-    Err(Refusal::NoSchedule)
+    let total = tighten_filtering::tighten(floors, ceilings, rises, numbers);
+    total.ok_or(Refusal::NoSchedule)
 }
 
 // Opens what has passed the checks on lengths and bounds: 6, 13, then 8.

@@ -32,8 +32,7 @@ use Rattle.session_order.proofs.Days.{days_few}
 use Rattle.session_order.proofs.Settled.{settled-length}
 use Rattle.session_changed.specs.Changes.{differs, lost, Narrowed, NarrowedOrSame}
 use Rattle.session_changed.proofs.Laws.{narrowed_none, narrowed_same}
-use Rattle.session_cutting.specs.Cutting.{day_cut_refusal, total_cut_refusal, malformed, early_cutting, clipped, retightened, tightened_to, refusing, changed_days, after_cut, after_numbered, list_after}
-use Rattle.session_cutting.specs.declared.AfterCut.{AfterCut}
+use Rattle.session_cutting.specs.Cutting.{day_cut_refusal, total_cut_refusal, malformed, early_cutting, clipped, retightened, tightened_to, refusing, changed_days, after_cut, after_numbered, list_after, AfterCut}
 
 -- ---- what the checks let pass
 

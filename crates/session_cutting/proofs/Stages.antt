@@ -1,5 +1,7 @@
 -- A cut by what its tests found.
-use Rattle.std.specs.Prelude.{None, Option, Some}
+use Rattle.std.specs.Prelude.{None, Option, Some, ok_or}
+use Rattle.refusals.specs.declared.Refusal.{Refusal}
+use Rattle.refusals.specs.Number.{refusal_number}
 use mathlib.Core.Path.{◌≡◌, refl, ap, sym, ◌∙◌}
 use mathlib.Core.Bool.{Bool, true, false, cond}
 use mathlib.Core.List.{List}
@@ -15,8 +17,6 @@ use Rattle.limits.specs.Limits.{lowest_point, highest_point, lowest_total, highe
 use Rattle.base_codes.specs.Code.{within, code, coded}
 use Rattle.base_codes.proofs.Laws.{point_most}
 use Rattle.base_codes.proofs.Casts.{seen, coded_seen}
-use Rattle.base_codes.specs.declared.Coded.{Coded}
-use Rattle.base_codes.specs.declared.Coded.TheVariants.{Code, Outside}
 use Rattle.theory_method.specs.Filter.{Tight}
 use Rattle.session.specs.Opening.{ranges_of}
 use Rattle.session.specs.Showing.{Fits}
@@ -25,23 +25,27 @@ use Rattle.session.specs.declared.Session.{Session}
 use Rattle.session_cuts.specs.declared.Cut.{Cut}
 use Rattle.session_cuts.specs.declared.Cut.TheVariants.{DayFloor, DayCeiling, TotalFloor, TotalCeiling}
 use Rattle.theory_lists.specs.Front.{in_front}
-use Rattle.session_cutting.specs.Cutting.{day_cut_refusal, total_cut_refusal, malformed, early_cutting, clipped, retightened, changed_days, spend, with_present, refusing, tightened_to, after_cut, after_numbered, list_after}
-use Rattle.session_cutting.specs.declared.AfterCut.{AfterCut}
-use Rattle.session_cutting.specs.declared.Checked.{Checked}
-use Rattle.session_cutting.specs.Stages.{checked_value, checked_cut, DayClips, Clips}
+use Rattle.session_cutting.specs.Cutting.{AfterCut, day_cut_refusal, total_cut_refusal, malformed, early_cutting, clipped, retightened, changed_days, spend, with_present, refusing, tightened_to, after_cut, after_numbered, list_after}
+use Rattle.session_cutting.specs.Stages.{Checked, checked_as, checked_value, checked_cut, DayClips, Clips}
 use Rattle.session_cutting.proofs.Laws.{day-formed, total-formed, earlier_none, refused-same, accepted, refused-list, accepted-list, clipped_in_bounds}
 
 -- ---- check
 
 value_refusal : (placed in_bounds : Bool) (otherwise outside v : ℕ)
-    → (checked_value placed otherwise (cond in_bounds (Code v) Outside) outside).refusal ≡ cond placed (cond in_bounds 0 outside) otherwise
+    → (checked_value placed otherwise (cond in_bounds (Some v) None) outside).refusal ≡ cond placed (cond in_bounds 0 outside) otherwise
 unfolding checked_value
 value_refusal true true otherwise outside v = refl
 value_refusal true false otherwise outside v = refl
 value_refusal false in_bounds otherwise outside v = refl
 
+-- of a day that the cut can have
+pub value_taken : (otherwise : ℕ) (v : Option ℕ) (outside : Refusal) → checked_as (ok_or v outside) ≡ checked_value true otherwise v (refusal_number outside)
+unfolding checked_value
+value_taken otherwise (Some v) outside = refl
+value_taken otherwise None outside = refl
+
 -- of a value that is read back from its bits
-pub value_checked : (low high : ℤ) (placed : Bool) (otherwise outside : ℕ) {value : ℤ} {v : Coded} {r : Checked} → SFits w32 value → v ≡ coded low high (seen value)
+pub value_checked : (low high : ℤ) (placed : Bool) (otherwise outside : ℕ) {value : ℤ} {v : Option ℕ} {r : Checked} → SFits w32 value → v ≡ coded low high (seen value)
     → r ≡ checked_value placed otherwise v outside → r ≡ checked_value placed otherwise (coded low high value) outside
 value_checked low high placed otherwise outside f e h = h ∙ ap (λ v. checked_value placed otherwise v outside) (coded_seen low high f e)
 

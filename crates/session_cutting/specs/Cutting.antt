@@ -1,5 +1,5 @@
 -- Document 01: what a cut makes of a session, and of the list that is lent for changed days.
-use Rattle.std.specs.Prelude.{true, cond, List, ℕ, min, max, ℤ, eqb, ltb, length, set, None, Option, Some}
+use Rattle.std.specs.Prelude.{true, cond, List, ℕ, min, max, ℤ, eqb, ltb, length, set, None, Option, Some, Result, Ok, Err}
 use Rattle.limits.specs.Limits.{lowest_point, highest_point, lowest_total, highest_total}
 use Rattle.theory_lists.specs.Sum.{at}
 use Rattle.base_codes.specs.Code.{within, code}
@@ -13,7 +13,9 @@ use Rattle.session_cuts.specs.declared.Cut.TheVariants.{DayFloor, DayCeiling, To
 use Rattle.theory_lists.specs.Front.{in_front}
 use Rattle.session_changed.specs.Changes.{differs, lost}
 use Rattle.session_order.specs.Order.{days_where, settled_order}
-use Rattle.session_cutting.specs.declared.AfterCut.{AfterCut}
+use Rattle.session_cutting.specs.declared.AfterCut as Code
+use Rattle.refusals.specs.declared.Refusal.{Refusal}
+use Rattle.refusals.specs.Number.{refusal_number}
 
 -- ---- the refusals
 
@@ -65,6 +67,23 @@ spend s = record { days = s.days; first = s.first; rises = s.rises; opened = s.o
 
 abbrev pub with_present : Session → Ranges → Session
 with_present s r = record { days = s.days; first = s.first; rises = s.rises; opened = s.opened; present = r; spent = s.spent }
+
+-- a cut's answer: the refusal's number, 0 for none, and how many days changed
+pub record CutAnswer : Type 0 where
+  pub refusal : ℕ
+  pub changed : ℕ
+
+abbrev pub answer_as : Result ℕ Refusal → CutAnswer
+answer_as (Ok changed) = record { refusal = 0; changed = changed }
+answer_as (Err refusal) = record { refusal = refusal_number refusal; changed = 0 }
+
+-- with the session after it
+pub record AfterCut : Type 0 where
+  pub answer : CutAnswer
+  pub session : Session
+
+abbrev pub after_as : Code.AfterCut → AfterCut
+after_as a = record { answer = answer_as a.answer; session = a.session }
 
 -- beside a refusal's number the count of changed days is 0
 abbrev pub refusing : ℕ → Session → AfterCut

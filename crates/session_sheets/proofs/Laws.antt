@@ -17,9 +17,8 @@ use Rattle.session.specs.declared.Session.{Session}
 use Rattle.session_order.specs.Order.{settled_losers}
 use Rattle.session_changed.specs.Changes.{lost}
 use Rattle.session_changed.proofs.Laws.{narrowed-losers, narrowed_none, narrowed-again}
-use Rattle.session_cutting.specs.Cutting.{changed_days, after_numbered}
+use Rattle.session_cutting.specs.Cutting.{changed_days, after_numbered, AfterCut}
 use Rattle.session_cutting.proofs.Laws.{Narrows, keeps, numbered_within, numbered_in_bounds}
-use Rattle.session_cutting.specs.declared.AfterCut.{AfterCut}
 use Rattle.session_sheets.specs.Sheets.{after_cuts, answer_on, answers_to, not_asked, not_answered, sheet_refusal, sheet_days, asked_on, refused_sheet, after_sheet, list_after_sheet}
 use Rattle.session_sheets.specs.declared.Asked.{Asked}
 use Rattle.session_sheets.specs.declared.Answered.{Answered}

@@ -4,8 +4,7 @@ use Rattle.limits.specs.Limits.{most_cuts}
 use Rattle.theory_lists.specs.Written.{written}
 use Rattle.theory_lists.specs.Front.{in_front}
 use Rattle.session.specs.declared.Session.{Session}
-use Rattle.session_cutting.specs.Cutting.{changed_days, after_numbered}
-use Rattle.session_cutting.specs.declared.CutAnswer.{CutAnswer}
+use Rattle.session_cutting.specs.Cutting.{changed_days, after_numbered, CutAnswer}
 use Rattle.session_sheets.specs.declared.Asked.{Asked}
 use Rattle.session_sheets.specs.declared.AskedSheet.{AskedSheet}
 use Rattle.session_sheets.specs.declared.Answered.{Answered}

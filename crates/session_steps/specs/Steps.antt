@@ -4,7 +4,7 @@ use Rattle.limits.specs.Limits.{most_days}
 use Rattle.theory_lists.specs.Sum.{at}
 use Rattle.session.specs.Showing.{SessionInBounds}
 use Rattle.session.specs.declared.Session.{Session}
-use Rattle.session_cutting.specs.declared.AfterCut.{AfterCut}
+use Rattle.session_cutting.specs.Cutting.{AfterCut}
 use Rattle.session_steps.specs.declared.Step.{Step}
 
 -- the width of day k's range

@@ -1,8 +1,7 @@
 -- `open_lists` meets its contract: what is coded is the profile's (`lists-coded`), and each return is a law of Opening by what opening over codes gave.
 use mathlib.Core.Path.{◌≡◌, ◌∙◌}
 use Rattle.tighten_filtering.specs.Boxed.{boxed}
-use Rattle.session.specs.Opening.{fresh, opened}
-use Rattle.session.specs.declared.Opened.{Opened}
+use Rattle.session.specs.Opening.{fresh, opened, Opened}
 use Rattle.session.proofs.Checks.{CodedArrays, all-refused, days-kept, in_bounds, all-opened}
 use Rattle.session.proofs.Stages.{session-refused, session-fresh}
 use Rattle.c_lists.specs.Profiles.{byte_profile, profile_of}

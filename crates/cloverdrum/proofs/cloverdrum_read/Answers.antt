@@ -6,7 +6,7 @@ use lib.IntN.{ℤ}
 use mir.Facts.{to_z-of_z}
 use mir.Syntax.{w32}
 use borrow.Author.Rules.{rules, sfits_of}
-use Rattle.session.specs.declared.Shown.{Shown}
+use Rattle.session.specs.Showing.{Shown}
 use Rattle.c_sessions.specs.Sessions.{marked}
 use Rattle.cloverdrum.proofs.cloverdrum_read.Goals as goal
 

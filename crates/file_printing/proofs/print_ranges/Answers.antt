@@ -1,8 +1,7 @@
 -- `print_ranges` meets its contract: a law of Lines for the stage that refuses, or for none.
 use mathlib.Core.Path.{◌≡◌, ap, sym, ◌∙◌}
 use native.Mathlib.Omega.{arith}
-use Rattle.session.specs.Opening.{opened}
-use Rattle.session.specs.declared.Opened.{Opened}
+use Rattle.session.specs.Opening.{opened, Opened}
 use Rattle.session.proofs.SessionBounds.{opened_in_bounds}
 use Rattle.file_format.specs.Format.{profile_in}
 use Rattle.file_reading.proofs.Laws.{read_number}

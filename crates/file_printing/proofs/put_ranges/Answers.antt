@@ -7,9 +7,8 @@ use mir.Val.{to_z, of_z}
 use mir.Facts.{to_z-of_z}
 use Rattle.theory_lists.specs.Rows.{rows, rows_same, front-sets}
 use Rattle.base_codes.specs.Code.{on}
-use Rattle.session.specs.Showing.{floor_on, ceiling_on, total_floor, total_ceiling}
+use Rattle.session.specs.Showing.{floor_on, ceiling_on, total_floor, total_ceiling, Shown}
 use Rattle.session.specs.declared.Session.{Session}
-use Rattle.session.specs.declared.Shown.{Shown}
 use Rattle.file_printing.specs.Printing.{day_line, total_line, ranges_text}
 use Rattle.file_printing.proofs.Lines.{ranges_parts, total_line_lem, day_line_lem, ranges-fit}
 use Rattle.file_printing.proofs.Laws.{Left, left-all, left-more, left-none}

@@ -1,10 +1,11 @@
 -- `open_ranges` meets its contract: a law of Stages for each return.
 use mathlib.Core.Path.{◌≡◌, refl}
 use borrow.Author.Rules.{rules}
-use Rattle.std.specs.Prelude.{Err}
+use Rattle.std.specs.Prelude.{Err, ok_or}
+use Rattle.refusals.specs.declared.Refusal.TheVariants.{NoSchedule}
 use Rattle.refusals.proofs.Laws.{refused}
 use Rattle.session.specs.Stages.{range_refusal}
-use Rattle.session.proofs.Stages.{ranges-refused, first_in_bounds, ranges-found, ranges-none}
+use Rattle.session.proofs.Stages.{ranges-refused, first_in_bounds, ranges-tight}
 use Rattle.session.proofs.open_ranges.Goals as goal
 use Rattle.session.proofs.open_ranges.Goals.{In_ok-check_ranges}
 
@@ -16,13 +17,12 @@ returns-in_err-check_ranges c =
 clear : (c : In_ok-check_ranges) → 0 ≡ range_refusal c.args.crossed c.args.numbers
 clear c = c.in_ok-check_ranges.ensures
 
-pub tighten-t-requires : goal.tighten-t-requires
-tighten-t-requires c =
+pub tighten-total-requires : goal.tighten-total-requires
+tighten-total-requires c =
     let a = c.args in
-    first_in_bounds a.floors.now a.ceilings.now a.rises.now a.numbers c.requires.1 (clear (goal.at.tighten-t-requires c).In_ok-check_ranges) refl c.requires.0
-
-pub returns-then-t : goal.returns-then-t
-returns-then-t c = ranges-found _ _ _ _ c.requires.1 (clear (goal.at.returns-then-t c).In_ok-check_ranges) refl c.tighten-t.ensures c.if-t.true
+    first_in_bounds a.floors.now a.ceilings.now a.rises.now a.numbers c.requires.1 (clear (goal.at.tighten-total-requires c).In_ok-check_ranges) refl c.requires.0
 
 pub returns : goal.returns
-returns c = ranges-none _ _ _ _ c.requires.1 (clear (goal.at.returns c).In_ok-check_ranges) refl c.tighten-t.ensures c.if-t.false
+returns c =
+    let e : c.ok_or.result ≡ ok_or c.tighten-total.result NoSchedule = c.ok_or.ensures.value in
+    rw e (ranges-tight _ _ _ _ c.requires.1 (clear (goal.at.returns c).In_ok-check_ranges) refl c.tighten-total.result _ _ c.tighten-total.ensures)

@@ -20,8 +20,8 @@ offset_bounds-floors-day c = let p = floor-clips (goal.at.offset_bounds-floors-d
 pub bounds-floors-day : goal.bounds-floors-day
 bounds-floors-day c = let p = floor-clips (goal.at.bounds-floors-day c).In-DayFloor in search rules
 
-pub overflow_cast-floors : goal.overflow_cast-floors
-overflow_cast-floors c = let p = floor-clips (goal.at.overflow_cast-floors c).In-DayFloor in search rules
+pub overflow_cast-value : goal.overflow_cast-value
+overflow_cast-value c = let p = floor-clips (goal.at.overflow_cast-value c).In-DayFloor in search rules
 
 pub offset_bounds-floors-day-in-DayFloor : goal.offset_bounds-floors-day-in-DayFloor
 offset_bounds-floors-day-in-DayFloor c = let p = floor-clips (goal.at.offset_bounds-floors-day-in-DayFloor c).In-DayFloor in search rules
@@ -35,8 +35,8 @@ offset_bounds-ceilings-day c = let p = ceiling-clips (goal.at.offset_bounds-ceil
 pub bounds-ceilings-day : goal.bounds-ceilings-day
 bounds-ceilings-day c = let p = ceiling-clips (goal.at.bounds-ceilings-day c).In-DayCeiling in search rules
 
-pub overflow_cast-ceilings : goal.overflow_cast-ceilings
-overflow_cast-ceilings c = let p = ceiling-clips (goal.at.overflow_cast-ceilings c).In-DayCeiling in search rules
+pub overflow_cast-value-in-DayCeiling : goal.overflow_cast-value-in-DayCeiling
+overflow_cast-value-in-DayCeiling c = let p = ceiling-clips (goal.at.overflow_cast-value-in-DayCeiling c).In-DayCeiling in search rules
 
 pub offset_bounds-ceilings-day-in-DayCeiling : goal.offset_bounds-ceilings-day-in-DayCeiling
 offset_bounds-ceilings-day-in-DayCeiling c = let p = ceiling-clips (goal.at.offset_bounds-ceilings-day-in-DayCeiling c).In-DayCeiling in search rules
@@ -46,11 +46,11 @@ bounds-ceilings-day-in-DayCeiling c = let p = ceiling-clips (goal.at.bounds-ceil
 
 pub returns-in-DayFloor : goal.returns-in-DayFloor
 unfolding clipped
-returns-in-DayFloor c = let p = floor-clips (goal.at.returns-in-DayFloor c).In-DayFloor in rw (c.in-DayFloor.is, c.max.ensures, c.wide.ensures.0, p.1)
+returns-in-DayFloor c = let p = floor-clips (goal.at.returns-in-DayFloor c).In-DayFloor in rw (c.in-DayFloor.is, c.max.ensures, p.1)
 
 pub returns-in-DayCeiling : goal.returns-in-DayCeiling
 unfolding clipped
-returns-in-DayCeiling c = let p = ceiling-clips (goal.at.returns-in-DayCeiling c).In-DayCeiling in rw (c.in-DayCeiling.is, c.min.ensures, c.wide-in-DayCeiling.ensures.0, p.1)
+returns-in-DayCeiling c = let p = ceiling-clips (goal.at.returns-in-DayCeiling c).In-DayCeiling in rw (c.in-DayCeiling.is, c.min.ensures, p.1)
 
 pub returns-in-TotalFloor : goal.returns-in-TotalFloor
 unfolding clipped
