@@ -28,7 +28,8 @@ pub fn points(bytes: &[u8], n: usize, out: &mut [i16; MOST_DAYS])
     requires { (n ≤ most_days) × (n * 2 ≤ length bytes.now) }
     ensures { out.new ≡ written (point_at bytes.now) n out.old }
 {
-    for k in 0..n {
+    for j in 0..n as u32 {
+        let k = j as usize;
         out[k] = i16_at(bytes, k * 2);
     }
 }
@@ -83,7 +84,8 @@ pub fn put_points(points: &[i16; MOST_DAYS], n: usize, out: &mut [u8])
     requires { (n ≤ most_days) × (n * 2 ≤ length out.old) }
     ensures { out.new ≡ sets out.old 0 (point_bytes (on points.now) n) }
 {
-    for k in 0..n {
+    for j in 0..n as u32 {
+        let k = j as usize;
         put_i16(out, k * 2, points[k]);
     }
 }
@@ -93,7 +95,8 @@ pub fn put_levels(levels: &[u16; MOST_DAYS], n: usize, out: &mut [u8])
     requires { (n ≤ most_days) × (n * 2 ≤ length out.old) × ((k : ℕ) → k < n → at levels.now k ≤ highest_level) }
     ensures { out.new ≡ sets out.old 0 (point_bytes (λ k. decoded lowest_point (at levels.now k)) n) }
 {
-    for k in 0..n {
+    for j in 0..n as u32 {
+        let k = j as usize;
         put_i16(out, k * 2, decode_short(levels[k], LOWEST_POINT));
     }
 }

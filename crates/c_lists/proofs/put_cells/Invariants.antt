@@ -1,5 +1,5 @@
 -- `put_cells` meets its contract: j cells of 2 bytes each are stored from `place` on (`Stored`), and a turn stores the next one (`even_more`).
-use Prim.Native.Nat.{◌+◌, ◌-◌, ◌*◌}
+use Prim.Native.Nat.{◌+◌, ◌*◌}
 use Rattle.base_little_endian.specs.Fields.{u16_bytes}
 use Rattle.theory_lists.specs.Sum.{at}
 use Rattle.theory_lists.specs.Rows.{Stored}

@@ -11,18 +11,18 @@ use borrow.Author.Rules.{sfits_of}
 use native.Mathlib.Omega.{arith}
 use Rattle.c_lists.proofs.put_levels.Goals as goal
 
-pub loop-k-init : goal.loop-k-init
-loop-k-init c = stored_none
+pub loop-j-init : goal.loop-j-init
+loop-j-init c = stored_none
 
 pub decode_short-requires : goal.decode_short-requires
 decode_short-requires c =
-    (refl, omega (arith, c.requires.2 c.loop-k.k c.loop-k-test.true))
+    (refl, omega (arith, c.requires.2 c.loop-j.j c.loop-j-test.true))
 
-pub loop-k-preserved : goal.loop-k-preserved
-loop-k-preserved c =
+pub loop-j-preserved : goal.loop-j-preserved
+loop-j-preserved c =
     let point = to_z-of_z (sfits_of {w = w16} c.decode_short.type_inv) ∙ c.decode_short.ensures in
-    stored_more c.loop-k.invariant c.loop-k-test.true (rw point at c.put_i16.ensures, omega (arith, i16_length (decoded lowest_point (at c.args.levels.now c.loop-k.k))))
+    stored_more c.loop-j.invariant c.loop-j-test.true (rw point at c.put_i16.ensures, omega (arith, i16_length (decoded lowest_point (at c.args.levels.now c.loop-j.j))))
 
 pub returns : goal.returns
 unfolding point_bytes
-returns c = (stored_all c.loop-k.invariant c.loop-k-test.false).0
+returns c = (stored_all c.loop-j.invariant c.loop-j-test.false).0

@@ -1,6 +1,6 @@
--- `put_levels` meets its contract: k points are stored, from the list's front to k * 2 (`Stored`), and a turn stores the next level's
+-- `put_levels` meets its contract: j points are stored, from the list's front to j * 2 (`Stored`), and a turn stores the next level's
 -- (`stored_more`).
-use Prim.Native.Nat.{◌-◌, ◌*◌}
+use Prim.Native.Nat.{◌*◌}
 use Rattle.limits.specs.Limits.{lowest_point}
 use Rattle.base_codes.specs.Code.{decoded}
 use Rattle.base_little_endian.specs.Fields.{i16_bytes}
@@ -8,5 +8,5 @@ use Rattle.theory_lists.specs.Sum.{at}
 use Rattle.theory_lists.specs.Rows.{Stored}
 use Rattle.c_lists.proofs.put_levels.Given as goal
 
-abbrev pub invariant-loop-k : goal.invariant-loop-k
-invariant-loop-k l = Stored (λ j. i16_bytes (decoded lowest_point (at l.levels j))) l.n 0 l.initial.out l.k (l.k * 2) l.out
+abbrev pub invariant-loop-j : goal.invariant-loop-j
+invariant-loop-j l = Stored (λ k. i16_bytes (decoded lowest_point (at l.levels k))) l.n 0 l.initial.out l.j (l.j * 2) l.out

@@ -9,15 +9,15 @@ use borrow.Author.Rules.{rules}
 use native.Mathlib.Omega.{arith}
 use Rattle.c_lists.proofs.put_points.Goals as goal
 
-pub loop-k-init : goal.loop-k-init
-loop-k-init c = stored_none
+pub loop-j-init : goal.loop-j-init
+loop-j-init c = stored_none
 
-pub loop-k-preserved : goal.loop-k-preserved
-loop-k-preserved c =
-    let fits : SFits w16 (on c.args.points.now c.loop-k.k) = search rules in
+pub loop-j-preserved : goal.loop-j-preserved
+loop-j-preserved c =
+    let fits : SFits w16 (on c.args.points.now c.loop-j.j) = search rules in
     let bytes = rw (to_z-of_z fits) at c.put_i16.ensures in
-    stored_more c.loop-k.invariant c.loop-k-test.true (bytes, omega (arith, i16_length (on c.args.points.now c.loop-k.k)))
+    stored_more c.loop-j.invariant c.loop-j-test.true (bytes, omega (arith, i16_length (on c.args.points.now c.loop-j.j)))
 
 pub returns : goal.returns
 unfolding point_bytes
-returns c = (stored_all c.loop-k.invariant c.loop-k-test.false).0
+returns c = (stored_all c.loop-j.invariant c.loop-j-test.false).0
