@@ -15,11 +15,12 @@ ghost use Rattle.c_lists.specs.Lists.{point_bytes};
 ghost use Rattle.c_layout.specs.Layout.{cell_length, total_length, totals_length, session_bytes, total_at, decoding};
 
 use base_codes::{Coded, decode_short};
-use base_little_endian::{i32_at, put_i16, u16_at};
+use base_little_endian::{i32_at, u16_at};
 use c_layout::{
     BLOCK_BYTES, CELL_BYTES, DAYS_AT, FIRST_AT, MARK_AT, PRESENT_AT, PRESENT_TOTALS_AT, RISES_AT,
     TOTAL_BYTES,
 };
+use c_lists::{fill_each, put_each_point};
 use limits::MOST_DAYS;
 use session::Session;
 
@@ -35,10 +36,7 @@ fn cells(bytes: &[u8], place: usize, n: usize, most: u16, out: &mut [u16; MOST_D
     requires { (n ≤ most_days) × (place + n * cell_length ≤ length bytes.now) }
     ensures { out.new ≡ written (λ k. min (u16_at bytes.now (place + k * cell_length)) most) n out.old }
 {
-    for j in 0..n as u32 {
-        let k = j as usize;
-        out[k] = u16_at(bytes, place + k * CELL_BYTES).min(most);
-    }
+    fill_each(n, out, |k| u16_at(bytes, place + k * CELL_BYTES).min(most));
 }
 
 // A bound of the total, as it is held.
@@ -153,11 +151,12 @@ fn show_levels(bytes: &[u8], place: usize, n: usize, out: &mut [u8])
     requires { (n ≤ most_days) × (place + n * cell_length ≤ length bytes.now) × (n * cell_length ≤ length out.old) }
     ensures { out.new ≡ sets out.old 0 (point_bytes (λ k. decoded lowest_point (min (u16_at bytes.now (place + k * cell_length)) highest_level)) n) }
 {
-    for j in 0..n as u32 {
-        let k = j as usize;
-        let point = decode_short(level(bytes, place + k * CELL_BYTES), Session::LOWEST_POINT);
-        put_i16(out, k * CELL_BYTES, point);
-    }
+    put_each_point(
+        n,
+        0,
+        out,
+        |k| decode_short(level(bytes, place + k * CELL_BYTES), Session::LOWEST_POINT),
+    );
 }
 
 // Stores the present range of each day, in points, as the front of both lists.
