@@ -114,15 +114,23 @@ pub fn put_levels(levels: &[u16; MOST_DAYS], n: usize, out: &mut [u8])
     put_each_point(n, 0, out, |k| decode_short(levels[k], LOWEST_POINT));
 }
 
+// Stores n unsigned numbers from a place on, the k-th as `cell` gives it.
+pub fn put_each_cell<F: Fn(usize) -> u16>(n: usize, place: usize, out: &mut [u8], cell: F)
+    requires { (n ≤ most_days) × (place + n * 2 ≤ length out.old) × ((k : ℕ) → k < n → F.pre cell k) }
+    ensures { (f : ℕ → ℕ) → ((k : ℕ) (x : _) → k < n → F.post cell k x → x ≡ f k) → out.new ≡ sets out.old place (cell_bytes f n) }
+{
+    for j in 0..n as u32 {
+        let k = j as usize;
+        put_u16(out, place + k * 2, cell(k));
+    }
+}
+
 // Stores n unsigned numbers from a place on.
 pub fn put_cells(cells: &[u16; MOST_DAYS], n: usize, place: usize, out: &mut [u8])
     requires { (n ≤ most_days) × (place + n * 2 ≤ length out.old) }
     ensures { out.new ≡ sets out.old place (cell_bytes (at cells.now) n) }
 {
-    for j in 0..n as u32 {
-        let k = j as usize;
-        put_u16(out, place + k * 2, cells[k]);
-    }
+    put_each_cell(n, place, out, |k| cells[k]);
 }
 
 // Whether a profile's lists are as long as its days ask, by their counts of bytes.

@@ -23,7 +23,7 @@ use c_layout::{
     BLOCK_BYTES, CELL_BYTES, DAYS_AT, FIRST_AT, MARK_AT, OPENED_AT, OPENED_TOTALS_AT, PRESENT_AT,
     PRESENT_TOTALS_AT, RISES_AT, TOTAL_BYTES,
 };
-use c_lists::put_cells;
+use c_lists::{put_cells, put_each_cell};
 use c_loading::{days_of, level, totals};
 use limits::MOST_DAYS;
 use session::Session;
@@ -155,11 +155,8 @@ fn copy_levels(bytes: &mut [u8], from: usize, n: usize, place: usize)
     requires { (n ≤ most_days) × (from + n * cell_length ≤ place) × (place + n * cell_length ≤ length bytes.old) }
     ensures { bytes.new ≡ sets bytes.old place (cell_bytes (λ k. min (u16_at bytes.old (from + k * cell_length)) highest_level) n) }
 {
-    for j in 0..n as u32 {
-        let k = j as usize;
-        let held = level(bytes, from + k * CELL_BYTES);
-        put_u16(bytes, place + k * CELL_BYTES, held);
-    }
+    let (held, out) = bytes.split_at_mut(place);
+    put_each_cell(n, 0, out, |k| level(held, from + k * CELL_BYTES));
 }
 
 // Marks the session spent: its present ranges are those that it had when opened.
