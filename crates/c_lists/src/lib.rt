@@ -1,7 +1,7 @@
 // Lists as a caller in C hands them over: byte strings of 2-byte little-endian elements.
 #![tactic(auto)]
 
-ghost use Rattle.std.specs.Prelude.{◌≡◌, true, not, ◌||◌, ℕ, ◌+◌, ◌*◌, ◌≤◌, ◌<◌, length};
+ghost use Rattle.std.specs.Prelude.{◌≡◌, true, not, ◌||◌, ℕ, ℤ, ◌+◌, ◌*◌, ◌≤◌, ◌<◌, length};
 ghost use Rattle.std.proofs.lemmas.List.Edits.{sets};
 ghost use Rattle.limits.specs.Limits.{most_days, lowest_point, highest_point, highest_level, lowest_setpoint, highest_setpoint};
 ghost use Rattle.theory_lists.specs.Sum.{at};
@@ -23,14 +23,23 @@ pub struct CodedRanges {
     pub crossed: bool,
 }
 
+// Stores n elements, the k-th as `element` gives it.
+pub fn fill_each<T: Copy, F: Fn(usize) -> T>(n: usize, out: &mut [T; MOST_DAYS], element: F)
+    requires { (n ≤ most_days) × ((k : ℕ) → k < n → F.pre element k) }
+    ensures { (f : ℕ → T) → ((k : ℕ) (x : _) → k < n → F.post element k x → x ≡ f k) → out.new ≡ written f n out.old }
+{
+    for j in 0..n as u32 {
+        let k = j as usize;
+        out[k] = element(k);
+    }
+}
+
 // Stores the first n points of a list.
 pub fn points(bytes: &[u8], n: usize, out: &mut [i16; MOST_DAYS])
     requires { (n ≤ most_days) × (n * 2 ≤ length bytes.now) }
     ensures { out.new ≡ written (point_at bytes.now) n out.old }
 {
-    for k in 0..n {
-        out[k] = i16_at(bytes, k * 2);
-    }
+    fill_each(n, out, |k| i16_at(bytes, k * 2));
 }
 
 // Stores the codes of the first n points of a list, 0 for one outside its bounds, and says whether there is one. All have 16 bits.
@@ -78,14 +87,23 @@ pub fn code_ranges(
     CodedRanges { outside, crossed }
 }
 
+// Stores n points from a place on, the k-th as `point` gives it.
+pub fn put_each_point<F: Fn(usize) -> i16>(n: usize, place: usize, out: &mut [u8], point: F)
+    requires { (n ≤ most_days) × (place + n * 2 ≤ length out.old) × ((k : ℕ) → k < n → F.pre point k) }
+    ensures { (f : ℕ → ℤ) → ((k : ℕ) (z : _) → k < n → F.post point k z → z ≡ f k) → out.new ≡ sets out.old place (point_bytes f n) }
+{
+    for j in 0..n as u32 {
+        let k = j as usize;
+        put_i16(out, place + k * 2, point(k));
+    }
+}
+
 // Stores n points as the front of a list.
 pub fn put_points(points: &[i16; MOST_DAYS], n: usize, out: &mut [u8])
     requires { (n ≤ most_days) × (n * 2 ≤ length out.old) }
     ensures { out.new ≡ sets out.old 0 (point_bytes (on points.now) n) }
 {
-    for k in 0..n {
-        put_i16(out, k * 2, points[k]);
-    }
+    put_each_point(n, 0, out, |k| points[k]);
 }
 
 // Stores the points of n levels as the front of a list.
@@ -93,8 +111,17 @@ pub fn put_levels(levels: &[u16; MOST_DAYS], n: usize, out: &mut [u8])
     requires { (n ≤ most_days) × (n * 2 ≤ length out.old) × ((k : ℕ) → k < n → at levels.now k ≤ highest_level) }
     ensures { out.new ≡ sets out.old 0 (point_bytes (λ k. decoded lowest_point (at levels.now k)) n) }
 {
-    for k in 0..n {
-        put_i16(out, k * 2, decode_short(levels[k], LOWEST_POINT));
+    put_each_point(n, 0, out, |k| decode_short(levels[k], LOWEST_POINT));
+}
+
+// Stores n unsigned numbers from a place on, the k-th as `cell` gives it.
+pub fn put_each_cell<F: Fn(usize) -> u16>(n: usize, place: usize, out: &mut [u8], cell: F)
+    requires { (n ≤ most_days) × (place + n * 2 ≤ length out.old) × ((k : ℕ) → k < n → F.pre cell k) }
+    ensures { (f : ℕ → ℕ) → ((k : ℕ) (x : _) → k < n → F.post cell k x → x ≡ f k) → out.new ≡ sets out.old place (cell_bytes f n) }
+{
+    for j in 0..n as u32 {
+        let k = j as usize;
+        put_u16(out, place + k * 2, cell(k));
     }
 }
 
@@ -103,10 +130,7 @@ pub fn put_cells(cells: &[u16; MOST_DAYS], n: usize, place: usize, out: &mut [u8
     requires { (n ≤ most_days) × (place + n * 2 ≤ length out.old) }
     ensures { out.new ≡ sets out.old place (cell_bytes (at cells.now) n) }
 {
-    for j in 0..n as u32 {
-        let k = j as usize;
-        put_u16(out, place + k * 2, cells[k]);
-    }
+    put_each_cell(n, place, out, |k| cells[k]);
 }
 
 // Whether a profile's lists are as long as its days ask, by their counts of bytes.
