@@ -1,15 +1,9 @@
--- `put_u16` meets its contract: two bytes stored one after the other are `sets` of both.
-use mathlib.Core.Path.{refl}
-use lib.ListN.{length-set}
-use native.Mathlib.Numerals.{add-one}
-use Rattle.base_little_endian.specs.Fields.{u16_bytes}
-use borrow.Author.Rules.{rules}
+-- `put_u16` meets its contract: std's copy of the number's bytes (`u16-to`), stored at its place (`pasted` of Rows).
+use mathlib.Core.Path.{◌∙◌}
 use native.Mathlib.Omega.{arith}
+use Rattle.theory_lists.specs.Rows.{pasted}
+use Rattle.base_little_endian.proofs.Laws.{u16-length, u16-to}
 use Rattle.base_little_endian.proofs.put_u16.Goals as goal
 
-pub bounds-out-at-2 : goal.bounds-out-at-2
-bounds-out-at-2 c = simp length-set (omega arith)
-
 pub returns : goal.returns
-unfolding u16_bytes
-returns c = rw add-one refl
+returns c = pasted _ _ (c.copy_from_slice.ensures.after ∙ c.to_le_bytes.ensures ∙ u16-to c.ranges.x) (omega (arith, u16-length c.args.x)) (omega (arith, c.requires))
