@@ -6,7 +6,9 @@ use native.Mathlib.Omega.{arith}
 use native.Mathlib.Decide.{dec_lt}
 use lib.IntN.{ℤ, pos, nat_abs}
 use lib.Dec.{eqb}
-use lib.ListN.{length}
+use lib.ListN.{length, set}
+use lib.Seq.{sets}
+use native.Mathlib.Numerals.{add-one}
 use borrow.Author.Tests.{lt-ltb, le-ltb, ne_eqb}
 use mir.Syntax.{w16, w32}
 use mir.Val.{Fits, SFits, to_z, of_z}
@@ -55,6 +57,10 @@ pub u16-to : {n : ℕ} → Fits w16 n → to_le_bytes w16 n ≡ u16_bytes n
 unfolding u16_bytes
 u16-to {n} f = let e : n / 256 % 256 ≡ n / 256 = omega (arith, f.fits) in rw e refl
 
+pub two_stored : (l : List ℕ) (i n : ℕ) {bytes : List ℕ} → bytes ≡ u16_bytes n → set (set l i (at bytes 0)) (i + 1) (at bytes 1) ≡ sets l i (u16_bytes n)
+unfolding u16_bytes
+two_stored l i n e = rw (e, add-one) refl
+
 u32-to : {n : ℕ} → Fits w32 n → to_le_bytes w32 n ≡ u32_bytes n
 unfolding u32_bytes u16_bytes
 u32-to {n} f =
@@ -63,9 +69,9 @@ u32-to {n} f =
     let c : n / 16777216 % 256 ≡ n / 65536 / 256 = omega (arith, f.fits) in
     rw (a, b, c) refl
 
-pub i16-to : {z : ℤ} → SFits w16 z → to_le_bytes w16 (of_z w16 (to_z w16 (of_z w16 z))) ≡ i16_bytes z
+pub i16_bits : {z : ℤ} {n : ℕ} → SFits w16 z → n ≡ of_z w16 (to_z w16 (of_z w16 z)) → u16_bytes n ≡ i16_bytes z
 unfolding i16_bytes
-i16-to f = rw (to_z-of_z f) (u16-to (Fits-of_z f))
+i16_bits f e = rw (e, to_z-of_z f) refl
 
 pub i32-to : {z : ℤ} → SFits w32 z → to_le_bytes w32 (of_z w32 (to_z w32 (of_z w32 z))) ≡ i32_bytes z
 unfolding i32_bytes

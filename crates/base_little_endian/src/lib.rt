@@ -33,18 +33,21 @@ pub fn i32_at(bytes: &[u8], at: usize) -> i32
 
 // ---- stored
 
+// Two stores, since std's copy of 2 bytes was slower on the board: it asks each time which of both lists lies first.
 pub fn put_u16(out: &mut [u8], at: usize, x: u16)
     requires { at + 2 ≤ length out.old }
     ensures { out.new ≡ sets out.old at (u16_bytes x) }
 {
-    out[at..at + 2].copy_from_slice(&x.to_le_bytes());
+    let [low, high] = x.to_le_bytes();
+    out[at] = low;
+    out[at + 1] = high;
 }
 
 pub fn put_i16(out: &mut [u8], at: usize, z: i16)
     requires { at + 2 ≤ length out.old }
     ensures { out.new ≡ sets out.old at (i16_bytes z) }
 {
-    out[at..at + 2].copy_from_slice(&z.to_le_bytes());
+    put_u16(out, at, z.cast_unsigned());
 }
 
 pub fn put_i32(out: &mut [u8], at: usize, z: i32)

@@ -1,9 +1,7 @@
--- `put_u16` meets its contract: std's copy of the number's bytes (`u16-to`), stored at its place (`pasted` of Rows).
+-- `put_u16` meets its contract: std's bytes of the number (`u16-to`), stored one after the other (`two_stored`).
 use mathlib.Core.Path.{◌∙◌}
-use native.Mathlib.Omega.{arith}
-use Rattle.theory_lists.specs.Rows.{pasted}
-use Rattle.base_little_endian.proofs.Laws.{u16-length, u16-to}
+use Rattle.base_little_endian.proofs.Laws.{u16-to, two_stored}
 use Rattle.base_little_endian.proofs.put_u16.Goals as goal
 
 pub returns : goal.returns
-returns c = pasted _ _ (c.copy_from_slice.ensures.after ∙ c.to_le_bytes.ensures ∙ u16-to c.ranges.x) (omega (arith, u16-length c.args.x)) (omega (arith, c.requires))
+returns c = two_stored c.args.out.now c.args.at c.args.x (c.to_le_bytes.ensures ∙ u16-to c.ranges.x)
