@@ -20,11 +20,12 @@ pub fn put_decimal(out: &mut [u8], at: usize, n: usize) -> usize
     ensures out_after { out.new ≡ sets out.old at (decimal n) }
     ensures value { result ≡ at + length (decimal n) }
 {
-    let mut next = at;
-    if 9 < n {
-        next = put_decimal(out, at, n / 10);
-    }
-    out[next] = (48 + n % 10) as u8;
+    let next = if 9 < n {
+        put_decimal(out, at, n / 10)
+    } else {
+        at
+    };
+    out[next] = b'0' + (n % 10) as u8;
     next + 1
 }
 
