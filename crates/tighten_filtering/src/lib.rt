@@ -1,7 +1,7 @@
 // Document 01's filtering, on levels as shown.
 #![tactic(auto)]
 
-ghost use Rattle.std.specs.Prelude.{◌≡◌, false};
+ghost use Rattle.std.specs.Prelude.{◌≡◌};
 ghost use Rattle.theory_method.specs.Filter.{InBounds, tightened};
 ghost use Rattle.tighten_filtering.specs.Boxed.{boxed};
 
@@ -19,16 +19,11 @@ pub struct Totals {
     pub highest: usize,
 }
 
-// There is no schedule.
-fn none() -> Totals
-    ensures { result ≡ record { found = false; lowest = 0; highest = 0 } }
-{
-    Totals {
-        found: false,
-        lowest: 0,
-        highest: 0,
-    }
-}
+const NO_SCHEDULE: Totals = Totals {
+    found: false,
+    lowest: 0,
+    highest: 0,
+};
 
 // Tightens the ranges of the days and of the total. Where there is no schedule the arrays are left carried or lowered, as far as `tightened` says.
 pub fn tighten(
@@ -44,18 +39,18 @@ pub fn tighten(
     let first = numbers.first;
     let highest = numbers.highest;
     if carry(floors, ceilings, rises, n) < n {
-        return none();
+        return NO_SCHEDULE;
     }
     let bottom = held_total(floors, n, first);
     if highest < bottom {
-        return none();
+        return NO_SCHEDULE;
     }
     lower_ceilings(floors, ceilings, rises, n, first, (highest - bottom) as u32);
     let top = held_total(ceilings, n, first);
     let low = numbers.lowest.max(bottom);
     let high = highest.min(top);
     if high < low {
-        return none();
+        return NO_SCHEDULE;
     }
     raise_floors(floors, ceilings, rises, n, first, (top - low) as u32);
     Totals {

@@ -19,12 +19,11 @@ narrowed : (c : After-min-high) → let a = c.args in let b = boxed a.floors.now
 narrowed c d = record { before = d; top = c.held_total-top.ensures.0; low = c.max-low.ensures; high = c.min-high.ensures }
 
 pub returns-then-carry-n : goal.returns-then-carry-n
-returns-then-carry-n c =
-    rw c.none.ensures (tight_crossed c.requires c.carry.ensures.value c.carry.ensures.floors_after c.if-carry-n.true)
+returns-then-carry-n c = tight_crossed c.requires c.carry.ensures.value c.carry.ensures.floors_after c.if-carry-n.true
 
 pub returns-then-highest-bottom : goal.returns-then-highest-bottom
 returns-then-highest-bottom c =
-    rw c.none-then-highest-bottom.ensures (tight_over (carried (goal.at.returns-then-highest-bottom c).Else-carry-n) c.held_total-bottom.ensures.0 c.if-highest-bottom.true)
+    tight_over (carried (goal.at.returns-then-highest-bottom c).Else-carry-n) c.held_total-bottom.ensures.0 c.if-highest-bottom.true
 
 pub lower_ceilings-requires : goal.lower_ceilings-requires
 lower_ceilings-requires c =
@@ -34,7 +33,7 @@ lower_ceilings-requires c =
 pub returns-then-high-low : goal.returns-then-high-low
 returns-then-high-low c =
     let at = goal.at.returns-then-high-low c in
-    rw c.none-then-high-low.ensures (tight_apart (narrowed at.After-min-high (lowered at.After-lower_ceilings (carried at.Else-carry-n))) c.if-high-low.true)
+    tight_apart (narrowed at.After-min-high (lowered at.After-lower_ceilings (carried at.Else-carry-n))) c.if-high-low.true
 
 pub raise_floors-requires : goal.raise_floors-requires
 raise_floors-requires c =
