@@ -7,12 +7,14 @@ ghost use Rattle.limits.specs.Limits.{most_days, lowest_point, highest_point, hi
 ghost use Rattle.theory_lists.specs.Sum.{at};
 ghost use Rattle.theory_lists.specs.Written.{written};
 ghost use Rattle.base_codes.specs.Code.{within, code, decoded, on, every, code_or_zero};
+ghost use Rattle.refusals.specs.Number.{refusal_of};
 ghost use Rattle.c_lists.specs.Lists.{point_at, points_in, level_at, levels_crossed, point_bytes, cell_bytes};
 ghost use Rattle.c_lists.specs.Profiles.{have_lengths, byte_counts_refusal};
 
 use base_codes::{code_cell, decode_short};
 use base_little_endian::{i16_at, put_i16, put_u16};
 use limits::{HIGHEST_POINT, LOWEST_POINT, MOST_DAYS};
+use refusals::Refusal;
 use session::Session;
 
 // What coding floors and ceilings tells: whether a point is outside its bounds, and whether a day's floor has a higher
@@ -53,8 +55,8 @@ pub fn code_points(bytes: &[u8], n: usize, low: i32, high: i32, out: &mut [u16; 
     for j in 0..n as u32 {
         let k = j as usize;
         let cell = code_cell(i16_at(bytes, k * 2), low, high);
-        out[k] = cell.code;
-        outside = outside | cell.outside;
+        out[k] = cell.unwrap_or(0);
+        outside |= cell.is_none();
     }
     outside
 }
@@ -79,10 +81,12 @@ pub fn code_ranges(
         let k = j as usize;
         let floor = code_cell(i16_at(floors, k * 2), LOWEST_POINT, HIGHEST_POINT);
         let ceiling = code_cell(i16_at(ceilings, k * 2), LOWEST_POINT, HIGHEST_POINT);
-        low[k] = floor.code;
-        high[k] = ceiling.code;
-        outside = outside | (floor.outside | ceiling.outside);
-        crossed = crossed | (ceiling.code < floor.code);
+        outside |= floor.is_none() | ceiling.is_none();
+        let floor = floor.unwrap_or(0);
+        let ceiling = ceiling.unwrap_or(0);
+        low[k] = floor;
+        high[k] = ceiling;
+        crossed |= ceiling < floor;
     }
     CodedRanges { outside, crossed }
 }
@@ -141,18 +145,23 @@ fn have_lengths(days: usize, floors: usize, ceilings: usize, rises: usize) -> bo
     (floors == days * 2) & (ceilings == days * 2) & (rises == (days - 1) * 2)
 }
 
-// 1 for a bad day count, 2 for a list of the wrong length, else 0.
-pub fn length_refusal(days: usize, floors: usize, ceilings: usize, rises: usize) -> u8
-    ensures { result ≡ byte_counts_refusal days floors ceilings rises }
+// 1 for a bad day count, then 2 for a list of the wrong length.
+pub fn check_lengths(
+    days: usize,
+    floors: usize,
+    ceilings: usize,
+    rises: usize,
+) -> Result<(), Refusal>
+    ensures { refusal_of result ≡ byte_counts_refusal days floors ceilings rises }
 {
     if days == 0 {
-        return 1;
+        return Err(Refusal::Count);
     }
     if Session::MOST_DAYS < days {
-        return 1;
+        return Err(Refusal::Count);
     }
     if !have_lengths(days, floors, ceilings, rises) {
-        return 2;
+        return Err(Refusal::Length);
     }
-    0
+    Ok(())
 }

@@ -14,7 +14,7 @@ ghost use Rattle.session.specs.Showing.{floor_on, ceiling_on};
 ghost use Rattle.c_lists.specs.Lists.{point_bytes};
 ghost use Rattle.c_layout.specs.Layout.{cell_length, total_length, totals_length, session_bytes, total_at, decoding};
 
-use base_codes::{Coded, decode_short};
+use base_codes::{TotalRange, decode_short};
 use base_little_endian::{i32_at, u16_at};
 use c_layout::{
     BLOCK_BYTES, CELL_BYTES, DAYS_AT, FIRST_AT, MARK_AT, PRESENT_AT, PRESENT_TOTALS_AT, RISES_AT,
@@ -44,28 +44,19 @@ fn bound(bytes: &[u8], place: usize) -> usize
     requires { place + total_length ≤ length bytes.now }
     ensures { result ≡ total_at bytes.now place }
 {
-    let Coded::Code(held) = base_codes::code(
+    base_codes::code(
         i32_at(bytes, place),
         Session::LOWEST_TOTAL,
         Session::HIGHEST_TOTAL,
-    ) else {
-        return 0;
-    };
-    held
+    )
+    .unwrap_or(0)
 }
 
-// The total's range, as it is held.
-#[derive(Clone, Copy)]
-pub struct Total {
-    pub lowest: usize,
-    pub highest: usize,
-}
-
-pub fn totals(bytes: &[u8], place: usize) -> Total
+pub fn totals(bytes: &[u8], place: usize) -> TotalRange
     requires { place + totals_length ≤ length bytes.now }
     ensures { (result.lowest ≡ total_at bytes.now place) × (result.highest ≡ total_at bytes.now (place + total_length)) }
 {
-    Total {
+    TotalRange {
         lowest: bound(bytes, place),
         highest: bound(bytes, place + TOTAL_BYTES),
     }
@@ -104,7 +95,7 @@ pub fn is_spent(bytes: &[u8]) -> bool
 }
 
 // The total's present range.
-pub fn total_of(bytes: &[u8]) -> Total
+pub fn total_of(bytes: &[u8]) -> TotalRange
     requires { length bytes.now ≡ session_bytes }
     ensures { (result.lowest ≡ (decoding bytes.now).present.lowest) × (result.highest ≡ (decoding bytes.now).present.highest) }
 {
