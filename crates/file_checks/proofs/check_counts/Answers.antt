@@ -1,7 +1,7 @@
--- `counts_refusal` meets its contract: a law of Laws for each return.
+-- `check_counts` meets its contract: a law of Laws for each return.
 use native.Mathlib.Omega.{arith}
 use Rattle.file_checks.proofs.Laws.{no_days, many_days, many_cuts, counts-taken}
-use Rattle.file_checks.proofs.counts_refusal.Goals as goal
+use Rattle.file_checks.proofs.check_counts.Goals as goal
 
 pub returns-then-days-eq0 : goal.returns-then-days-eq0
 returns-then-days-eq0 c = no_days c.args.days c.args.cuts c.if-days-eq0.true
