@@ -4,19 +4,19 @@ import re
 
 from checks.tree import CRATES, NOT_CODE, functions
 
-# Names brought in; a call, by a method or by a path.
+# Names brought in; a call, by a method or by a path, which may give types.
 USE = re.compile(r"^use ((?:\w+::)+)(\w+|\{[^}]*\});", re.M)
-CALL = re.compile(r"(\.)?((?:\w+::)*\w+)\(")
+CALL = re.compile(r"(\.)?((?:\w+::)*\w+)(?:::<[^<>()]*>)?\(")
 
 
 def called(crate, brought, body):
-    """The functions that a body calls, as (crate, type or "", name); a method's crate and type are not known. A module counts for nothing."""
+    """The functions that a body calls, as (crate, type or "", name); of a method, or of a type parameter's, crate and type are not known. A module counts for nothing."""
     for method, path in CALL.findall(body):
         first, *rest = path.split("::")
         whole = ["", *brought.get(first, [first]), *rest]
         owner = whole[-2] if whole[-2][:1].isupper() else ""
         home = whole[1] if (CRATES / whole[1]).is_dir() and whole[2:] else crate
-        yield (None, None, path) if method else (home, owner, whole[-1])
+        yield (None, None, whole[-1]) if method or len(owner) == 1 else (home, owner, whole[-1])
 
 
 def brought_in(source):

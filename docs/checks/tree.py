@@ -15,9 +15,10 @@ GIVEN = [DOCS / "01-scope.md", DOCS / "02-change-requests.md"]
 FLOOR = re.compile(r"^# (\w+): (.*?)\.?$")
 CRATE = re.compile(r"^(\w+)(?: staticlib)?:")
 
-# A source as `rt fmt` lays it out: what is no code; the methods of a type; a function, to the brace below it.
+# A source as `rt fmt` lays it out: what is no code; a trait, whose methods are those of its types; the methods of a type; a function, to the brace below it.
 NOT_CODE = re.compile(r'b"(?:[^"\\]|\\.)*"|//[^\n]*|^ *(?:requires|ensures)\b[^\n]*', re.M | re.S)
-IMPL = re.compile(r"^impl (\w+) \{\n(.*?)^\}", re.M | re.S)
+TRAIT = re.compile(r"^(?:pub )?trait .*?^\}", re.M | re.S)
+IMPL = re.compile(r"^impl(?:<[^>]*>)? (?:\w+ for )?(\w+)(?:<[^>]*>)? \{\n(.*?)^\}", re.M | re.S)
 FUNCTION = re.compile(r'^( *)(?:(pub(?:\(crate\))?) )?(extern "C" )?fn (\w+)(.*?)^\1\}', re.M | re.S)
 
 # A declaration of specs/: a definition, a record, a data type or a law.
@@ -82,7 +83,7 @@ def functions():
     """Every function, in the order of the crates and of the sources."""
     for crate in (crate for floor in floors() for crate in floor.crates):
         for source in sources(crate):
-            text = NOT_CODE.sub("", source.read_text())
+            text = TRAIT.sub("", NOT_CODE.sub("", source.read_text()))
             parts = [("", IMPL.sub("", text)), *IMPL.findall(text)]
             for owner, part in parts:
                 for _, public, entry, name, body in FUNCTION.findall(part):

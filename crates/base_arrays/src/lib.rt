@@ -16,8 +16,8 @@ pub fn sum(levels: &[u16]) -> usize
     ensures { (result ≡ sum_for (at levels.now) 0 (length levels.now)) × (result ≤ length levels.now * 65535) }
 {
     let mut total = 0u32;
-    for level in levels {
-        total += *level as u32;
+    for k in 0..levels.len() as u32 {
+        total += levels[k as usize] as u32;
     }
     total as usize
 }

@@ -29,7 +29,7 @@ none-outside low high z {b} = go (within low high z) b
     go false true e = refl
     go false false e = cc
 
-some-or-zero : (low high z : ℤ) → unwrap_or (coded low high z) 0 ≡ code_or_zero low high z
+pub some-or-zero : (low high z : ℤ) → unwrap_or (coded low high z) 0 ≡ code_or_zero low high z
 some-or-zero low high z = go (within low high z)
   where
     go : (b : Bool) → unwrap_or (cond b (Some (code low z)) None) 0 ≡ cond b (code low z) 0

@@ -6,11 +6,14 @@ use native.Mathlib.Omega.{arith}
 use native.Mathlib.Decide.{dec_lt}
 use lib.IntN.{ℤ, pos, nat_abs}
 use lib.Dec.{eqb}
-use lib.ListN.{length}
+use lib.ListN.{length, set}
+use lib.Seq.{sets}
+use native.Mathlib.Numerals.{add-one}
 use borrow.Author.Tests.{lt-ltb, le-ltb, ne_eqb}
 use mir.Syntax.{w16, w32}
-use mir.Val.{SFits, to_z, of_z}
-use mir.Facts.{to_z-of_z, of_z-to_z}
+use mir.Val.{Fits, SFits, to_z, of_z}
+use mir.Facts.{to_z-of_z, of_z-to_z, Fits-of_z}
+use Rattle.std.specs.Int.{from_le_bytes, to_le_bytes}
 use Rattle.theory_lists.specs.Sum.{at}
 use Rattle.theory_lists.specs.Part.{Part, part_left, part_right, part_both}
 use Rattle.base_little_endian.specs.Fields.{Bytes, u16_at, u32_at, i16_at, i32_at, u16_bytes, u32_bytes, i16_bytes, i32_bytes}
@@ -39,6 +42,40 @@ zero_field b i = go (dec_lt (u16_at b i) 32768)
     go : Dec (u16_at b i < 32768) → eqb (nat_abs (to_z w16 (u16_at b i))) 0 ≡ eqb (u16_at b i) 0
     go (yes h) = rw (lt-ltb (u16_at b i) 32768 h) refl
     go (no h) = rw (le-ltb (u16_at b i) 32768 (omega arith), ne_eqb (u16_at b i) 0 (λ z. omega arith)) (ne_eqb (suc (65536 - suc (u16_at b i))) 0 (λ z. omega arith))
+
+-- ---- in std's words
+
+pub u16-of : (b : List ℕ) (i : ℕ) → from_le_bytes w16 (at b i ∷ at b (i + 1) ∷ []) ≡ u16_at b i
+unfolding u16_at
+u16-of b i = omega arith
+
+pub u32-of : (b : List ℕ) (i : ℕ) → from_le_bytes w32 (at b i ∷ at b (i + 1) ∷ at b (i + 2) ∷ at b (i + 3) ∷ []) ≡ u32_at b i
+unfolding u32_at u16_at
+u32-of b i = let e : i + 2 + 1 ≡ i + 3 = omega arith in rw e (omega arith)
+
+pub u16-to : {n : ℕ} → Fits w16 n → to_le_bytes w16 n ≡ u16_bytes n
+unfolding u16_bytes
+u16-to {n} f = let e : n / 256 % 256 ≡ n / 256 = omega (arith, f.fits) in rw e refl
+
+pub two_stored : (l : List ℕ) (i n : ℕ) {bytes : List ℕ} → bytes ≡ u16_bytes n → set (set l i (at bytes 0)) (i + 1) (at bytes 1) ≡ sets l i (u16_bytes n)
+unfolding u16_bytes
+two_stored l i n e = rw (e, add-one) refl
+
+u32-to : {n : ℕ} → Fits w32 n → to_le_bytes w32 n ≡ u32_bytes n
+unfolding u32_bytes u16_bytes
+u32-to {n} f =
+    let a : n % 65536 % 256 ≡ n % 256 = omega arith in
+    let b : n % 65536 / 256 ≡ n / 256 % 256 = omega arith in
+    let c : n / 16777216 % 256 ≡ n / 65536 / 256 = omega (arith, f.fits) in
+    rw (a, b, c) refl
+
+pub i16_bits : {z : ℤ} {n : ℕ} → SFits w16 z → n ≡ of_z w16 (to_z w16 (of_z w16 z)) → u16_bytes n ≡ i16_bytes z
+unfolding i16_bytes
+i16_bits f e = rw (e, to_z-of_z f) refl
+
+pub i32-to : {z : ℤ} → SFits w32 z → to_le_bytes w32 (of_z w32 (to_z w32 (of_z w32 z))) ≡ i32_bytes z
+unfolding i32_bytes
+i32-to f = rw (to_z-of_z f) (u32-to (Fits-of_z f))
 
 -- ---- read back
 

@@ -1,6 +1,5 @@
 -- Text as its bytes, for text in ASCII.
 use Rattle.std.specs.Prelude.{List, ℕ}
-use mathlib.Core.List as List
 use Prim.Native.Char.{code}
 use Prim.Native.String.{String, [], ◌∷◌}
 

@@ -1,7 +1,7 @@
 // Text in a lent list, in ASCII: each function stores from a place on, and answers the place after what it stored.
 #![tactic(auto)]
 
-ghost use Rattle.std.specs.Prelude.{◌≡◌, ◌+◌, ◌≤◌, length, pos, nat_abs, ◌<ℤ◌};
+ghost use Rattle.std.specs.Prelude.{◌≡◌, ◌+◌, ◌≤◌, length};
 ghost use Rattle.std.proofs.lemmas.List.Edits.{sets};
 ghost use Rattle.base_text.specs.Numbers.{decimal, number};
 
@@ -20,20 +20,13 @@ pub fn put_decimal(out: &mut [u8], at: usize, n: usize) -> usize
     ensures out_after { out.new ≡ sets out.old at (decimal n) }
     ensures value { result ≡ at + length (decimal n) }
 {
-    let mut next = at;
-    if 9 < n {
-        next = put_decimal(out, at, n / 10);
-    }
-    out[next] = (48 + n % 10) as u8;
+    let next = if 9 < n {
+        put_decimal(out, at, n / 10)
+    } else {
+        at
+    };
+    out[next] = b'0' + (n % 10) as u8;
     next + 1
-}
-
-// How far a negative number is below 0.
-fn magnitude(z: i32) -> usize
-    requires { z <ℤ pos 0 }
-    ensures { result ≡ nat_abs z }
-{
-    (-1 - z) as usize + 1
 }
 
 pub fn put_number(out: &mut [u8], at: usize, z: i32) -> usize
@@ -41,9 +34,10 @@ pub fn put_number(out: &mut [u8], at: usize, z: i32) -> usize
     ensures out_after { out.new ≡ sets out.old at (number z) }
     ensures value { result ≡ at + length (number z) }
 {
+    let magnitude = z.unsigned_abs() as usize;
     if z < 0 {
         out[at] = b'-';
-        return put_decimal(out, at + 1, magnitude(z));
+        return put_decimal(out, at + 1, magnitude);
     }
-    put_decimal(out, at, z as usize)
+    put_decimal(out, at, magnitude)
 }

@@ -1,9 +1,8 @@
 // Where the fields of a session stand in its bytes: each place is the one before it and the size of what stands there.
 #![tactic(auto)]
 
+pub use base_little_endian::CELL_BYTES;
 use limits::MOST_DAYS;
-
-pub const CELL_BYTES: usize = 2;
 
 pub const TOTAL_BYTES: usize = 4;
 

@@ -13,9 +13,9 @@ use Rattle.limits.specs.Limits.{lowest_point, highest_point}
 use Rattle.theory_lists.specs.ListOf.{length-list_of, get_list_of}
 use Rattle.theory_lists.specs.Some.{Told, told_none, told_more, told_all}
 use Rattle.theory_lists.specs.Written.{written}
-use Rattle.base_codes.specs.Code.{within, every, code_or_zero, coded_cell}
-use Rattle.base_codes.specs.declared.CodedCell.{CodedCell}
-use Rattle.base_codes.proofs.Loops.{Coding, coding_none, coding_more, coding_all}
+use Rattle.std.specs.Prelude.{Option, is_some, unwrap_or}
+use Rattle.base_codes.specs.Code.{within, every, coded, code_or_zero}
+use Rattle.base_codes.proofs.Loops.{some-or-zero, Coding, coding_none, coding_more, coding_all}
 use Rattle.c_lists.specs.Lists.{point_at, points_in, level_at, levels_crossed}
 
 -- the floors and the ceilings of the first i of n days are coded, and what the flags tell of them
@@ -27,14 +27,17 @@ pub record CodingRanges (fs cs : List ℕ) (n : ℕ) (low₀ high₀ : List ℕ)
   pub either : outside ≡ (bad_floor || bad_ceiling)
   pub less : Told (λ k. ltb (level_at cs k) (level_at fs k)) n i crossed
 
--- a turn read the point z as y, and coded what it reads back from its bits
-pub record Cell (z y : ℤ) (r : CodedCell) : Type 0 where
+-- a turn read the point z as y, and coded what it reads back from its bits: v, 0 for one outside its bounds, and b, whether it is
+pub record Cell (z y : ℤ) (r : Option ℕ) (v : ℕ) (b : Bool) : Type 0 where
   pub fits : SFits w16 y
   pub point : y ≡ z
-  pub coded : r ≡ coded_cell lowest_point highest_point (to_z w16 (of_z w16 y))
+  pub answer : r ≡ coded lowest_point highest_point (to_z w16 (of_z w16 y))
+  pub value : v ≡ unwrap_or r 0
+  pub told : is_some r ≡ not b
 
-cell_code : {z y : ℤ} {r : CodedCell} → Cell z y r → r.code ≡ code_or_zero lowest_point highest_point z
-cell_code h = ap (λ x. x.code) h.coded ∙ ap (code_or_zero lowest_point highest_point) (to_z-of_z h.fits ∙ h.point)
+cell_code : {z y : ℤ} {r : Option ℕ} {v : ℕ} {b : Bool} → Cell z y r v b → v ≡ code_or_zero lowest_point highest_point z
+cell_code {z} h =
+    h.value ∙ ap (λ x. unwrap_or x 0) (h.answer ∙ ap (coded lowest_point highest_point) (to_z-of_z h.fits ∙ h.point)) ∙ some-or-zero lowest_point highest_point z
 
 or_pairs : (a b x y : Bool) → ((a || b) || (x || y)) ≡ ((a || x) || (b || y))
 or_pairs true b x y = refl
@@ -53,15 +56,15 @@ module _ {fs cs : List ℕ} {n : ℕ} {low₀ high₀ : List ℕ} where
   ranges-none = record { bad_floor = false; bad_ceiling = false; floors = coding_none; ceilings = coding_none; either = refl; less = told_none }
 
   module _ {i : ℕ} {low high : List ℕ} {outside crossed : Bool} (h : CodingRanges fs cs n low₀ high₀ i low high outside crossed) where
-    pub ranges_more : {x y : ℤ} {r s : CodedCell} → i < n → Cell (point_at fs i) x r → Cell (point_at cs i) y s
-        → CodingRanges fs cs n low₀ high₀ (i + 1) (set low i r.code) (set high i s.code) (outside || (r.outside || s.outside)) (crossed || ltb s.code r.code)
-    ranges_more {r = r} {s = s} l p q =
+    pub ranges_more : {x y : ℤ} {r s : Option ℕ} {v w : ℕ} {a b : Bool} → i < n → Cell (point_at fs i) x r v a → Cell (point_at cs i) y s w b
+        → CodingRanges fs cs n low₀ high₀ (i + 1) (set low i v) (set high i w) (outside || (a || b)) (crossed || ltb w v)
+    ranges_more {a = a} {b = b} l p q =
         record {
-          bad_floor = h.bad_floor || r.outside;
-          bad_ceiling = h.bad_ceiling || s.outside;
-          floors = coding_more h.floors l p.fits p.point p.coded;
-          ceilings = coding_more h.ceilings l q.fits q.point q.coded;
-          either = ap (λ b. b || (r.outside || s.outside)) h.either ∙ or_pairs h.bad_floor h.bad_ceiling r.outside s.outside;
+          bad_floor = h.bad_floor || a;
+          bad_ceiling = h.bad_ceiling || b;
+          floors = coding_more h.floors a l p.fits p.point p.answer p.value p.told;
+          ceilings = coding_more h.ceilings b l q.fits q.point q.answer q.value q.told;
+          either = ap (λ x. x || (a || b)) h.either ∙ or_pairs h.bad_floor h.bad_ceiling a b;
           less = told_more h.less l (cc (cell_code p, cell_code q));
         }
 

@@ -14,13 +14,13 @@ ghost use Rattle.session.specs.Showing.{floor_on, ceiling_on};
 ghost use Rattle.c_lists.specs.Lists.{point_bytes};
 ghost use Rattle.c_layout.specs.Layout.{cell_length, total_length, totals_length, session_bytes, total_at, decoding};
 
-use base_codes::{Coded, decode_short};
-use base_little_endian::{i32_at, put_i16, u16_at};
-use base_numbers::{max, min, wide};
+use base_codes::{TotalRange, decode_short};
+use base_little_endian::{i32_at, u16_at};
 use c_layout::{
     BLOCK_BYTES, CELL_BYTES, DAYS_AT, FIRST_AT, MARK_AT, PRESENT_AT, PRESENT_TOTALS_AT, RISES_AT,
     TOTAL_BYTES,
 };
+use c_lists::{fill_each, put_each_point};
 use limits::MOST_DAYS;
 use session::Session;
 
@@ -31,20 +31,12 @@ const MOST_RISE_CODE: u16 = limits::HIGHEST_RISE_CODE as u16;
 
 // ---- fields: whatever the bytes are, the numbers are in bounds
 
-fn at_most(x: u16, most: u16) -> u16
-    ensures { result ≡ min x most }
-{
-    if x < most { x } else { most }
-}
-
 // The first n cells from a place on.
 fn cells(bytes: &[u8], place: usize, n: usize, most: u16, out: &mut [u16; MOST_DAYS])
     requires { (n ≤ most_days) × (place + n * cell_length ≤ length bytes.now) }
     ensures { out.new ≡ written (λ k. min (u16_at bytes.now (place + k * cell_length)) most) n out.old }
 {
-    for k in 0..n {
-        out[k] = at_most(u16_at(bytes, place + k * CELL_BYTES), most);
-    }
+    fill_each(n, out, |k| u16_at(bytes, place + k * CELL_BYTES).min(most));
 }
 
 // A bound of the total, as it is held.
@@ -52,28 +44,19 @@ fn bound(bytes: &[u8], place: usize) -> usize
     requires { place + total_length ≤ length bytes.now }
     ensures { result ≡ total_at bytes.now place }
 {
-    let Coded::Code(held) = base_codes::code(
+    base_codes::code(
         i32_at(bytes, place),
         Session::LOWEST_TOTAL,
         Session::HIGHEST_TOTAL,
-    ) else {
-        return 0;
-    };
-    held
+    )
+    .unwrap_or(0)
 }
 
-// The total's range, as it is held.
-#[derive(Clone, Copy)]
-pub struct Total {
-    pub lowest: usize,
-    pub highest: usize,
-}
-
-pub fn totals(bytes: &[u8], place: usize) -> Total
+pub fn totals(bytes: &[u8], place: usize) -> TotalRange
     requires { place + totals_length ≤ length bytes.now }
     ensures { (result.lowest ≡ total_at bytes.now place) × (result.highest ≡ total_at bytes.now (place + total_length)) }
 {
-    Total {
+    TotalRange {
         lowest: bound(bytes, place),
         highest: bound(bytes, place + TOTAL_BYTES),
     }
@@ -83,7 +66,7 @@ pub fn level(bytes: &[u8], place: usize) -> u16
     requires { place + cell_length ≤ length bytes.now }
     ensures { result ≡ min (u16_at bytes.now place) highest_level }
 {
-    at_most(u16_at(bytes, place), MOST_LEVEL)
+    u16_at(bytes, place).min(MOST_LEVEL)
 }
 
 // ---- parts of the session, each read when it is needed
@@ -92,7 +75,7 @@ pub fn days_of(bytes: &[u8]) -> usize
     requires { length bytes.now ≡ session_bytes }
     ensures { result ≡ (decoding bytes.now).days }
 {
-    max(1, min(Session::MOST_DAYS, wide(u16_at(bytes, DAYS_AT))))
+    usize::from(u16_at(bytes, DAYS_AT)).clamp(1, Session::MOST_DAYS)
 }
 
 // The first counted day, one of the session's days.
@@ -101,7 +84,7 @@ pub fn first_of(bytes: &[u8]) -> usize
     ensures { result ≡ (decoding bytes.now).first }
 {
     let last = days_of(bytes) - 1;
-    min(wide(u16_at(bytes, FIRST_AT)), last)
+    usize::from(u16_at(bytes, FIRST_AT)).min(last)
 }
 
 pub fn is_spent(bytes: &[u8]) -> bool
@@ -112,7 +95,7 @@ pub fn is_spent(bytes: &[u8]) -> bool
 }
 
 // The total's present range.
-pub fn total_of(bytes: &[u8]) -> Total
+pub fn total_of(bytes: &[u8]) -> TotalRange
     requires { length bytes.now ≡ session_bytes }
     ensures { (result.lowest ≡ (decoding bytes.now).present.lowest) × (result.highest ≡ (decoding bytes.now).present.highest) }
 {
@@ -159,10 +142,12 @@ fn show_levels(bytes: &[u8], place: usize, n: usize, out: &mut [u8])
     requires { (n ≤ most_days) × (place + n * cell_length ≤ length bytes.now) × (n * cell_length ≤ length out.old) }
     ensures { out.new ≡ sets out.old 0 (point_bytes (λ k. decoded lowest_point (min (u16_at bytes.now (place + k * cell_length)) highest_level)) n) }
 {
-    for k in 0..n {
-        let point = decode_short(level(bytes, place + k * CELL_BYTES), Session::LOWEST_POINT);
-        put_i16(out, k * CELL_BYTES, point);
-    }
+    put_each_point(
+        n,
+        0,
+        out,
+        |k| decode_short(level(bytes, place + k * CELL_BYTES), Session::LOWEST_POINT),
+    );
 }
 
 // Stores the present range of each day, in points, as the front of both lists.

@@ -1,7 +1,7 @@
 // A session's bytes stored: a fresh session whole, and what a cut changes.
 #![tactic(auto)]
 
-ghost use Rattle.std.specs.Prelude.{◌≡◌, true, false, cond, ◌++◌, ◌+◌, ◌-◌, ◌*◌, ◌≤◌, min, length, replicate};
+ghost use Rattle.std.specs.Prelude.{◌≡◌, true, false, ◌++◌, ◌+◌, ◌-◌, ◌*◌, ◌≤◌, min, length, replicate};
 ghost use Rattle.std.proofs.lemmas.List.Edits.{sets};
 ghost use Rattle.limits.specs.Limits.{most_days, highest_level, highest_total_code};
 ghost use Rattle.theory_lists.specs.Sum.{at};
@@ -19,23 +19,16 @@ ghost use Rattle.c_layout.specs.Layout.{present_place, patched};
 
 use base_codes::CodedNumbers;
 use base_little_endian::{put_i32, put_u16};
-use base_numbers::{less, narrow};
 use c_layout::{
     BLOCK_BYTES, CELL_BYTES, DAYS_AT, FIRST_AT, MARK_AT, OPENED_AT, OPENED_TOTALS_AT, PRESENT_AT,
     PRESENT_TOTALS_AT, RISES_AT, TOTAL_BYTES,
 };
-use c_lists::put_cells;
+use c_lists::{put_cells, put_each_cell};
 use c_loading::{days_of, level, totals};
 use limits::MOST_DAYS;
 use session::Session;
 
 // ---- a whole session stored
-
-fn mark(spent: bool) -> u16
-    ensures { result ≡ cond spent 1 0 }
-{
-    if spent { 1 } else { 0 }
-}
 
 fn put_totals(least: usize, most: usize, place: usize, out: &mut [u8])
     requires { (least ≤ highest_total_code) × (most ≤ highest_total_code) × (place + totals_length ≤ length out.old) }
@@ -94,14 +87,14 @@ pub fn store_fresh(
     let first = numbers.first;
     let lowest = numbers.lowest;
     let highest = numbers.highest;
-    put_u16(out, DAYS_AT, narrow(n));
-    put_u16(out, MARK_AT, mark(false));
+    put_u16(out, DAYS_AT, n as u16);
+    put_u16(out, MARK_AT, u16::from(false));
     put_totals(lowest, highest, OPENED_TOTALS_AT, out);
     put_totals(lowest, highest, PRESENT_TOTALS_AT, out);
     put_block(rises, n, RISES_AT, out);
     put_ranges(floors, ceilings, n, OPENED_AT, out);
     put_ranges(floors, ceilings, n, PRESENT_AT, out);
-    put_u16(out, FIRST_AT, narrow(first));
+    put_u16(out, FIRST_AT, first as u16);
 }
 
 // ---- what a cut changes
@@ -124,9 +117,9 @@ fn store_days(
         let ceiling = ceilings[k];
         let low = PRESENT_AT + k * CELL_BYTES;
         let high = PRESENT_AT + BLOCK_BYTES + k * CELL_BYTES;
-        let before = less(level(out, high), level(out, low));
-        let after = less(ceiling, floor);
-        losses[k] = less(before, after);
+        let before = level(out, high).saturating_sub(level(out, low));
+        let after = ceiling.saturating_sub(floor);
+        losses[k] = before.saturating_sub(after);
         put_u16(out, low, floor);
         put_u16(out, high, ceiling);
     }
@@ -151,7 +144,7 @@ pub fn store_cut(
     let n = numbers.days;
     let lowest = numbers.lowest;
     let highest = numbers.highest;
-    put_u16(out, MARK_AT, mark(false));
+    put_u16(out, MARK_AT, u16::from(false));
     put_totals(lowest, highest, PRESENT_TOTALS_AT, out);
     store_days(floors, ceilings, n, out, losses);
     session_order::list_losers(losses, n, floors, ceilings, changed)
@@ -162,10 +155,8 @@ fn copy_levels(bytes: &mut [u8], from: usize, n: usize, place: usize)
     requires { (n ≤ most_days) × (from + n * cell_length ≤ place) × (place + n * cell_length ≤ length bytes.old) }
     ensures { bytes.new ≡ sets bytes.old place (cell_bytes (λ k. min (u16_at bytes.old (from + k * cell_length)) highest_level) n) }
 {
-    for k in 0..n {
-        let held = level(bytes, from + k * CELL_BYTES);
-        put_u16(bytes, place + k * CELL_BYTES, held);
-    }
+    let (held, out) = bytes.split_at_mut(place);
+    put_each_cell(n, 0, out, |k| level(held, from + k * CELL_BYTES));
 }
 
 // Marks the session spent: its present ranges are those that it had when opened.
@@ -177,7 +168,7 @@ pub fn spend(bytes: &mut [u8])
     let opened = totals(bytes, OPENED_TOTALS_AT);
     let lowest = opened.lowest;
     let highest = opened.highest;
-    put_u16(bytes, MARK_AT, mark(true));
+    put_u16(bytes, MARK_AT, u16::from(true));
     put_totals(lowest, highest, PRESENT_TOTALS_AT, bytes);
     copy_levels(bytes, OPENED_AT, n, PRESENT_AT);
     copy_levels(bytes, OPENED_AT + BLOCK_BYTES, n, PRESENT_AT + BLOCK_BYTES);

@@ -9,12 +9,9 @@ ghost use Rattle.base_little_endian.specs.Fields.{u16_at};
 ghost use Rattle.session_order.specs.Order.{days_where, settled_order};
 ghost use Rattle.session_changed.specs.Changes.{differs, lost, Narrowed, NarrowedOrSame};
 
-use base_little_endian::u16_at;
-use base_numbers::less;
+use base_little_endian::{CELL_BYTES, u16_at};
 use limits::MOST_DAYS;
 use session_order::list_losers;
-
-const CELL_BYTES: usize = 2;
 
 const LIST_BYTES: usize = MOST_DAYS * CELL_BYTES;
 
@@ -31,7 +28,9 @@ fn write_losses(
     ensures { losses.new ≡ written (lost floors.now ceilings.now low.now high.now) n losses.old }
 {
     for k in 0..n {
-        losses[k] = less(less(ceilings[k], floors[k]), less(high[k], low[k]));
+        let before = ceilings[k].saturating_sub(floors[k]);
+        let after = high[k].saturating_sub(low[k]);
+        losses[k] = before.saturating_sub(after);
     }
 }
 

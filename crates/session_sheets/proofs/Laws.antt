@@ -19,12 +19,9 @@ use Rattle.session_changed.specs.Changes.{lost}
 use Rattle.session_changed.proofs.Laws.{narrowed-losers, narrowed_none, narrowed-again}
 use Rattle.session_cutting.specs.Cutting.{changed_days, after_numbered, AfterCut}
 use Rattle.session_cutting.proofs.Laws.{Narrows, keeps, numbered_within, numbered_in_bounds}
-use Rattle.session_sheets.specs.Sheets.{after_cuts, answer_on, answers_to, not_asked, not_answered, sheet_refusal, sheet_days, asked_on, refused_sheet, after_sheet, list_after_sheet}
+use Rattle.session_sheets.specs.Sheets.{Answered, Answers, AfterSheet, after_cuts, answer_on, answers_to, not_asked, not_answered, sheet_refusal, sheet_days, asked_on, refused_sheet, after_sheet, list_after_sheet}
 use Rattle.session_sheets.specs.declared.Asked.{Asked}
-use Rattle.session_sheets.specs.declared.Answered.{Answered}
 use Rattle.session_sheets.specs.declared.AskedSheet.{AskedSheet}
-use Rattle.session_sheets.specs.declared.AfterSheet.{AfterSheet}
-use Rattle.session_sheets.specs.declared.Made.{Made}
 use Rattle.session_cuts.specs.declared.Cut.{Cut}
 
 -- ---- cuts one after another
@@ -186,17 +183,16 @@ module _ {s : Session} {f : ℕ → Option Cut} {n : ℕ} {blank : List Answered
         answered = filled_more h.answered u (rw (v, same, one));
       }
 
-  pub making_all : {j : ℕ} {after : AfterCut} {entries : List Answered} {r : Made} → Making s f n j blank after entries → n ≤ j → blank ≡ replicate most_cuts not_answered
-      → r ≡ record { answers = record { count = n; entries = entries }; session = after.session } → r ≡ record { answers = answers_to s f n; session = after_cuts s f n }
+  pub making_all : {j : ℕ} {after : AfterCut} {entries : List Answered} → Making s f n j blank after entries → n ≤ j → blank ≡ replicate most_cuts not_answered
+      → (record { count = n; entries = entries } ≡ answers_to s f n) × (after.session ≡ after_cuts s f n)
   unfolding answers_to
-  making_all {j} h u e g =
+  making_all {j} h u e =
       let end : j ≡ n = omega (arith, h.answered.most) in
-      rw (g, filled-all h.answered u, h.made, end, e)
+      (rw (filled-all h.answered u, e), rw end at h.made)
 
 -- ---- the sheet
 
-pub made_narrows : (s : Session) (f : ℕ → Option Cut) (m : ℕ) {out : Made} → out ≡ record { answers = answers_to s f m; session = after_cuts s f m } → SessionInBounds s
-    → out.session.spent ≡ false → Narrows s out.session
+pub made_narrows : (s : Session) (f : ℕ → Option Cut) (m : ℕ) {out : Session} → out ≡ after_cuts s f m → SessionInBounds s → out.spent ≡ false → Narrows s out
 made_narrows s f m e b u = rw e (after_narrows s f m b (rw e at u))
 
 module _ (s : Session) (t : AskedSheet) (room : ℕ) (l : List ℕ) where
@@ -205,10 +201,10 @@ module _ (s : Session) (t : AskedSheet) (room : ℕ) (l : List ℕ) where
   unfolding after_sheet list_after_sheet
   sheet_refused {number} e apart g = (g ∙ rw (← e, ne_eqb number 0 apart), rw (g, ne_eqb number 0 apart))
 
-  pub sheet_made : {out : Made} {count : ℕ} {list : List ℕ} → sheet_refusal s.days t.count room (length l) ≡ 0
-      → out ≡ record { answers = answers_to s (asked_on t) t.count; session = after_cuts s (asked_on t) t.count }
-      → (count ≡ length (sheet_days s out.session)) × (list ≡ in_front (sheet_days s out.session) l)
-      → let r : AfterSheet = record { refusal = 0; changed = count; answers = out.answers; session = out.session } in
+  pub sheet_made : {answers : Answers} {end : Session} {count : ℕ} {list : List ℕ} → sheet_refusal s.days t.count room (length l) ≡ 0
+      → (answers ≡ answers_to s (asked_on t) t.count) × (end ≡ after_cuts s (asked_on t) t.count)
+      → (count ≡ length (sheet_days s end)) × (list ≡ in_front (sheet_days s end) l)
+      → let r : AfterSheet = record { refusal = 0; changed = count; answers = answers; session = end } in
       (r ≡ after_sheet s t room (length l)) × (list ≡ list_after_sheet s r l)
   unfolding after_sheet list_after_sheet
-  sheet_made z e g = (rw (z, g.0, e), g.1)
+  sheet_made z e g = (rw (z, g.0, e.0, e.1), g.1)

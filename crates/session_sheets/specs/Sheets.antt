@@ -1,15 +1,15 @@
 -- Request Three: a sheet of cuts in one press. The session and the answers are those of single calls made in that order, refused ones included.
-use Rattle.std.specs.Prelude.{cond, List, [], ℕ, zero, suc, eqb, ltb, length, get_or, replicate, None, Option}
+use Rattle.std.specs.Prelude.{cond, List, [], map, ℕ, zero, suc, eqb, ltb, length, get_or, replicate, None, Option}
 use Rattle.limits.specs.Limits.{most_cuts}
 use Rattle.theory_lists.specs.Written.{written}
 use Rattle.theory_lists.specs.Front.{in_front}
 use Rattle.session.specs.declared.Session.{Session}
-use Rattle.session_cutting.specs.Cutting.{changed_days, after_numbered, CutAnswer}
+use Rattle.session_cutting.specs.Cutting.{changed_days, after_numbered, CutAnswer, answer_as}
 use Rattle.session_sheets.specs.declared.Asked.{Asked}
 use Rattle.session_sheets.specs.declared.AskedSheet.{AskedSheet}
-use Rattle.session_sheets.specs.declared.Answered.{Answered}
-use Rattle.session_sheets.specs.declared.Answers.{Answers}
-use Rattle.session_sheets.specs.declared.AfterSheet.{AfterSheet}
+use Rattle.session_sheets.specs.declared.Answered as CodeAnswered
+use Rattle.session_sheets.specs.declared.Answers as CodeAnswers
+use Rattle.session_sheets.specs.declared.AfterSheet as CodeAfterSheet
 use Rattle.session_cuts.specs.declared.Cut.{Cut}
 
 -- ---- the cuts, each a single call with a list of n places for changed days
@@ -34,6 +34,32 @@ abbrev pub sheet_days : Session → Session → List ℕ
 sheet_days s e = cond e.spent [] (changed_days s.days s.present e.present)
 
 -- ---- a sheet by value
+
+-- a cut as it was asked for, with its answer
+pub record Answered : Type 0 where
+  pub cut : Option Cut
+  pub answer : CutAnswer
+
+abbrev pub answered_as : CodeAnswered.Answered → Answered
+answered_as a = record { cut = a.cut; answer = answer_as a.answer }
+
+-- the first `count` entries answer a sheet's cuts
+pub record Answers : Type 0 where
+  pub count : ℕ
+  pub entries : List Answered
+
+abbrev pub answers_as : CodeAnswers.Answers → Answers
+answers_as a = record { count = a.count; entries = map answered_as a.entries }
+
+-- the sheet's own refusal, 0 for none; how many days differ between the start and the end; each cut's answer; the session
+pub record AfterSheet : Type 0 where
+  pub refusal : ℕ
+  pub changed : ℕ
+  pub answers : Answers
+  pub session : Session
+
+abbrev pub sheet_as : CodeAfterSheet.AfterSheet → AfterSheet
+sheet_as a = record { refusal = (answer_as a.answer).refusal; changed = (answer_as a.answer).changed; answers = answers_as a.answers; session = a.session }
 
 -- what stands past a sheet's cuts, and past its answers
 abbrev pub not_asked : Asked

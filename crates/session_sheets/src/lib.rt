@@ -7,12 +7,15 @@ ghost use Rattle.session.specs.Showing.{SessionInBounds};
 ghost use Rattle.session_changed.specs.Changes.{NarrowedOrSame};
 ghost use Rattle.session_cutting.specs.Cutting.{after_numbered};
 ghost use Rattle.theory_lists.specs.Front.{in_front};
-ghost use Rattle.session_sheets.specs.Sheets.{not_asked, after_cuts, answers_to, sheet_refusal, sheet_days, refused_sheet, after_sheet, list_after_sheet};
+ghost use Rattle.session_sheets.specs.Sheets.{not_asked, after_cuts, answered_as, answers_as, answers_to, sheet_refusal, sheet_days, sheet_as, refused_sheet, after_sheet, list_after_sheet};
+ghost use Rattle.session_cutting.specs.Cutting.{answer_as, after_as};
+ghost use Rattle.refusals.specs.Number.{refusal_number, refusal_of};
 
 use limits::{MOST_CUTS, MOST_DAYS};
+use refusals::Refusal;
 use session::Session;
 use session_cuts::Cut;
-use session_cutting::{AfterCut, CutAnswer};
+use session_cutting::AfterCut;
 
 // A cut of a sheet, as it is asked for: its kind may be unknown.
 #[derive(Clone, Copy)]
@@ -27,11 +30,11 @@ pub struct AskedSheet {
     pub entries: [Asked; MOST_CUTS],
 }
 
-// A cut as it was asked for, with its refusal's number, 0 for none, and its number of changed days.
+// A cut as it was asked for, with its number of changed days or its refusal.
 #[derive(Clone, Copy)]
 pub struct Answered {
     pub cut: Option<Cut>,
-    pub answer: CutAnswer,
+    pub answer: Result<usize, Refusal>,
 }
 
 // The first `count` entries answer a sheet's cuts.
@@ -41,11 +44,10 @@ pub struct Answers {
     pub entries: [Answered; MOST_CUTS],
 }
 
-// The sheet's own refusal, 0 for none; how many days differ between the start and the end; each cut's answer; the session.
+// How many days differ between the start and the end, or the sheet's own refusal; each cut's answer; the session.
 #[derive(Clone, Copy)]
 pub struct AfterSheet {
-    pub refusal: u8,
-    pub changed: usize,
+    pub answer: Result<usize, Refusal>,
     pub answers: Answers,
     pub session: Session,
 }
@@ -57,42 +59,53 @@ struct Made {
     session: Session,
 }
 
-// 1, 14, then 2, else 0: what a sheet is refused for before its first cut.
-pub fn sheet_refusal(days: usize, cuts: usize, answers: usize, changed: usize) -> u8
-    ensures { result ≡ sheet_refusal days cuts answers changed }
+// 1, 14, then 2: what a sheet is refused for before its first cut.
+pub fn check_sheet(
+    days: usize,
+    cuts: usize,
+    answers: usize,
+    changed: usize,
+) -> Result<(), Refusal>
+    ensures { refusal_of result ≡ sheet_refusal days cuts answers changed }
 {
     if MOST_CUTS < cuts {
-        return 1;
+        return Err(Refusal::Count);
     }
     if answers < cuts {
-        return 14;
+        return Err(Refusal::Answers);
     }
     if changed < days {
-        return 2;
+        return Err(Refusal::Length);
     }
-    0
+    Ok(())
 }
+
+// What stands past a sheet's answers.
+const NOT_ANSWERED: Answered = Answered {
+    cut: None,
+    answer: Ok(0),
+};
 
 // ---- the cuts
 
 // One cut more on the session that the one before left.
 fn cut_once(after: AfterCut, asked: Asked) -> AfterCut
     requires { SessionInBounds after.session }
-    ensures { (result ≡ after_numbered after.session asked.cut after.session.days) × SessionInBounds result.session }
+    ensures { (after_as result ≡ after_numbered after.session asked.cut after.session.days) × SessionInBounds result.session }
 {
     let session = after.session;
     let n = session.days;
-    let cut = asked.cut;
     let mut changed = [0u16; MOST_DAYS];
-    session_cutting::cut_asked(session, cut, &mut changed[..n])
+    session_cutting::cut_asked(session, asked.cut, &mut changed[..n])
 }
 
 fn answer_for(asked: Asked, after: AfterCut) -> Answered
-    ensures { result ≡ record { cut = asked.cut; answer = after.answer } }
+    ensures { answered_as result ≡ record { cut = asked.cut; answer = answer_as after.answer } }
 {
-    let cut = asked.cut;
-    let answer = after.answer;
-    Answered { cut, answer }
+    Answered {
+        cut: asked.cut,
+        answer: after.answer,
+    }
 }
 
 // No cut is made yet.
@@ -100,20 +113,7 @@ fn start(session: Session) -> AfterCut
     ensures { result.session ≡ session }
 {
     AfterCut {
-        answer: CutAnswer {
-            refusal: 0,
-            changed: 0,
-        },
-        session,
-    }
-}
-
-fn gather(count: usize, entries: [Answered; MOST_CUTS], after: AfterCut) -> Made
-    ensures { result ≡ record { answers = record { count = count; entries = entries }; session = after.session } }
-{
-    let session = after.session;
-    Made {
-        answers: Answers { count, entries },
+        answer: Ok(0),
         session,
     }
 }
@@ -121,22 +121,18 @@ fn gather(count: usize, entries: [Answered; MOST_CUTS], after: AfterCut) -> Made
 // Makes the first `count` cuts in order.
 fn cut_all(session: Session, count: usize, asked: [Asked; MOST_CUTS]) -> Made
     requires { SessionInBounds session × (count ≤ most_cuts) }
-    ensures { result ≡ record { answers = answers_to session (λ j. (get_or asked j not_asked).cut) count; session = after_cuts session (λ j. (get_or asked j not_asked).cut) count } }
+    ensures { (answers_as result.answers ≡ answers_to session (λ j. (get_or asked j not_asked).cut) count) × (result.session ≡ after_cuts session (λ j. (get_or asked j not_asked).cut) count) }
 {
     let mut after = start(session);
-    let blank = Answered {
-        cut: None,
-        answer: CutAnswer {
-            refusal: 0,
-            changed: 0,
-        },
-    };
-    let mut entries = [blank; MOST_CUTS];
+    let mut entries = [NOT_ANSWERED; MOST_CUTS];
     for j in 0..count {
         after = cut_once(after, asked[j]);
         entries[j] = answer_for(asked[j], after);
     }
-    gather(count, entries, after)
+    Made {
+        answers: Answers { count, entries },
+        session: after.session,
+    }
 }
 
 // ---- the sheet
@@ -159,22 +155,14 @@ fn list_end(start: Session, end: Session, changed: &mut [u16]) -> usize
     session_changed::list_differences(&floors, &ceilings, &low, &high, start.days, changed)
 }
 
-fn refuse(number: u8, session: Session) -> AfterSheet
-    ensures { result ≡ refused_sheet number session }
+fn refuse(refusal: Refusal, session: Session) -> AfterSheet
+    ensures { sheet_as result ≡ refused_sheet (refusal_number refusal) session }
 {
-    let blank = Answered {
-        cut: None,
-        answer: CutAnswer {
-            refusal: 0,
-            changed: 0,
-        },
-    };
     AfterSheet {
-        refusal: number,
-        changed: 0,
+        answer: Err(refusal),
         answers: Answers {
             count: 0,
-            entries: [blank; MOST_CUTS],
+            entries: [NOT_ANSWERED; MOST_CUTS],
         },
         session,
     }
@@ -188,23 +176,18 @@ pub fn cut_sheet(
     changed: &mut [u16],
 ) -> AfterSheet
     requires { SessionInBounds session }
-    ensures value { result ≡ after_sheet session sheet room (length changed.old) }
-    ensures changed_after { changed.new ≡ list_after_sheet session result changed.old }
+    ensures value { sheet_as result ≡ after_sheet session sheet room (length changed.old) }
+    ensures changed_after { changed.new ≡ list_after_sheet session (sheet_as result) changed.old }
 {
     let count = sheet.count;
-    let refusal = sheet_refusal(session.days, count, room, changed.len());
-    if refusal != 0 {
+    if let Err(refusal) = check_sheet(session.days, count, room, changed.len()) {
         return refuse(refusal, session);
     }
-    let asked = sheet.entries;
-    let out = cut_all(session, count, asked);
-    let answers = out.answers;
-    let end = out.session;
-    let days = list_end(session, end, changed);
+    let made = cut_all(session, count, sheet.entries);
+    let days = list_end(session, made.session, changed);
     AfterSheet {
-        refusal: 0,
-        changed: days,
-        answers,
-        session: end,
+        answer: Ok(days),
+        answers: made.answers,
+        session: made.session,
     }
 }

@@ -1,5 +1,8 @@
 -- Widths left and counted day by day; and what a cut leaves of a session in arrays, by what its tests found.
-use Rattle.std.specs.Prelude.{Option, Some}
+use Rattle.std.specs.Prelude.{Option, Some, Ok, Err}
+use Rattle.refusals.specs.declared.Refusal.{Refusal}
+use Rattle.refusals.specs.declared.Refusal.TheVariants.{NoSchedule}
+use Rattle.refusals.specs.Number.{refusal_number}
 use Prim.Native.Nat.{ℕ, ◌+◌, ◌-◌, ◌≤◌, ◌<◌}
 use mathlib.Core.Path.{◌≡◌, refl, ap, sym, subst, ◌∙◌}
 use mathlib.Core.Bool.{Bool, true, false, cond, true≢false}
@@ -83,9 +86,9 @@ pub record Cuts (s : Session) (t : Option Cut) (k : Tight) : Type 0 where
 
 module _ {s : Session} {p : Step} {rs fs cs ws : List ℕ} (h : Holds s p rs fs cs ws) where
   -- a refusal other than 8
-  pub stays : (t : Option Cut) {number : ℕ} {q : Step} → refusing number s ≡ after_numbered s t s.days
-      → q ≡ record { numbers = p.numbers; spent = p.spent; answer = record { refusal = number; changed = 0 } } → Stepped (after_numbered s t s.days) q rs fs cs ws
-  stays t {number} {q} a e =
+  pub stays : (t : Option Cut) (r : Refusal) {q : Step} → refusing (refusal_number r) s ≡ after_numbered s t s.days
+      → q ≡ record { numbers = p.numbers; spent = p.spent; answer = Err r } → Stepped (after_numbered s t s.days) q rs fs cs ws
+  stays t r {q} a e =
       subst (λ b. Stepped b q rs fs cs ws) a
       (rw e
       (record {
@@ -108,7 +111,7 @@ module _ {s : Session} {p : Step} {rs fs cs ws : List ℕ} (h : Holds s p rs fs 
     taken = cut-taken s d.cut s.days d.formed (omega arith) d.unspent ∙ numbered-known s s.days refl d.known
 
     -- 8 spends
-    pub ends : k.found ≡ false → {q : Step} {fs' cs' : List ℕ} → q ≡ record { numbers = p.numbers; spent = true; answer = record { refusal = 8; changed = 0 } }
+    pub ends : k.found ≡ false → {q : Step} {fs' cs' : List ℕ} → q ≡ record { numbers = p.numbers; spent = true; answer = Err NoSchedule }
         → Stepped (after_numbered s t s.days) q rs fs' cs' ws
     ends none {q} {fs'} {cs'} e =
         subst (λ b. Stepped b q rs fs' cs' ws) (again-none s d.cut d.tight none ∙ taken)
@@ -143,14 +146,14 @@ module _ {s : Session} {p : Step} {rs fs cs ws : List ℕ} (h : Holds s p rs fs 
         (record {
           numbers = record { days = p.numbers.days; first = p.numbers.first; lowest = k.lowest; highest = k.highest };
           spent = false;
-          answer = record { refusal = 0; changed = count };
+          answer = Ok count;
         })
         rs k.floors k.ceilings ws'
     goes_on some {count} {ws'} e =
         let q : Step = record {
           numbers = record { days = p.numbers.days; first = p.numbers.first; lowest = k.lowest; highest = k.highest };
           spent = false;
-          answer = record { refusal = 0; changed = count };
+          answer = Ok count;
         } in
         let few : p.numbers.days ≤ length ws = omega (arith, h.days, h.wide, d.bounds.present.most) in
         let f : ℕ → ℕ = width k.floors k.ceilings in

@@ -4,7 +4,7 @@ use Rattle.limits.specs.Limits.{most_days}
 use Rattle.theory_lists.specs.Sum.{at}
 use Rattle.session.specs.Showing.{SessionInBounds}
 use Rattle.session.specs.declared.Session.{Session}
-use Rattle.session_cutting.specs.Cutting.{AfterCut}
+use Rattle.session_cutting.specs.Cutting.{AfterCut, answer_as}
 use Rattle.session_steps.specs.declared.Step.{Step}
 
 -- the width of day k's range
@@ -29,5 +29,5 @@ pub record Holding (p : Step) (rises floors ceilings widths : List ℕ) : Type 0
 
 -- they hold the session that a cut gave, and its answer
 pub record Stepped (a : AfterCut) (p : Step) (rises floors ceilings widths : List ℕ) : Type 0 where
-  pub answer : p.answer ≡ a.answer
+  pub answer : answer_as p.answer ≡ a.answer
   pub holds : Holds a.session p rises floors ceilings widths

@@ -1,7 +1,7 @@
 // Cuts made one after another of a session's ranges in lent arrays, without their lists of changed days.
 #![tactic(auto)]
 
-ghost use Rattle.std.specs.Prelude.{◌≡◌, cond, ◌+◌, ◌-◌, ◌≤◌, ltb, length};
+ghost use Rattle.std.specs.Prelude.{◌≡◌, cond, ◌+◌, ◌-◌, ◌≤◌, ltb, length, Err};
 ghost use Rattle.limits.specs.Limits.{most_days};
 ghost use Rattle.theory_lists.specs.Sum.{at};
 ghost use Rattle.theory_lists.specs.Written.{written};
@@ -12,17 +12,16 @@ ghost use Rattle.session_cutting.specs.Cutting.{after_numbered};
 ghost use Rattle.session_steps.specs.Steps.{width, Holds, Holding, Stepped};
 
 use base_codes::CodedNumbers;
-use base_numbers::less;
 use limits::MOST_DAYS;
+use refusals::Refusal;
 use session_cuts::Cut;
-use session_cutting::CutAnswer;
 
 // A session's numbers while cuts are made of it, whether it is spent, and the answer to the last cut.
 #[derive(Clone, Copy)]
 pub struct Step {
     pub numbers: CodedNumbers,
     pub spent: bool,
-    pub answer: CutAnswer,
+    pub answer: Result<usize, Refusal>,
 }
 
 // One more where a width fell.
@@ -47,23 +46,20 @@ pub fn count_narrowed(
     let mut count = 0;
     for k in 0..n {
         let before = widths[k];
-        let after = less(ceilings[k], floors[k]);
+        let after = ceilings[k].saturating_sub(floors[k]);
         widths[k] = after;
         count = tally(count, before, after);
     }
     count
 }
 
-fn refuse(numbers: CodedNumbers, spent: bool, number: u8) -> Step
-    ensures { result ≡ record { numbers = numbers; spent = spent; answer = record { refusal = number; changed = 0 } } }
+fn refuse(numbers: CodedNumbers, spent: bool, refusal: Refusal) -> Step
+    ensures { result ≡ record { numbers = numbers; spent = spent; answer = Err refusal } }
 {
     Step {
         numbers,
         spent,
-        answer: CutAnswer {
-            refusal: number,
-            changed: 0,
-        },
+        answer: Err(refusal),
     }
 }
 
@@ -83,31 +79,26 @@ pub fn cut_next(
     let n = numbers.days;
     let spent = step.spent;
     let Some(cut) = asked else {
-        return refuse(numbers, spent, 12);
+        return refuse(numbers, spent, Refusal::Kind);
     };
-    let checked = session_cutting::check(cut, n);
-    if checked.refusal != 0 {
-        return refuse(numbers, spent, checked.refusal);
-    }
+    let value = match session_cutting::check(cut, n) {
+        Ok(value) => value,
+        Err(refusal) => return refuse(numbers, spent, refusal),
+    };
     if spent {
-        return refuse(numbers, spent, 9);
+        return refuse(numbers, spent, Refusal::Spent);
     }
-    let t = session_cutting::cut_ranges(floors, ceilings, rises, numbers, cut, checked.value);
-    if !t.found {
-        return refuse(numbers, true, 8);
-    }
+    let Some(total) = session_cutting::cut_ranges(floors, ceilings, rises, numbers, cut, value) else {
+        return refuse(numbers, true, Refusal::NoSchedule);
+    };
     let count = count_narrowed(floors, ceilings, n, widths);
     Step {
         numbers: CodedNumbers {
-            days: n,
-            first: numbers.first,
-            lowest: t.lowest,
-            highest: t.highest,
+            lowest: total.lowest,
+            highest: total.highest,
+            ..numbers
         },
         spent: false,
-        answer: CutAnswer {
-            refusal: 0,
-            changed: count,
-        },
+        answer: Ok(count),
     }
 }

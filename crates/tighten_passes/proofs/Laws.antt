@@ -162,11 +162,8 @@ shares c v x room hc hx e = go (dec_lt (q + p) v) (dec_lt v (q + p))
     go (no l) (no m) = omega arith
 
 module _ {fs rs : List ℕ} {n i margin v past c room top e : ℕ} (g : Carried fs rs n) (f : Found fs rs n i margin v past c room top e) where
-  pub found_some : 0 < c
+  found_some : 0 < c
   found_some = omega (arith, f.found)
-
-  pub found_few : c ≤ most_days
-  found_few = omega (arith, f.span.ends, f.span.inside, g.most)
 
   found-beyond : (k : ℕ) → past ≤ k → k < n → v ≤ shifted fs rs n k
   found-beyond k h u = window-past (shifted fs rs n) n i v k (omega (arith, f.found, f.span.ends)) u
@@ -273,7 +270,7 @@ pub record Stand (fs rs : List ℕ) (n i margin cap v past c room top e : ℕ) :
   pub fits : v ≤ cap
   pub higher : (u : ℕ) → v < u → u ≤ cap → margin < over all (shifted fs rs n) n i u
 
-pub stand_start : {fs rs : List ℕ} {n i margin cap v past c room top e : ℕ} → (v ≡ cap) × Found fs rs n i margin cap past c room top e → shifted fs rs n i ≤ cap
+stand_start : {fs rs : List ℕ} {n i margin cap v past c room top e : ℕ} → (v ≡ cap) × Found fs rs n i margin cap past c room top e → shifted fs rs n i ≤ cap
     → Stand fs rs n i margin cap v past c room top e
 stand_start f b = record { window = rw f.0 f.1; base = omega (arith, f.0); fits = omega (arith, f.0); higher = λ u h l. absurd (omega (arith, f.0)) }
 
@@ -286,9 +283,6 @@ module _ {fs rs : List ℕ} {n i margin cap v past c room top e : ℕ} (g : Carr
       }
 
   module _ (h : room < c * v) where
-    pub stand_over : Overloaded fs rs n i margin v past c room top e
-    stand_over = record { window = t.window; base = t.base; more = h }
-
     -- each level between is over the margin: its days take more than the room
     passed : (u : ℕ) → max (room / c) top < u → u ≤ cap → Dec (v < u) → margin < over all (shifted fs rs n) n i u
     passed u l m (yes y) = t.higher u y m
@@ -328,9 +322,6 @@ module _ {fs rs : List ℕ} {n i margin cap v past c room top e : ℕ} (g : Carr
 -- ---- lower_day
 
 module _ {fs rs : List ℕ} {n i margin ceiling floor v past c room top e : ℕ} (g : Carried fs rs n) (t : Entering fs rs n i margin ceiling floor v past c room top e) where
-  pub entering_few : c + 1 ≤ most_days
-  entering_few = omega (arith, g.most, t.window.span.ends, t.window.span.inside)
-
   -- the day fits as it is
   pub day-fits : (top < min v ceiling) × ((c + 1) * min v ceiling ≤ room + floor) → Lowest fs rs n i margin (min v ceiling) (min v ceiling) past (c + 1) (room + floor) top e
   day-fits h = stand_done g (stand_start (refl, settled t.window (λ _. h.0)) t.base) refl h.1
@@ -357,7 +348,7 @@ pub record Pass (fs cs rs : List ℕ) (n margin v past c room top e i : ℕ) : T
   pub beyond : (k : ℕ) → past ≤ k → k < n → v ≤ shifted fs rs n k
   pub base : (k : ℕ) → k < i → shifted fs rs n k ≤ v
 
-pub floors-carried : {fs cs rs : List ℕ} {n : ℕ} → Ready fs cs rs n → Carried fs rs n
+floors-carried : {fs cs rs : List ℕ} {n : ℕ} → Ready fs cs rs n → Carried fs rs n
 floors-carried g = record { most = g.most; floor = λ k h. omega (arith, g.fits k h, g.ceiling k h); rise = g.rise; climb = g.rising }
 
 -- past the last day, and on it

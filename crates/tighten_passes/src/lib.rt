@@ -96,7 +96,7 @@ impl Window {
     // With a day in front, whose shifted ceiling and floor are given.
     fn entered(self, ceiling: u32, floor: u32) -> Window
         requires { (self.count < most_days) × (self.room + floor ≤ highest_room) }
-        ensures { result ≡ record { v = min self.v ceiling; past = self.past; count = self.count + 1; room = self.room + floor; top = self.top; end = self.end } }
+        ensures { result ≡ record self { v = min self.v ceiling; count = self.count + 1; room = self.room + floor } }
     {
         Window {
             v: self.v.min(ceiling),
@@ -108,7 +108,7 @@ impl Window {
 
     // With the level lowered.
     fn lowered_to(self, v: u32) -> Window
-        ensures { result ≡ record { v = v; past = self.past; count = self.count; room = self.room; top = self.top; end = self.end } }
+        ensures { result ≡ record self { v = v } }
     {
         Window { v, ..self }
     }
@@ -251,8 +251,8 @@ impl Pass<'_> {
 
 // ---- all days
 
-// Lowers the ceilings of n days, of which those from day `first` on count, from the last of these to the first, and carries the others back. `here` is the
-// shift of the day before which a turn stands.
+// Lowers the ceilings of n days, of which those from day `first` on count, from the last of these to the first, and carries the others back. In a turn `here`
+// is the day's shift.
 pub fn lower_ceilings(
     floors: &[u16; MOST_DAYS],
     ceilings: &mut [u16; MOST_DAYS],
@@ -290,7 +290,7 @@ pub fn lower_ceilings(
 }
 
 // Raises the floors of n days, of which those from day `first` on count, from the first of these to the last: the same pass from the other end of the days and
-// of the scale. `here` is counted from day `first`, `rise` is that from the day before a turn's, or 0.
+// of the scale. In a turn `here` is the day's shift from that end, and `rise` the code of the rise to the day, or 0 for the first.
 pub fn raise_floors(
     floors: &mut [u16; MOST_DAYS],
     ceilings: &[u16; MOST_DAYS],

@@ -2,12 +2,12 @@ use Rattle.std.proofs.Common.{◌≡◌, ◌+◌, ap, arith}
 use Rattle.theory_lists.specs.Sum.{at, sum-none, sum_back}
 use Rattle.base_arrays.proofs.sum.Goals as goal
 
-pub loop-level-init : goal.loop-level-init
-loop-level-init c = grind (arith, sum-none)
+pub loop-k-init : goal.loop-k-init
+loop-k-init c = grind (arith, sum-none)
 
-pub loop-level-preserved : goal.loop-level-preserved
-loop-level-preserved c =
+pub loop-k-preserved : goal.loop-k-preserved
+loop-k-preserved c =
     let levels = c.args.levels.now in
-    let i = c.loop-level.level-index in
-    let z : 0 + i ≡ i = omega arith in
-    (omega (arith, sum_back (at levels) 0 i, ap (at levels) z), omega (arith, c.type_inv.levels i))
+    let k = c.loop-k.k in
+    let z : 0 + k ≡ k = omega arith in
+    (omega (arith, sum_back (at levels) 0 k, ap (at levels) z), omega (arith, c.type_inv.levels k))

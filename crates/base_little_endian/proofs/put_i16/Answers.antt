@@ -1,10 +1,8 @@
 -- `put_i16` meets its contract: the bytes that are stored are those of the number's bits.
-use mir.Facts.{to_z-of_z}
-use Rattle.base_little_endian.specs.Fields.{i16_bytes}
-use borrow.Author.Rules.{rules}
+use mathlib.Core.Path.{ap, ◌∙◌}
+use lib.Seq.{sets}
+use Rattle.base_little_endian.proofs.Laws.{i16_bits}
 use Rattle.base_little_endian.proofs.put_i16.Goals as goal
 
 pub returns : goal.returns
-unfolding i16_bytes
-returns c =
-    rw (c.bits_16.ensures, to_z-of_z c.ranges.z) at c.put_u16.ensures
+returns c = c.put_u16.ensures ∙ ap (sets c.args.out.now c.args.at) (i16_bits c.ranges.z c.cast_unsigned.ensures)

@@ -1,10 +1,9 @@
--- `put_i32` meets its contract: the bytes that are stored are those of the number's bits.
-use mir.Facts.{to_z-of_z}
-use Rattle.base_little_endian.specs.Fields.{i32_bytes}
-use borrow.Author.Rules.{rules}
+-- `put_i32` meets its contract: std's copy of the bytes of the number's bits (`i32-to`), stored at its place (`pasted` of Rows).
+use mathlib.Core.Path.{◌∙◌}
+use native.Mathlib.Omega.{arith}
+use Rattle.theory_lists.specs.Rows.{pasted}
+use Rattle.base_little_endian.proofs.Laws.{i32_length, i32-to}
 use Rattle.base_little_endian.proofs.put_i32.Goals as goal
 
 pub returns : goal.returns
-unfolding i32_bytes
-returns c =
-    rw (c.bits_32.ensures, to_z-of_z c.ranges.z) at c.put_u32.ensures
+returns c = pasted _ _ (c.copy_from_slice.ensures.after ∙ c.to_le_bytes.ensures ∙ i32-to c.ranges.z) (omega (arith, i32_length c.args.z)) (omega (arith, c.requires))

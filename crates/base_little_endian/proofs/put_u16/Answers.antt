@@ -1,15 +1,7 @@
--- `put_u16` meets its contract: two bytes stored one after the other are `sets` of both.
-use mathlib.Core.Path.{refl}
-use lib.ListN.{length-set}
-use native.Mathlib.Numerals.{add-one}
-use Rattle.base_little_endian.specs.Fields.{u16_bytes}
-use borrow.Author.Rules.{rules}
-use native.Mathlib.Omega.{arith}
+-- `put_u16` meets its contract: std's bytes of the number (`u16-to`), stored one after the other (`two_stored`).
+use mathlib.Core.Path.{◌∙◌}
+use Rattle.base_little_endian.proofs.Laws.{u16-to, two_stored}
 use Rattle.base_little_endian.proofs.put_u16.Goals as goal
 
-pub bounds-out-at-2 : goal.bounds-out-at-2
-bounds-out-at-2 c = simp length-set (omega arith)
-
 pub returns : goal.returns
-unfolding u16_bytes
-returns c = rw add-one refl
+returns c = two_stored c.args.out.now c.args.at c.args.x (c.to_le_bytes.ensures ∙ u16-to c.ranges.x)

@@ -1,9 +1,7 @@
--- `u16_at` meets its contract: the sum of both bytes, which are less than 256.
-use Rattle.base_little_endian.specs.Fields.{u16_at}
-use borrow.Author.Rules.{rules}
-use native.Mathlib.Omega.{arith}
+-- `u16_at` meets its contract: the word that std makes of the bytes (`u16-of`).
+use mathlib.Core.Path.{◌∙◌}
+use Rattle.base_little_endian.proofs.Laws.{u16-of}
 use Rattle.base_little_endian.proofs.u16_at.Goals as goal
 
 pub returns : goal.returns
-unfolding u16_at
-returns c = omega arith
+returns c = c.from_le_bytes.ensures ∙ u16-of c.args.bytes.now c.args.at

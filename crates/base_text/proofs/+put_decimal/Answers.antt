@@ -2,7 +2,6 @@
 use native.Mathlib.Omega.{arith}
 use mathlib.Core.Path.{◌∙◌}
 use Prim.Native.Nat.{ℕ}
-use lib.ListN.{length-set}
 use Rattle.base_text.proofs.Digits.{length_large}
 use Rattle.base_text.proofs.Laws.{Led, led_small, led_large}
 use Rattle.base_text.proofs.+put_decimal.Goals as goal

@@ -1,6 +1,3 @@
-use Rattle.std.proofs.Common.{◌≡◌, ◌+◌, ◌≤◌, length, pos, nat_abs, ◌<ℤ◌, ℕ, ◌-◌, ◌*◌, ◌<◌}
-use Rattle.std.proofs.lemmas.List.Edits.{sets}
-use Rattle.base_text.specs.Numbers.{decimal, number}
 use Rattle.base_text.proofs.+put_decimal.Given as goal
 
 -- proposed from what the function passes where it calls itself

@@ -15,7 +15,7 @@ code_cell-cell-requires c = bounds_seen c.ranges.low c.ranges.high c.requires.0
 
 pub loop-j-preserved : goal.loop-j-preserved
 loop-j-preserved c =
-    coding_more c.loop-j.invariant c.loop-j-test.true (sfits_of {w = w16} c.i16_at.type_inv) c.i16_at.ensures c.code_cell-cell.ensures
+    coding_more c.loop-j.invariant _ c.loop-j-test.true (sfits_of {w = w16} c.i16_at.type_inv) c.i16_at.ensures c.code_cell-cell.ensures c.unwrap_or.ensures c.is_none-outside.ensures
 
 pub returns : goal.returns
 unfolding points_in

@@ -1,5 +1,4 @@
 -- `code_points` meets its contract: the first j points are coded, and the flag tells of them (`Coding`).
-use Prim.Native.Nat.{◌-◌}
 use Rattle.base_codes.proofs.Loops.{Coding}
 use Rattle.c_lists.specs.Lists.{point_at}
 use Rattle.c_lists.proofs.code_points.Given as goal

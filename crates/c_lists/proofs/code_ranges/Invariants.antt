@@ -1,5 +1,4 @@
 -- `code_ranges` meets its contract: the floors and the ceilings of the first j days are coded, and the flags tell of them (`CodingRanges`).
-use Prim.Native.Nat.{◌-◌}
 use Rattle.c_lists.proofs.Ranges.{CodingRanges}
 use Rattle.c_lists.proofs.code_ranges.Given as goal
 

@@ -2,7 +2,7 @@
 use Prim.Native.Nat.{ℕ, ◌-◌}
 use mathlib.Core.Path.{◌≡◌}
 use native.Mathlib.Omega.{arith}
-use lib.ListN.{length, replicate, take, drop, length-drop, length-take, length-replicate}
+use lib.ListN.{length, take, drop, length-drop, length-take, length-replicate}
 use Rattle.theory_lists.specs.Rows.{pasted}
 use Rattle.c_storing.proofs.put_zeros.Goals as goal
 

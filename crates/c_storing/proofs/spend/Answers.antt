@@ -34,7 +34,7 @@ restored c =
       third = third;
       before = record {
         first = first;
-        marked = c.put_u16.ensures ∙ ap (λ x. sets b 2 (u16_bytes x)) c.mark.ensures;
+        marked = c.put_u16.ensures ∙ ap (λ x. sets b 2 (u16_bytes x)) c.from.ensures;
         summed = c.put_totals.ensures ∙ (λ i. sets first 12 (total_bytes (low i) (high i)));
       };
       floors = c.copy_levels.ensures ∙ ap (λ n. sets second 3092 (cell_bytes (λ k. min (u16_at second (1044 + k * 2)) 5000) n)) c.days_of-n.ensures;

@@ -19,7 +19,7 @@ use Rattle.c_storing.proofs.store_cut.Goals.{After-put_totals, After-store_days,
 
 summed : (c : After-put_totals) → let a = c.args in Summed a.out.now false a.numbers.lowest a.numbers.highest c.put_totals.new.out
 summed c =
-    record { first = c.put_u16.new.out; marked = c.put_u16.ensures ∙ ap (λ x. sets c.args.out.now 2 (u16_bytes x)) c.mark.ensures; summed = c.put_totals.ensures }
+    record { first = c.put_u16.new.out; marked = c.put_u16.ensures ∙ ap (λ x. sets c.args.out.now 2 (u16_bytes x)) c.from.ensures; summed = c.put_totals.ensures }
 
 celled : (c : After-store_days) → let a = c.args in Celled a.out.now a.numbers.days false a.numbers.lowest a.numbers.highest (at a.floors.now) (at a.ceilings.now) c.store_days.new.out
 celled c =
@@ -28,7 +28,7 @@ celled c =
     record {
       second = second;
       third = sets second 3092 (cell_bytes (at a.floors.now) a.numbers.days);
-      before = record { first = c.put_u16.new.out; marked = c.put_u16.ensures ∙ ap (λ x. sets a.out.now 2 (u16_bytes x)) c.mark.ensures; summed = c.put_totals.ensures };
+      before = record { first = c.put_u16.new.out; marked = c.put_u16.ensures ∙ ap (λ x. sets a.out.now 2 (u16_bytes x)) c.from.ensures; summed = c.put_totals.ensures };
       floors = refl;
       ceilings = c.store_days.ensures.out_after;
     }

@@ -1,6 +1,5 @@
 -- `store_days` meets its contract: at its loop's head the ranges of the days below this one are stored, and what each of those days lost is written
 -- (`Ranged` of Days).
-use Prim.Native.Nat.{◌-◌}
 use Rattle.theory_lists.specs.Sum.{at}
 use Rattle.c_storing.proofs.Days.{Ranged}
 use Rattle.c_storing.proofs.store_days.Given as goal

@@ -23,9 +23,6 @@ stored m rises floors ceilings = fresh m.days m.first rises (record { floors = f
 pub put_ranges-requires-2 : goal.put_ranges-requires-2
 put_ranges-requires-2 c = (c.requires.0.most, omega (arith, c.requires.1))
 
-pub narrow-requires-2 : goal.narrow-requires-2
-narrow-requires-2 c = let b = c.requires.0 in omega (arith, b.counts, b.most)
-
 pub put_u16-requires-3 : goal.put_u16-requires-3
 put_u16-requires-3 c = omega (arith, c.requires.1)
 
@@ -40,14 +37,14 @@ whole c =
     let block : (List ℕ → List ℕ) = λ xs. block_bytes xs s.days in
     let total : List ℕ = total_bytes s.present.lowest s.present.highest in
     let ranges : List ℕ = block s.present.floors ++ block s.present.ceilings in
-    let days = laid l 0 (u16_bytes s.days) (rw c.narrow.ensures at c.put_u16.ensures) (u16-length _) in
-    let spent = laid_more days (u16_bytes 0) (rw c.mark.ensures at c.put_u16-2.ensures) (u16-length _) in
+    let days = laid l 0 (u16_bytes s.days) c.put_u16.ensures (u16-length _) in
+    let spent = laid_more days (u16_bytes 0) (rw c.from.ensures at c.put_u16-2.ensures) (u16-length _) in
     let opened = laid_more spent total c.put_totals.ensures (totals-length _ _) in
     let present = laid_more opened total c.put_totals-2.ensures (totals-length _ _) in
     let rises = laid_more present (block s.rises) c.put_block.ensures (block_length_lem _ _ few) in
     let earlier = laid_more rises ranges c.put_ranges.ensures {v = 2048} (simp (length-append, block_length_lem)) in
     let later = laid_more earlier ranges c.put_ranges-2.ensures {v = 2048} (simp (length-append, block_length_lem)) in
-    laid_last later (u16_bytes s.first) (rw c.narrow-2.ensures at c.put_u16-3.ensures) ∙ sets-whole (encoding s) l (encoding-length s few ∙ sym c.requires.1)
+    laid_last later (u16_bytes s.first) c.put_u16-3.ensures ∙ sets-whole (encoding s) l (encoding-length s few ∙ sym c.requires.1)
 
 pub returns : goal.returns
 returns c = whole (goal.at.returns c).After-put_u16-3

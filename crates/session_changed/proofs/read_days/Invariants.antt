@@ -1,5 +1,5 @@
 -- `read_days` meets its contract: the first k days are read (`Filled`).
-use Prim.Native.Nat.{◌-◌, ◌*◌}
+use Prim.Native.Nat.{◌*◌}
 use Rattle.theory_lists.specs.Filled.{Filled}
 use Rattle.base_little_endian.specs.Fields.{u16_at}
 use Rattle.session_changed.proofs.read_days.Given as goal

@@ -7,7 +7,7 @@ loop-k-init c = filled_none
 
 pub loop-k-preserved : goal.loop-k-preserved
 loop-k-preserved c =
-    filled_more c.loop-k.invariant c.loop-k-test.true (widths_lost _ _ _ _ c.less.ensures c.less-in-loop-k.ensures c.less-in-loop-k-2.ensures)
+    filled_more c.loop-k.invariant c.loop-k-test.true (widths_lost _ _ _ _ c.saturating_sub-before.ensures c.saturating_sub-after.ensures c.saturating_sub.ensures)
 
 pub returns : goal.returns
 returns c = filled-all c.loop-k.invariant c.loop-k-test.false

@@ -1,5 +1,4 @@
 -- `write_losses` meets its contract: the losses of the days below k are written (`Filled`).
-use Prim.Native.Nat.{◌-◌}
 use Rattle.theory_lists.specs.Filled.{Filled}
 use Rattle.session_changed.specs.Changes.{lost}
 use Rattle.session_changed.proofs.write_losses.Given as goal

@@ -2,6 +2,7 @@ use mathlib.Core.Path.{refl}
 use Prim.Native.Nat.{◌<◌}
 use lib.ListN.{length}
 use borrow.Author.Rules.{rules}
+use Rattle.std.proofs.lemmas.List.{map-set}
 use Rattle.session_sheets.proofs.Laws.{asked-same, making_none, making_more, making_all}
 use Rattle.session_sheets.proofs.cut_all.Goals as goal
 use Rattle.session_sheets.proofs.cut_all.Goals.{In-loop-j}
@@ -17,8 +18,8 @@ cut_once-after-requires c = c.loop-j.invariant.bounds
 
 pub loop-j-preserved : goal.loop-j-preserved
 loop-j-preserved c =
-    making_more c.loop-j.invariant c.loop-j-test.true (asked-same c.args.asked _ _ (inside (goal.at.loop-j-preserved c).In-loop-j)) c.cut_once-after.ensures c.answer_for.ensures
+    rw map-set (making_more c.loop-j.invariant c.loop-j-test.true (asked-same c.args.asked _ _ (inside (goal.at.loop-j-preserved c).In-loop-j)) c.cut_once-after.ensures c.answer_for.ensures)
 
 pub returns : goal.returns
 returns c =
-    rw (← c.start-after.ensures) (making_all c.loop-j.invariant c.loop-j-test.false refl c.gather.ensures)
+    rw (← c.start-after.ensures) (making_all c.loop-j.invariant c.loop-j-test.false refl)

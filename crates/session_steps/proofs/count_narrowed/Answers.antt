@@ -10,7 +10,7 @@ tally-count-requires c = omega (arith, tallied_few c.loop-k.invariant, c.require
 
 pub loop-k-preserved : goal.loop-k-preserved
 loop-k-preserved c =
-    tallied-more c.loop-k.invariant c.loop-k-test.true refl c.less-after.ensures c.tally-count.ensures
+    tallied-more c.loop-k.invariant c.loop-k-test.true refl c.saturating_sub-after.ensures c.tally-count.ensures
 
 pub returns : goal.returns
 returns c = let whole = tallied-all c.loop-k.invariant c.loop-k-test.false in record { value = whole.0; widths_after = whole.1 }

@@ -1,9 +1,9 @@
--- `length_refusal` meets its contract: a law for each return.
+-- `check_lengths` meets its contract: a law for each return.
 use native.Mathlib.Omega.{arith}
 use Rattle.session.proofs.Lengths.{no_days, many_days}
 use Rattle.c_lists.specs.Profiles.{byte_counts_refusal}
 use Rattle.c_lists.proofs.Laws.{lengths_wrong, lengths_right}
-use Rattle.c_lists.proofs.length_refusal.Goals as goal
+use Rattle.c_lists.proofs.check_lengths.Goals as goal
 
 pub returns-then-days-eq0 : goal.returns-then-days-eq0
 unfolding byte_counts_refusal

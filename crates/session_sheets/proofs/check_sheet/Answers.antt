@@ -1,6 +1,6 @@
--- `sheet_refusal` meets its contract: each return knows what the checks before it found.
+-- `check_sheet` meets its contract: each return knows what the checks before it found.
 use Rattle.session_sheets.proofs.Laws.{sheet_long, sheet_unanswered, sheet_unlisted, sheet_taken}
-use Rattle.session_sheets.proofs.sheet_refusal.Goals as goal
+use Rattle.session_sheets.proofs.check_sheet.Goals as goal
 
 pub returns-then-cuts-gt-MOST_CUTS : goal.returns-then-cuts-gt-MOST_CUTS
 returns-then-cuts-gt-MOST_CUTS c = sheet_long _ _ _ _ c.if-cuts-gt-MOST_CUTS.true
