@@ -1,21 +1,14 @@
 -- Bytes stored one part after another.
-use Prim.Native.Nat.{ℕ, zero, suc, ◌+◌, ◌≤◌}
+use Prim.Native.Nat.{ℕ, ◌+◌, ◌≤◌}
 use mathlib.Core.Path.{◌≡◌, refl, ◌∙◌}
-use mathlib.Core.List.{List, [], ◌∷◌, ◌++◌, append-nil}
-use native.Mathlib.Numerals.{add-one}
+use mathlib.Core.List.{List, ◌++◌, append-nil}
 use native.Mathlib.Omega.{arith}
-use lib.ListN.{length, length-append, replicate, replicate-append-replicate}
+use lib.ListN.{length, length-append}
 use lib.Seq.{sets, drop-length}
 use Rattle.theory_lists.specs.Front.{in_front}
 use Rattle.theory_lists.specs.Part.{stored_before, stored_past}
 use Rattle.base_little_endian.specs.Fields.{u16_at}
-use Rattle.theory_lists.specs.Rows.{rows, front-sets, stored_after}
-
--- rows of one element each
-pub rows-replicate : {A : Type 0} (a : A) (n : ℕ) → rows (λ k. a ∷ []) n ≡ replicate n a
-unfolding rows
-rows-replicate a zero = refl
-rows-replicate a (suc n) = rw (rows-replicate a n) (rw (add-one n) at (replicate-append-replicate n 1 a))
+use Rattle.theory_lists.specs.Rows.{front-sets, stored_after}
 
 -- w numbers, xs, stored from a place on
 pub record Laid (l : List ℕ) (place : ℕ) (xs : List ℕ) (w : ℕ) (out : List ℕ) : Type 0 where
