@@ -1,8 +1,8 @@
--- `tally::noted` meets its contract: the text that was stored lies within its list (`front-room`).
+-- `Tally::note` meets its contract: the text that was stored lies within its list (`front-room`).
 use Rattle.std.proofs.Common.{◌≤◌, length, sym, length-take-le, rules}
 use Rattle.file_printing.proofs.Lines.{front-room}
-use Rattle.program_damaged.proofs.tally.noted.Goals as goal
-use Rattle.program_damaged.proofs.tally.noted.Goals.{After-print_ranges-length}
+use Rattle.program_damaged.proofs.tally.Tally.note.Goals as goal
+use Rattle.program_damaged.proofs.tally.Tally.note.Goals.{After-print_ranges-length}
 
 room : (c : After-print_ranges-length) → c.print_ranges-length.result ≤ length c.print_ranges-length.new.out
 room c = rw (c.print_ranges-length.ensures.out_after, c.print_ranges-length.ensures.value) (front-room _ _)
