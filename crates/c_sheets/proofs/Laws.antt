@@ -1,5 +1,6 @@
 -- A sheet on a session's bytes: an answer's bytes, the cuts of a list made one after another, what is loaded, and what is stored in the end.
-use Rattle.std.specs.Prelude.{Option}
+use Rattle.std.specs.Prelude.{Option, Result, Ok, Err}
+use Rattle.refusals.specs.declared.Refusal.{Refusal}
 use Prim.Native.Nat.{ℕ, ◌+◌, ◌*◌, ◌/◌, ◌%◌, ◌≤◌, ◌<◌}
 use mathlib.Core.Path.{◌≡◌, refl, ap, sym, subst, ◌∙◌}
 use mathlib.Core.Bool.{Bool, true, false}
@@ -23,7 +24,7 @@ use Rattle.session.specs.declared.Ranges.{Ranges}
 use Rattle.session.specs.declared.Session.{Session}
 use Rattle.session_order.specs.Order.{settled_losers, day_cells}
 use Rattle.session_changed.specs.Changes.{lost}
-use Rattle.session_cutting.specs.Cutting.{after_numbered, CutAnswer}
+use Rattle.session_cutting.specs.Cutting.{after_numbered, CutAnswer, answer_as}
 use Rattle.session_cutting.proofs.Laws.{numbered_few}
 use Rattle.session_sheets.specs.Sheets.{after_cuts, answer_on, sheet_refusal, sheet_days}
 use Rattle.session_sheets.proofs.Laws.{after_none, after_more, after-days, after-bounds, after-spent, after-shown, after_narrows, sheet_days-losers, sheet_passed}
@@ -48,13 +49,13 @@ pub answers-length : (s : Session) (cuts : List ℕ) (m : ℕ) → length (answe
 answers-length s cuts m = length-rows (λ j. answer_bytes (answer_on s (asked_at cuts) j)) 4 m (λ k _. answer-length (answer_on s (asked_at cuts) k))
 
 -- the number of changed days stored behind the refusal
-pub answer_stored : (a : CutAnswer) (l : List ℕ) (place : ℕ) {n : ℕ} {m out : List ℕ} → n ≡ a.changed → m ≡ sets l place (u16_bytes a.refusal) → out ≡ sets m (place + 2) (u16_bytes n)
+pub answer_stored : (a : CutAnswer) (l : List ℕ) (place : ℕ) {k n : ℕ} {m out : List ℕ} → k ≡ a.refusal → n ≡ a.changed → m ≡ sets l place (u16_bytes k) → out ≡ sets m (place + 2) (u16_bytes n)
     → out ≡ sets l place (answer_bytes a)
 unfolding answer_bytes
-answer_stored a l place e p q = stored_after l place 2 (u16_bytes a.refusal) (u16_bytes a.changed) (u16-length a.refusal) p (rw e at q)
+answer_stored a l place r e p q = stored_after l place 2 (u16_bytes a.refusal) (u16_bytes a.changed) (u16-length a.refusal) (rw r at p) (rw e at q)
 
 -- an answer has no more changed days than there are
-pub stepped_few : {s : Session} (t : Option Cut) {q : Step} {rs fs cs ws : List ℕ} → SessionInBounds s → Stepped (after_numbered s t s.days) q rs fs cs ws → q.answer.changed ≤ most_days
+pub stepped_few : {s : Session} (t : Option Cut) {q : Step} {rs fs cs ws : List ℕ} → SessionInBounds s → Stepped (after_numbered s t s.days) q rs fs cs ws → (answer_as q.answer).changed ≤ most_days
 stepped_few {s} t b e = omega (arith, ap (λ a. a.changed) e.answer, numbered_few s t s.days, b.present.most)
 
 -- a cut that has another name
@@ -87,12 +88,12 @@ module _ {cuts l : List ℕ} {m : ℕ} {p : Step} {rs fs cs ws : List ℕ} where
 
     pub making_more : j < m → {r : Step} {fs'' cs'' ws'' out' : List ℕ}
         → ((s : Session) → SessionInBounds s → Holds s q rs fs' cs' ws' → Stepped (after_numbered s (asked_at cuts j) s.days) r rs fs'' cs'' ws'')
-        × (out' ≡ sets out (j * 4) (answer_bytes r.answer))
+        × (out' ≡ sets out (j * 4) (answer_bytes (answer_as r.answer)))
         → Making cuts l m p rs fs cs ws (j + 1) r fs'' cs'' ws'' out'
     making_more u {r} {fs''} {cs''} {ws''} {out'} e =
         record {
           most = omega arith;
-          kept = ap length e.1 ∙ length-sets out (j * 4) (answer_bytes r.answer) ∙ i.kept;
+          kept = ap length e.1 ∙ length-sets out (j * 4) (answer_bytes (answer_as r.answer)) ∙ i.kept;
           made = λ s b h.
               let f = asked_at cuts in
               let k = i.made s b h in
@@ -111,7 +112,7 @@ module _ {cuts l : List ℕ} {m : ℕ} {p : Step} {rs fs cs ws : List ℕ} where
 -- ---- what is loaded
 
 pub loaded_holds : {b fs cs rs blank ws : List ℕ} {m : CodedNumbers} → Loaded b fs cs rs m → {spent : Bool} → spent ≡ (decoding b).spent → blank ≡ zeros
-    → ws ≡ written (width fs cs) m.days blank → {a : CutAnswer} → Holds (decoding b) (record { numbers = m; spent = spent; answer = a }) rs fs cs ws
+    → ws ≡ written (width fs cs) m.days blank → {a : Result ℕ Refusal} → Holds (decoding b) (record { numbers = m; spent = spent; answer = a }) rs fs cs ws
 loaded_holds {b} {fs} {cs} {rs} {blank} {ws} {m} l e z w =
     let long : length blank ≡ 512 = ap length z ∙ length-replicate {A = ℕ} 512 0 in
     record {

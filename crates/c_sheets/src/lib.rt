@@ -7,7 +7,8 @@ ghost use Rattle.limits.specs.Limits.{most_days};
 ghost use Rattle.theory_method.specs.Filter.{zeros};
 ghost use Rattle.session.specs.Showing.{SessionInBounds};
 ghost use Rattle.session.specs.declared.Session.{Session};
-ghost use Rattle.session_cutting.specs.Cutting.{after_numbered};
+ghost use Rattle.session_cutting.specs.Cutting.{answer_as, after_numbered};
+ghost use Rattle.refusals.specs.Number.{refusal_of};
 ghost use Rattle.session_steps.specs.Steps.{Holds, Holding, Stepped};
 ghost use Rattle.c_layout.specs.Layout.{session_bytes, decoding};
 ghost use Rattle.c_sheets.specs.Sheets.{asked_at, answer_length, answer_bytes, sheet_answer, bytes_after_sheet, answers_after, days_after};
@@ -15,26 +16,26 @@ ghost use Rattle.c_sheets.specs.Stages.{RoomFor, Made, Sheetable, MadeOver};
 
 use base_codes::CodedNumbers;
 use base_little_endian::put_u16;
-use base_numbers::narrow;
 use c_layout::{CELL_BYTES, SESSION_BYTES};
 use c_loading::{days_of, first_of, is_spent, load_present, total_of};
 use c_storing::{spend, store_cut};
 use file_checks::numbered_at;
 use file_format::CUT_BYTES;
 use limits::MOST_DAYS;
-use session_cutting::CutAnswer;
-use session_sheets::sheet_refusal;
+use refusals::{Refusal, number_of};
+use session_sheets::check_sheet;
 use session_steps::{Step, count_narrowed, cut_next};
 
 const ANSWER_BYTES: usize = 2 * CELL_BYTES;
 
 // Stores an answer.
-fn put_answer(answer: CutAnswer, place: usize, out: &mut [u8])
-    requires { (answer.changed ≤ most_days) × (place + answer_length ≤ length out.old) }
-    ensures { out.new ≡ sets out.old place (answer_bytes answer) }
+fn put_answer(answer: Result<usize, Refusal>, place: usize, out: &mut [u8])
+    requires { ((answer_as answer).changed ≤ most_days) × (place + answer_length ≤ length out.old) }
+    ensures { out.new ≡ sets out.old place (answer_bytes (answer_as answer)) }
 {
-    put_u16(out, place, answer.refusal as u16);
-    put_u16(out, place + CELL_BYTES, narrow(answer.changed));
+    let changed = answer.unwrap_or(0);
+    put_u16(out, place, u16::from(number_of(&answer)));
+    put_u16(out, place + CELL_BYTES, changed as u16);
 }
 
 // Makes the cut that stands at place j of a list, and stores its answer.
@@ -50,12 +51,11 @@ fn cut_listed(
 ) -> Step
     requires { Holding step rises.now floors.old ceilings.old widths.old × RoomFor (j + 1) cuts.now answers.old }
     ensures stepped { (s : Session) → SessionInBounds s → Holds s step rises.now floors.old ceilings.old widths.old → Stepped (after_numbered s (asked_at cuts.now j) s.days) result rises.now floors.new ceilings.new widths.new }
-    ensures answers_after { answers.new ≡ sets answers.old (j * answer_length) (answer_bytes result.answer) }
+    ensures answers_after { answers.new ≡ sets answers.old (j * answer_length) (answer_bytes (answer_as result.answer)) }
 {
     let asked = numbered_at(cuts, j * CUT_BYTES);
     let next = cut_next(step, asked, rises, floors, ceilings, widths);
-    let answer = next.answer;
-    put_answer(answer, j * ANSWER_BYTES, answers);
+    put_answer(next.answer, j * ANSWER_BYTES, answers);
     next
 }
 
@@ -105,10 +105,7 @@ fn load(
             highest: total.highest,
         },
         spent,
-        answer: CutAnswer {
-            refusal: 0,
-            changed: 0,
-        },
+        answer: Ok(0),
     }
 }
 
@@ -157,46 +154,30 @@ fn make_cuts(
     )
 }
 
-fn refuse(number: u8) -> CutAnswer
-    ensures { result ≡ record { refusal = number; changed = 0 } }
-{
-    CutAnswer {
-        refusal: number,
-        changed: 0,
-    }
-}
-
 // Makes up to 512 cuts in order: the checks 2 for the session's length, 1, 14, 2, all before the first cut.
 pub fn cut_sheet(
     session: &mut [u8],
     cuts: &[u8],
     answers: &mut [u8],
     changed: &mut [u8],
-) -> CutAnswer
-    ensures value { result ≡ sheet_answer session.old cuts.now (length answers.old) (length changed.old) }
-    ensures session_after { session.new ≡ bytes_after_sheet result.refusal session.old cuts.now }
-    ensures answers_after { answers.new ≡ answers_after result.refusal session.old cuts.now answers.old }
-    ensures changed_after { changed.new ≡ days_after result.refusal session.old cuts.now changed.old }
+) -> Result<usize, Refusal>
+    ensures value { answer_as result ≡ sheet_answer session.old cuts.now (length answers.old) (length changed.old) }
+    ensures session_after { session.new ≡ bytes_after_sheet (refusal_of result) session.old cuts.now }
+    ensures answers_after { answers.new ≡ answers_after (refusal_of result) session.old cuts.now answers.old }
+    ensures changed_after { changed.new ≡ days_after (refusal_of result) session.old cuts.now changed.old }
 {
     if session.len() != SESSION_BYTES {
-        return refuse(2);
+        return Err(Refusal::Length);
     }
     let count = cuts.len() / CUT_BYTES;
-    let refusal = sheet_refusal(
+    check_sheet(
         days_of(session),
         count,
         answers.len() / ANSWER_BYTES,
         changed.len() / CELL_BYTES,
-    );
-    if refusal != 0 {
-        return refuse(refusal);
-    }
+    )?;
     if cuts.len() % CUT_BYTES != 0 {
-        return refuse(2);
+        return Err(Refusal::Length);
     }
-    let days = make_cuts(session, cuts, count, answers, changed);
-    CutAnswer {
-        refusal: 0,
-        changed: days,
-    }
+    Ok(make_cuts(session, cuts, count, answers, changed))
 }

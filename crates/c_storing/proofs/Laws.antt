@@ -10,13 +10,7 @@ use lib.Seq.{sets, sets-eq, drop-length, drop-drop, get_or-take}
 use Rattle.theory_lists.specs.Front.{in_front}
 use Rattle.theory_lists.specs.Part.{stored_before, stored_past}
 use Rattle.base_little_endian.specs.Fields.{u16_at}
-use Rattle.theory_lists.specs.Rows.{rows, front-sets, stored_after}
-
--- rows of one element each
-pub rows-replicate : {A : Type 0} (a : A) (n : ℕ) → rows (λ k. a ∷ []) n ≡ replicate n a
-unfolding rows
-rows-replicate a zero = refl
-rows-replicate a (suc n) = rw (rows-replicate a n) (rw (add-one n) at (replicate-append-replicate n 1 a))
+use Rattle.theory_lists.specs.Rows.{front-sets, stored_after}
 
 -- w numbers, xs, stored from a place on
 pub record Laid (l : List ℕ) (place : ℕ) (xs : List ℕ) (w : ℕ) (out : List ℕ) : Type 0 where

@@ -1,5 +1,5 @@
 // A session's bytes stored: a fresh session whole, and what a cut changes.
-#![tactic(auto)]
+#![tactic(auto, using(c_layout::proofs::Held::days_few))]
 
 ghost use Rattle.std.specs.Prelude.{◌≡◌, true, false, ◌++◌, ◌+◌, ◌-◌, ◌*◌, ◌≤◌, min, length, replicate};
 ghost use Rattle.std.proofs.lemmas.List.Edits.{sets};

@@ -3,11 +3,12 @@ use mathlib.Core.Path.{◌≡◌, refl, sym, ◌∙◌}
 use mathlib.Core.Bool.{Bool, true, false, cond, ◌||◌, or-true, and-false}
 use mathlib.Core.List.{List}
 use Prim.Native.Nat.{ℕ, ◌+◌, ◌-◌, ◌*◌, ◌≤◌, ◌<◌}
+use native.Mathlib.Nat.{le_refl}
 use native.Mathlib.Omega.{arith}
 use lib.Dec.{eqb, ltb}
 use lib.ListN.{length}
 use borrow.Author.Tests.{eq-eqb, ne_eqb, lt-ltb, le-ltb}
-use Rattle.theory_lists.specs.First.{first_where}
+use Rattle.theory_lists.specs.First.{first_where, Nowhere, nowhere_here, nowhere_all}
 use Rattle.theory_lists.specs.Checks.{cond-zero}
 use Rattle.base_little_endian.specs.Fields.{u16_at}
 use Rattle.base_little_endian.proofs.Laws.{zero_field}
@@ -15,7 +16,7 @@ use Rattle.file_format.specs.Format.{day_offset, file_length, day_count, cut_cou
 use Rattle.file_format.specs.Reading.{bad_counts, bad_layout, bad_fields, bad_cut, early_reading}
 use Rattle.file_format.proofs.Taken.{counted, laid}
 
--- ---- counts_refusal
+-- ---- check_counts
 
 module _ (days cuts : ℕ) where
   abbrev counts : ℕ
@@ -38,7 +39,7 @@ pub record Said (b : List ℕ) (n m : ℕ) : Type 0 where
   pub days : n ≡ day_count b
   pub cuts : m ≡ cut_count b
 
--- ---- layout_refusal
+-- ---- check_layout
 
 abbrev layout : List ℕ → ℕ
 layout b = cond (bad_layout b) 11 0
@@ -57,10 +58,23 @@ module _ (b : List ℕ) where
     pub layout_taken : days_offset b ≡ 18 → cuts_offset b ≡ day_offset n → length b ≡ file_length n m → 0 ≡ layout b
     layout_taken ho hp h = rw (← k.days, ← k.cuts, eq-eqb (days_offset b) 18 ho, eq-eqb (cuts_offset b) (day_offset n) hp, eq-eqb (length b) (file_length n m) h)
 
--- ---- fields_refusal
+-- ---- has_bad
+
+module _ {t : ℕ → Bool} {n i : ℕ} (h : Nowhere t n i) where
+  pub some_bad : i < n → t i ≡ true → true ≡ ltb (first_where t n) n
+  some_bad l e = rw (← nowhere_here h l e, lt-ltb i n l)
+
+  pub none_bad : n ≤ i → false ≡ ltb (first_where t n) n
+  none_bad l = rw (← nowhere_all h l, le-ltb n n (le_refl n))
+
+-- ---- check_fields
 
 abbrev fields : List ℕ → ℕ
 fields b = cond (bad_fields b) 12 0
+
+-- one of the m cuts behind n days is bad
+abbrev some_bad_cut : List ℕ → ℕ → ℕ → Bool
+some_bad_cut b n m = ltb (first_where (λ j. bad_cut (numbered_at b (day_offset n + j * 8))) m) m
 
 -- r is the rise of the last day, which there is
 pub record Risen (b : List ℕ) (n m r : ℕ) : Type 0 where
@@ -69,8 +83,8 @@ pub record Risen (b : List ℕ) (n m r : ℕ) : Type 0 where
   pub rise : r ≡ u16_at b (day_offset n - 2)
 
 module _ (b : List ℕ) {n m : ℕ} where
-  pub cut_bad : {f : ℕ} → Said b n m → f ≡ first_where (λ j. bad_cut (numbered_at b (day_offset n + j * 8))) m → f < m → 12 ≡ fields b
-  cut_bad {f} k ef h = rw (← k.days, ← k.cuts, ← ef, lt-ltb f m h, or-true)
+  pub cut_bad : {f : Bool} → Said b n m → f ≡ some_bad_cut b n m → f ≡ true → 12 ≡ fields b
+  cut_bad k ef h = rw (← k.days, ← k.cuts, ← ef, h, or-true)
 
   module _ {r : ℕ} (k : Risen b n m r) where
     last-rise : r ≡ u16_at b (day_offset (n - 1) + 4)
@@ -79,14 +93,13 @@ module _ (b : List ℕ) {n m : ℕ} where
     pub rise-left : (r ≡ 0 → ⊥) → 12 ≡ fields b
     rise-left h = rw (← k.said.days, zero_field b (day_offset (n - 1) + 4), ← last-rise, ne_eqb r 0 h)
 
-    pub fields_taken : r ≡ 0 → {f : ℕ} → f ≡ first_where (λ j. bad_cut (numbered_at b (day_offset n + j * 8))) m → m ≤ f → 0 ≡ fields b
-    fields_taken hr {f} ef h =
-        rw (← k.said.days, ← k.said.cuts, ← ef, zero_field b (day_offset (n - 1) + 4), ← last-rise, eq-eqb r 0 hr, le-ltb f m h)
+    pub fields_taken : r ≡ 0 → {f : Bool} → f ≡ some_bad_cut b n m → f ≡ false → 0 ≡ fields b
+    fields_taken hr ef h = rw (← k.said.days, ← k.said.cuts, ← ef, zero_field b (day_offset (n - 1) + 4), ← last-rise, eq-eqb r 0 hr, h)
 
--- ---- file_refusal
+-- ---- check_file
 
-refuses : (t : Bool) (m : ℕ) {r : ℕ} → r ≡ cond t m 0 → (r ≡ 0 → ⊥) → t ≡ true
-refuses true m e h = refl
+refuses : (t : Bool) (m : ℕ) {r : ℕ} → r ≡ cond t m 0 → (r ≡ 0 → ⊥) → (t ≡ true) × (r ≡ m)
+refuses true m e h = (refl, e)
 refuses false m e h = absurd (h e)
 
 -- the header is there, and n and m are its counts
@@ -113,9 +126,9 @@ module _ (b : List ℕ) where
     by_counts : Said b n m → counts n m ≡ cond (bad_counts b) 1 0
     by_counts k = rw (← k.days, ← k.cuts) refl
 
-    pub counts-refused : {r : ℕ} → Header b n m → r ≡ counts n m → (r ≡ 0 → ⊥) → 1 ≡ early_reading b
+    pub counts-refused : {r : ℕ} → Header b n m → r ≡ counts n m → (r ≡ 0 → ⊥) → r ≡ early_reading b
     unfolding early_reading
-    counts-refused k er h = rw (le-ltb (length b) 18 k.long, refuses (bad_counts b) 1 (er ∙ by_counts k.said) h)
+    counts-refused k er h = let t = refuses (bad_counts b) 1 (er ∙ by_counts k.said) h in rw (le-ltb (length b) 18 k.long, t.0) t.1
 
     module _ (k : Counted b n m) where
       counts_good : bad_counts b ≡ false
@@ -124,9 +137,9 @@ module _ (b : List ℕ) where
       pub counted-here : (0 < day_count b) × (day_count b ≤ 512) × (cut_count b ≤ 512)
       counted-here = counted b counts_good
 
-      pub layout_refused : {s : ℕ} → s ≡ layout b → (s ≡ 0 → ⊥) → 11 ≡ early_reading b
+      pub layout_refused : {s : ℕ} → s ≡ layout b → (s ≡ 0 → ⊥) → s ≡ early_reading b
       unfolding early_reading
-      layout_refused es h = rw (le-ltb (length b) 18 k.header.long, counts_good, refuses (bad_layout b) 11 es h)
+      layout_refused es h = let t = refuses (bad_layout b) 11 es h in rw (le-ltb (length b) 18 k.header.long, counts_good, t.0) t.1
 
     module _ (k : Laid b n m) where
       layout_good : bad_layout b ≡ false

@@ -1,5 +1,6 @@
 -- What `read_contents` gives, by what its calls gave; and `read`, by what its tests found: a law for each refusal, and one for a file taken whole.
-use mathlib.Core.Path.{◌≡◌, ap, sym, ◌∙◌}
+use Rattle.std.specs.Prelude.{Result, Ok, Err}
+use mathlib.Core.Path.{◌≡◌, refl, sym, ◌∙◌}
 use mathlib.Core.Bool.{or-true}
 use mathlib.Core.List.{List}
 use Prim.Native.Nat.{ℕ, ◌-◌, ◌≤◌, ◌<◌}
@@ -8,12 +9,15 @@ use lib.ListN.{length}
 use borrow.Author.Tests.{ne_eqb, lt-ltb}
 use Rattle.theory_lists.specs.Written.{written}
 use Rattle.theory_lists.specs.Lent.{lent_list, list_left, list-filled}
+use Rattle.refusals.specs.declared.Refusal.{Refusal}
+use Rattle.refusals.specs.Number.{refusal_number, refusal_of}
+use Rattle.refusals.proofs.Laws.{refused}
 use Rattle.session.specs.declared.Numbers.{Numbers}
 use Rattle.session_cuts.specs.declared.Sheet.{Sheet}
 use Rattle.file_format.specs.Format.{day_offset, day_count, cut_count, numbers_in, floor_at, ceiling_at, rise_at}
 use Rattle.file_format.specs.Reading.{early_reading, reading_refusal}
-use Rattle.file_reading.specs.declared.ReadAnswer.{ReadAnswer}
-use Rattle.file_reading.specs.Reading.{sheet_from, refused_read, contents, read_from}
+use Rattle.file_reading.specs.declared.Contents.{Contents}
+use Rattle.file_reading.specs.Reading.{sheet_from, contents, read_as, read_from}
 use Rattle.file_reading.proofs.Laws.{Room, read_all}
 
 -- ---- read_contents
@@ -24,7 +28,7 @@ pub record Gave (b : List ℕ) (numbers : Numbers) (m : ℕ) (s : Sheet) : Type 
   pub cuts : m ≡ cut_count b
   pub sheet : s ≡ sheet_from b (day_offset numbers.days) m
 
-pub contents_as : {b : List ℕ} {numbers : Numbers} {m : ℕ} {s : Sheet} → Gave b numbers m s → record { refusal = 0; numbers = numbers; sheet = s } ≡ contents b
+pub contents_as : {b : List ℕ} {numbers : Numbers} {m : ℕ} {s : Sheet} → Gave b numbers m s → read_as (Ok (record { numbers = numbers; sheet = s })) ≡ contents b
 unfolding contents
 contents_as {b} g i =
     record { refusal = 0; numbers = g.found i; sheet = (g.sheet ∙ (λ j. sheet_from b (day_offset (g.found j).days) (g.cuts j))) i }
@@ -75,42 +79,40 @@ module _ (h : ReadCall) where
     no_rises short = rw (k.passed, ← k.days, lt-ltb (length h.rises) (n - 1) short, or-true)
 
   -- what `read` ensures of its answer and of the lists that it leaves
-  abbrev Answers : ReadAnswer → List ℤ → List ℤ → List ℤ → Type 0
+  abbrev Answers : Result Contents Refusal → List ℤ → List ℤ → List ℤ → Type 0
   Answers a floors ceilings rises =
-      (a ≡ read_from h.bytes (length h.floors) (length h.ceilings) (length h.rises))
-      × ((floors ≡ lent_list a.refusal (floor_at h.bytes) (day_count h.bytes) h.floors)
-      × ((ceilings ≡ lent_list a.refusal (ceiling_at h.bytes) (day_count h.bytes) h.ceilings)
-      × (rises ≡ lent_list a.refusal (rise_at h.bytes) (day_count h.bytes - 1) h.rises)))
+      (read_as a ≡ read_from h.bytes (length h.floors) (length h.ceilings) (length h.rises))
+      × ((floors ≡ lent_list (refusal_of a) (floor_at h.bytes) (day_count h.bytes) h.floors)
+      × ((ceilings ≡ lent_list (refusal_of a) (ceiling_at h.bytes) (day_count h.bytes) h.ceilings)
+      × (rises ≡ lent_list (refusal_of a) (rise_at h.bytes) (day_count h.bytes - 1) h.rises)))
 
-  module _ {a : ReadAnswer} where
-    pub refused_by : {by : ℕ} → a ≡ refused_read by → number h ≡ by → (by ≡ 0 → ⊥) → Answers a h.floors h.ceilings h.rises
-    unfolding read_from
-    refused_by {by} ea er some =
-        let b = h.bytes in
-        let apart : (a.refusal ≡ 0 → ⊥) = λ z. some (sym (ap (λ (x : ReadAnswer). x.refusal) ea) ∙ z) in (
-          ea ∙ rw (er, ne_eqb by 0 some),
+  pub refused_by : (r : Refusal) → number h ≡ refusal_number r → Answers (Err r) h.floors h.ceilings h.rises
+  unfolding read_from
+  refused_by r e =
+      let b = h.bytes in
+      let apart = refused r in (
+        rw (e, ne_eqb (refusal_number r) 0 apart),
+        (
+          sym (list_left (refusal_number r) (floor_at b) (day_count b) h.floors apart),
           (
-            sym (list_left a.refusal (floor_at b) (day_count b) h.floors apart),
-            (
-              sym (list_left a.refusal (ceiling_at b) (day_count b) h.ceilings apart),
-              sym (list_left a.refusal (rise_at b) (day_count b - 1) h.rises apart),
-            ),
+            sym (list_left (refusal_number r) (ceiling_at b) (day_count b) h.ceilings apart),
+            sym (list_left (refusal_number r) (rise_at b) (day_count b - 1) h.rises apart),
           ),
-        )
+        ),
+      )
 
-    pub taken-whole : {n : ℕ} {floors ceilings rises : List ℤ} → a ≡ contents h.bytes → Counted h.bytes n → Stored h n floors ceilings rises → Answers a floors ceilings rises
-    unfolding contents
-    taken-whole {n} ea k s =
-        let b = h.bytes in
-        let z : a.refusal ≡ 0 = ap (λ (x : ReadAnswer). x.refusal) ea in
-        let room : Room b (length h.floors) (length h.ceilings) (length h.rises) =
-        record { floors-long = rw (← k.days) s.floors-long; ceilings-long = rw (← k.days) s.ceilings-long; rises-long = rw (← k.days) s.rises-long } in (
-          ea ∙ sym (read_all b (length h.floors) (length h.ceilings) (length h.rises) k.passed room),
+  pub taken-whole : {a : Contents} {n : ℕ} {floors ceilings rises : List ℤ} → read_as (Ok a) ≡ contents h.bytes → Counted h.bytes n → Stored h n floors ceilings rises
+      → Answers (Ok a) floors ceilings rises
+  taken-whole e k s =
+      let b = h.bytes in
+      let room : Room b (length h.floors) (length h.ceilings) (length h.rises) =
+      record { floors-long = rw (← k.days) s.floors-long; ceilings-long = rw (← k.days) s.ceilings-long; rises-long = rw (← k.days) s.rises-long } in (
+        e ∙ sym (read_all b (length h.floors) (length h.ceilings) (length h.rises) k.passed room),
+        (
+          rw (list-filled 0 (floor_at b) (day_count b) h.floors refl, ← k.days) s.floors_stored,
           (
-            rw (list-filled a.refusal (floor_at b) (day_count b) h.floors z, ← k.days) s.floors_stored,
-            (
-              rw (list-filled a.refusal (ceiling_at b) (day_count b) h.ceilings z, ← k.days) s.ceilings_stored,
-              rw (list-filled a.refusal (rise_at b) (day_count b - 1) h.rises z, ← k.days) s.rises_stored,
-            ),
+            rw (list-filled 0 (ceiling_at b) (day_count b) h.ceilings refl, ← k.days) s.ceilings_stored,
+            rw (list-filled 0 (rise_at b) (day_count b - 1) h.rises refl, ← k.days) s.rises_stored,
           ),
-        )
+        ),
+      )

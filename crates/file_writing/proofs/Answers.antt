@@ -1,4 +1,5 @@
 -- What `write` gives and leaves in its output, by the checks that refuse and by the bytes that it stores.
+use Rattle.std.specs.Prelude.{Result, Ok, Err}
 use Prim.Native.Nat.{ℕ, ◌+◌, ◌*◌, ◌≤◌, ◌<◌}
 use mathlib.Core.Path.{◌≡◌, refl, ap, sym, ◌∙◌}
 use mathlib.Core.List.{List}
@@ -8,6 +9,10 @@ use lib.Seq.{sets}
 use borrow.Author.Tests.{lt-ltb, le-ltb, ne_eqb}
 use Rattle.theory_lists.specs.First.{first_nonzero, nonzero-same, nonzero-none}
 use Rattle.theory_lists.specs.Rows.{rows, rows_same, front-sets}
+use Rattle.refusals.specs.declared.Refusal.{Refusal}
+use Rattle.refusals.specs.declared.Refusal.TheVariants.{Count, Length}
+use Rattle.refusals.specs.Number.{refusal_number}
+use Rattle.refusals.proofs.Laws.{refused}
 use Rattle.session.specs.Profile.{Profile}
 use Rattle.session.specs.Opening as Opening
 use Rattle.session.proofs.Entered.{entered}
@@ -19,12 +24,11 @@ use Rattle.session_cutting.proofs.Laws.{formed-day}
 use Rattle.file_format.specs.Format.{cut_length, day_offset, file_length, header, cut_bytes, day_row, file}
 use Rattle.file_format.proofs.Parts.{length-file, parts_stored}
 use Rattle.file_format.specs.Writing.{early_writing, writing_refusal}
-use Rattle.file_writing.specs.declared.WriteAnswer.{WriteAnswer}
-use Rattle.file_writing.specs.Writing.{write_answer, output}
+use Rattle.file_writing.specs.Writing.{write_as, write_answer, output}
 
 -- what is answered, and the output afterwards, where it was l
-abbrev pub Answers : Profile → Sheet → List ℕ → WriteAnswer → List ℕ → Type 0
-Answers p s l r out = (r ≡ write_answer p (cuts_of s) (length l)) × (out ≡ output p (cuts_of s) l)
+abbrev pub Answers : Profile → Sheet → List ℕ → Result ℕ Refusal → List ℕ → Type 0
+Answers p s l r out = (write_as r ≡ write_answer p (cuts_of s) (length l)) × (out ≡ output p (cuts_of s) l)
 
 -- the first refusal of the entries, or 0
 abbrev pub entries_refusal : Profile → Sheet → ℕ
@@ -58,30 +62,28 @@ by_cuts p s o =
     (λ j h. ap (malformed p.days) (cut_on-cuts_of s j h)))
 
 module _ (p : Profile) (s : Sheet) (l : List ℕ) where
-  refused : (number : ℕ) {r : WriteAnswer} → writing_refusal p (cuts_of s) (length l) ≡ number → (number ≡ 0 → ⊥) → r ≡ record { refusal = number; length = 0 } → Answers p s l r l
+  refused_by : (r : Refusal) → writing_refusal p (cuts_of s) (length l) ≡ refusal_number r → Answers p s l (Err r) l
   unfolding write_answer output
-  refused number e x a = (rw (e, ne_eqb number 0 x) a, rw (e, ne_eqb number 0 x) refl)
+  refused_by r e = let test = ne_eqb (refusal_number r) 0 (refused r) in (rw (e, test), rw (e, test))
 
-  early : {number : ℕ} {r : WriteAnswer} → number ≡ early_writing p (cuts_of s) → (number ≡ 0 → ⊥) → r ≡ record { refusal = number; length = 0 } → Answers p s l r l
+  early : (r : Refusal) → refusal_number r ≡ early_writing p (cuts_of s) → Answers p s l (Err r) l
   unfolding writing_refusal
-  early {number} e x a = refused number (rw (← e, ne_eqb number 0 x) refl) x a
+  early r e = refused_by r (rw (← e, ne_eqb (refusal_number r) 0 (refused r)))
 
-  pub too_many : {r : WriteAnswer} → 512 < s.count → r ≡ record { refusal = 1; length = 0 } → Answers p s l r l
+  pub too_many : 512 < s.count → Answers p s l (Err Count) l
   unfolding early_writing
-  too_many h a = early (rw (length-cuts_of s, lt-ltb 512 s.count h) refl) (λ z. omega arith) a
+  too_many h = early Count (rw (length-cuts_of s, lt-ltb 512 s.count h))
 
-  module _ {number : ℕ} {r : WriteAnswer} (x : number ≡ 0 → ⊥) (a : r ≡ record { refusal = number; length = 0 }) where
-    pub bad_profile : s.count ≤ 512 → number ≡ Opening.early_opening p → Answers p s l r l
-    unfolding early_writing
-    bad_profile few e = early (rw (length-cuts_of s, le-ltb 512 s.count few, ← e, ne_eqb number 0 x) refl) x a
+  pub bad_profile : (r : Refusal) → s.count ≤ 512 → refusal_number r ≡ Opening.early_opening p → Answers p s l (Err r) l
+  unfolding early_writing
+  bad_profile r few e = early r (rw (length-cuts_of s, le-ltb 512 s.count few, ← e, ne_eqb (refusal_number r) 0 (refused r)))
 
-    pub bad_cut_lem : Opens p s → number ≡ entries_refusal p s → Answers p s l r l
-    bad_cut_lem o e = early (e ∙ sym (by_cuts p s o)) x a
+  pub bad_cut_lem : (r : Refusal) → Opens p s → refusal_number r ≡ entries_refusal p s → Answers p s l (Err r) l
+  bad_cut_lem r o e = early r (e ∙ sym (by_cuts p s o))
 
-  pub too_short : {r : WriteAnswer} → Checked p s → length l < file_length p.days s.count → r ≡ record { refusal = 2; length = 0 } → Answers p s l r l
+  pub too_short : Checked p s → length l < file_length p.days s.count → Answers p s l (Err Length) l
   unfolding writing_refusal
-  too_short c h a =
-      refused 2 (rw (by_cuts p s c.opens, c.formed, length-cuts_of s, lt-ltb (length l) (file_length p.days s.count) h) refl) (λ z. omega arith) a
+  too_short c h = refused_by Length (rw (by_cuts p s c.opens, c.formed, length-cuts_of s, lt-ltb (length l) (file_length p.days s.count) h))
 
 -- ---- written
 
@@ -103,7 +105,7 @@ module _ (p : Profile) (s : Sheet) (c : Checked p s) where
         let cuts = rows_same (λ j. cut_bytes (cut_on (cuts_of s) j)) (λ j. cut_bytes (get_or s.entries j blank).cut) s.count (λ j u. ap cut_bytes (cut_on-cuts_of s j u)) in
         parts_stored p (cuts_of s) l (rw (length-cuts_of s) w.header_stored) w.days_stored (rw (length-cuts_of s, cuts, ← w.place) w.cuts_stored)
 
-    pub written : Answers p s l (record { refusal = 0; length = from + s.count * cut_length }) out
+    pub written : Answers p s l (Ok (from + s.count * cut_length)) out
     unfolding write_answer output
     written =
         (rw (accepted, length-cuts_of s, w.place) refl, rw accepted (whole ∙ front-sets (file p (cuts_of s)) l (omega (arith, w.place, w.room, length-file p (cuts_of s), length-cuts_of s))))

@@ -15,8 +15,7 @@ use Rattle.session_cuts.specs.declared.Cut.{Cut}
 use Rattle.file_format.specs.Format.{file_length, file}
 use Rattle.file_format.proofs.Parts.{length-file}
 use Rattle.file_format.specs.Writing.{early_writing, writing_refusal}
-use Rattle.file_writing.specs.declared.WriteAnswer.{WriteAnswer}
-use Rattle.file_writing.specs.Writing.{write_answer, output}
+use Rattle.file_writing.specs.Writing.{WriteAnswer, write_answer, output}
 
 -- the number that stands in an answer
 pub answered : (number long : ℕ) → (cond {A = WriteAnswer} (eqb number 0) (record { refusal = 0; length = long }) (record { refusal = number; length = 0 })).refusal ≡ number

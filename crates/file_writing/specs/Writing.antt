@@ -1,11 +1,21 @@
 -- Document 01: what the file's writer gives, and its output.
-use Rattle.std.specs.Prelude.{cond, List, ℕ, eqb, length}
+use Rattle.std.specs.Prelude.{cond, List, ℕ, eqb, length, Result, Ok, Err}
 use Rattle.theory_lists.specs.Front.{in_front}
+use Rattle.refusals.specs.declared.Refusal.{Refusal}
+use Rattle.refusals.specs.Number.{refusal_number}
 use Rattle.session.specs.Profile.{Profile}
 use Rattle.session_cuts.specs.declared.Cut.{Cut}
 use Rattle.file_format.specs.Format.{file_length, file}
 use Rattle.file_format.specs.Writing.{writing_refusal}
-use Rattle.file_writing.specs.declared.WriteAnswer.{WriteAnswer}
+
+-- what writing gives: the refusal's number, 0 for none, and how many bytes were written
+pub record WriteAnswer : Type 0 where
+  pub refusal : ℕ
+  pub length : ℕ
+
+abbrev pub write_as : Result ℕ Refusal → WriteAnswer
+write_as (Ok written) = record { refusal = 0; length = written }
+write_as (Err refusal) = record { refusal = refusal_number refusal; length = 0 }
 
 -- the file's length, or 0 beside a refusal's number, with an output of that length
 unfoldable pub write_answer : Profile → List Cut → ℕ → WriteAnswer

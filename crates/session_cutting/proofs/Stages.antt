@@ -1,7 +1,8 @@
 -- A cut by what its tests found.
-use Rattle.std.specs.Prelude.{None, Option, Some, ok_or}
+use Rattle.std.specs.Prelude.{None, Option, Some, Result, Ok, Err, ok_or}
 use Rattle.refusals.specs.declared.Refusal.{Refusal}
-use Rattle.refusals.specs.Number.{refusal_number}
+use Rattle.refusals.specs.Number.{refusal_number, refusal_of}
+use Rattle.std.specs.Result.{result_unwrap_or}
 use mathlib.Core.Path.{◌≡◌, refl, ap, sym, ◌∙◌}
 use mathlib.Core.Bool.{Bool, true, false, cond}
 use mathlib.Core.List.{List}
@@ -25,7 +26,7 @@ use Rattle.session.specs.declared.Session.{Session}
 use Rattle.session_cuts.specs.declared.Cut.{Cut}
 use Rattle.session_cuts.specs.declared.Cut.TheVariants.{DayFloor, DayCeiling, TotalFloor, TotalCeiling}
 use Rattle.theory_lists.specs.Front.{in_front}
-use Rattle.session_cutting.specs.Cutting.{AfterCut, day_cut_refusal, total_cut_refusal, malformed, early_cutting, clipped, retightened, changed_days, spend, with_present, refusing, tightened_to, after_cut, after_numbered, list_after}
+use Rattle.session_cutting.specs.Cutting.{AfterCut, answer_as, day_cut_refusal, total_cut_refusal, malformed, early_cutting, clipped, retightened, changed_days, spend, with_present, refusing, tightened_to, after_cut, after_numbered, list_after}
 use Rattle.session_cutting.specs.Stages.{Checked, checked_as, checked_value, checked_cut, DayClips, Clips}
 use Rattle.session_cutting.proofs.Laws.{day-formed, total-formed, earlier_none, refused-same, accepted, refused-list, accepted-list, clipped_in_bounds}
 
@@ -77,6 +78,17 @@ module _ (n : ℕ) (c : Cut) {r : Checked} (e : r ≡ checked_cut n c) where
 
   pub checked-clips : n ≤ 512 → r.refusal ≡ 0 → Clips c r.value
   checked-clips few z = rw e (clips_of n c few (sym checked-refusal ∙ z))
+
+-- ---- an answer
+
+-- its two numbers, as a caller in C is told them
+pub number-told : (a : Result ℕ Refusal) → refusal_of a ≡ (answer_as a).refusal
+number-told (Ok changed) = refl
+number-told (Err refusal) = refl
+
+pub changed-told : (a : Result ℕ Refusal) → result_unwrap_or a 0 ≡ (answer_as a).changed
+changed-told (Ok changed) = refl
+changed-told (Err refusal) = refl
 
 -- ---- cut_ranges
 

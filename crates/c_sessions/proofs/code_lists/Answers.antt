@@ -27,7 +27,7 @@ returns c =
     (lengths_right ((let a = c.args in byte_profile a.numbers a.floors.now a.ceilings.now a.rises.now)) c.requires) c.code_numbers.ensures
     c.code_ranges-ranges.ensures.outside_value c.code_points-bad_rise.ensures.value in
     record {
-      profile_value = told;
+      numbers_value = told;
       crossed_value = c.code_ranges-ranges.ensures.crossed_value;
       low_after =
           c.code_ranges-ranges.ensures.low_after;

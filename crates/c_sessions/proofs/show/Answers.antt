@@ -1,5 +1,5 @@
 -- `show` meets its contract: a law for each return, by what was read from the bytes.
-use mathlib.Core.Path.{◌≡◌, ap, ◌∙◌}
+use mathlib.Core.Path.{◌≡◌, refl, ap, ◌∙◌}
 use native.Mathlib.Omega.{arith}
 use borrow.Author.Rules.{rules}
 use Rattle.limits.specs.Limits.{lowest_total}
@@ -12,16 +12,16 @@ use Rattle.c_sessions.proofs.show.Goals as goal
 use Rattle.c_sessions.proofs.show.Goals.{After-total_of-total}
 
 pub returns-then-session-ne-SESSION_BYTES : goal.returns-then-session-ne-SESSION_BYTES
-returns-then-session-ne-SESSION_BYTES c = let whole = show_unread _ _ _ c.if-session-ne-SESSION_BYTES.true c.too_short.ensures in record { value = whole.0; floors_after = whole.1.0; ceilings_after = whole.1.1 }
+returns-then-session-ne-SESSION_BYTES c = let whole = show_unread _ _ _ c.if-session-ne-SESSION_BYTES.true refl in record { value = whole.0; floors_after = whole.1.0; ceilings_after = whole.1.1 }
 
 pub returns-then-floors-days : goal.returns-then-floors-days
 returns-then-floors-days c = let whole = show_first _ _ _ c.if-session-ne-SESSION_BYTES.false
-    (omega (arith, c.if-floors-days.true, c.days_of-days.ensures)) c.too_short-then-floors-days.ensures in
+    (omega (arith, c.if-floors-days.true, c.days_of-days.ensures)) refl in
     record { value = whole.0; floors_after = whole.1.0; ceilings_after = whole.1.1 }
 
 pub returns-then-ceilings-days : goal.returns-then-ceilings-days
 returns-then-ceilings-days c = let whole = show_second _ _ _ c.if-session-ne-SESSION_BYTES.false
-    (omega (arith, c.if-ceilings-days.true, c.days_of-days.ensures)) c.too_short-then-ceilings-days.ensures in
+    (omega (arith, c.if-ceilings-days.true, c.days_of-days.ensures)) refl in
     record { value = whole.0; floors_after = whole.1.0; ceilings_after = whole.1.1 }
 
 pub show_present-requires : goal.show_present-requires

@@ -5,7 +5,7 @@ use mir.Facts.{to_z-of_z}
 use mir.Syntax.{w32}
 use mir.Val.{SFits}
 use borrow.Author.Rules.{rules, sfits_of}
-use Rattle.c_files.specs.declared.Contents.{Contents}
+use Rattle.c_files.specs.Reading.{Contents}
 use Rattle.cloverdrum.proofs.cloverdrum_read_file.Goals as goal
 use Rattle.cloverdrum.proofs.cloverdrum_read_file.Goals.{After-struct_told-2-1}
 

@@ -15,5 +15,5 @@ numbered_as ek ed ev p = p ∙ (λ i. numbered (ek i) (ed i) (ev i))
 
 pub returns : goal.returns
 returns c =
-    numbered_as (c.wide-kind.ensures.0 ∙ c.u16_at.ensures) (c.wide-day.ensures.0 ∙ c.u16_at-2.ensures)
+    numbered_as (c.from-kind.ensures ∙ c.u16_at.ensures) (c.from-day.ensures ∙ c.u16_at-2.ensures)
     (to_z-of_z {w = w32} (sfits_of c.i32_at-value.type_inv) ∙ c.i32_at-value.ensures) c.numbered.ensures

@@ -10,12 +10,12 @@ use Rattle.file_reading.proofs.read_contents.Goals as goal
 pub returns : goal.returns
 returns c =
     let days = c.requires.0 in
-    let first = c.wide-first.ensures.0 ∙ c.u16_at.ensures in
+    let first = c.from-first.ensures ∙ c.u16_at.ensures in
     let lowest = to_z-of_z {w = w32} (sfits_of c.i32_at-lowest.type_inv) ∙ c.i32_at-lowest.ensures in
     let highest = to_z-of_z {w = w32} (sfits_of c.i32_at-highest.type_inv) ∙ c.i32_at-highest.ensures in
     contents_as
     (record {
       found = λ i. numbers_with (days i) (first i) (lowest i) (highest i);
-      cuts = c.wide-count.ensures.0 ∙ c.u16_at-2.ensures;
+      cuts = c.from-count.ensures ∙ c.u16_at-2.ensures;
       sheet = rw c.day_offset.ensures at c.read_sheet-sheet.ensures;
     })

@@ -1,5 +1,5 @@
 -- `read_sheet` meets its contract: j entries are stored.
-use Prim.Native.Nat.{◌+◌, ◌-◌, ◌*◌}
+use Prim.Native.Nat.{◌+◌, ◌*◌}
 use Rattle.theory_lists.specs.Filled.{Filled}
 use Rattle.file_format.specs.Format.{numbered_at, known}
 use Rattle.file_reading.proofs.read_sheet.Given as goal
