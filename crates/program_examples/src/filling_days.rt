@@ -9,8 +9,8 @@ use std::io;
 // A line ends with the ranges, or with the refusal.
 fn print_opened(rt: &impl Print, text: &str, profile: Profile<'_>) -> io::Result<()> {
     let opened = profile.open();
-    if opened.refusal != 0 {
-        return println!(rt; "{text}: {}", opened.refusal);
+    if let Some(refusal) = opened.refusal {
+        return println!(rt; "{text}: {}", u8::from(refusal));
     }
     println!(rt; "{text}: {}", Ranges::of(opened.session))
 }

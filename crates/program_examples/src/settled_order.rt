@@ -21,7 +21,7 @@ fn print_cut(rt: &impl Print, text: &str, session: Session, cut: Cut) -> io::Res
     let after = session_cutting::cut(session, cut, &mut list);
     println!(rt;
         "{text}: {} changed,{}",
-        after.answer.changed,
+        after.answer.unwrap_or(0),
         Places(&list)
     )?;
     Ok(after.session)
@@ -128,7 +128,7 @@ fn print_many(rt: &impl Print, text: &str, equal: bool) -> io::Result<()> {
         .count();
     println!(rt;
         "{text}: {} changed, before the next: {in_order}",
-        after.answer.changed
+        after.answer.unwrap_or(0)
     )
 }
 
