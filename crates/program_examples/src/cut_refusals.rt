@@ -18,6 +18,7 @@ const UNKNOWN: usize = 4;
 
 const DAYS: usize = A.days;
 
+#[tactic(auto, using(session_cutting::proofs::Laws::numbered_in_bounds))]
 fn cut(session: Session, kind: usize, day: usize, value: i32, room: usize) -> AfterCut
     requires { SessionInBounds session × (room ≤ 3) }
     ensures { SessionInBounds result.session }

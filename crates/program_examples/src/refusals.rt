@@ -1,7 +1,7 @@
 // One line for each bound of an entry and each refusal of opening.
 ghost use Rattle.std.specs.Prelude.{◌≤◌};
 
-use crate::filling_days::FALLING;
+use crate::filling_days::NO_SCHEDULE;
 use crate::lines;
 use program_output::Profile;
 use std::io;
@@ -110,7 +110,7 @@ fn ranges(rt: &impl Print) -> io::Result<()> {
         ("day 1..0", day(1, 0, 0, 1)),
         ("total 1..0", day(0, 1, 1, 0)),
         ("day 3..8, total 9..9", day(3, 8, 9, 9)),
-        ("days 5..9 and 0..4, rise 0", number(FALLING)),
+        ("days 5..9 and 0..4, rise 0", number(NO_SCHEDULE)),
     ];
     lines(rt, &refusals)
 }

@@ -13,6 +13,7 @@ use std::io;
 // ---- a few days
 
 // Prints what a cut lists, and gives the session after it.
+#[tactic(auto, using(session_cutting::proofs::Laws::cut_in_bounds))]
 fn print_cut(rt: &impl Print, text: &str, session: Session, cut: Cut) -> io::Result<Session>
     requires { SessionInBounds session }
     ensures { IfOk result (λ s. SessionInBounds s) }

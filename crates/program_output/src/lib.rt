@@ -26,6 +26,7 @@ pub struct Profile<'a> {
 }
 
 impl Profile<'_> {
+    #[tactic(auto, using(session::proofs::SessionBounds::opened_in_bounds))]
     pub fn open(self) -> Opened
         ensures value { opened_as result ≡ opened (profile (numbers_with self.entry.days self.entry.first self.entry.lowest self.entry.highest) self.entry.floors.now self.entry.ceilings.now self.entry.rises.now) }
         ensures in_bounds { SessionInBounds result.session }
