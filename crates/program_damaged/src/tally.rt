@@ -69,7 +69,7 @@ impl Tally {
         let answer = file_reading::read(file, &mut floors, &mut ceilings, &mut rises);
         let mut text = [0u8; MOST_TEXT_BYTES];
         let length = file_printing::print_ranges(file, &mut text);
-        let read = Verdict::of(answer.refusal);
+        let read = Verdict::of(&answer);
         let printed = endings::ending(&text[..length]);
         let written = writing::written(file, answer, &floors, &ceilings, &rises);
         let found = differences(read, judge::judged(file), printed, written);

@@ -1,4 +1,6 @@
 // What is made of a file.
+use refusals::Refusal;
+
 #[derive(Clone, Copy, PartialEq)]
 pub(crate) enum Verdict {
     // Read, its ranges printed, or written back byte for byte.
@@ -9,11 +11,10 @@ pub(crate) enum Verdict {
 }
 
 impl Verdict {
-    // Of a refusal's number, 0 for none.
-    pub(crate) fn of(refusal: u8) -> Verdict {
-        match refusal {
-            0 => Verdict::Taken,
-            number => Verdict::Refused(number),
+    pub(crate) fn of<T: Copy>(answer: &Result<T, Refusal>) -> Verdict {
+        match answer {
+            Ok(_) => Verdict::Taken,
+            Err(refusal) => Verdict::Refused(u8::from(*refusal)),
         }
     }
 }

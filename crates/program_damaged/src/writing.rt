@@ -1,19 +1,21 @@
 // What the writer makes of what was read of a file.
 use crate::verdict::Verdict;
 use file_format::MOST_FILE_BYTES;
-use file_reading::ReadAnswer;
+use file_reading::Contents;
+use refusals::Refusal;
 
 // Other where it writes something else than the file, or nothing was read.
 pub(crate) fn written(
     file: &[u8],
-    read: ReadAnswer,
+    read: Result<Contents, Refusal>,
     floors: &[i16],
     ceilings: &[i16],
     rises: &[i16],
 ) -> Verdict {
-    let numbers = read.numbers;
+    let Ok(Contents { numbers, sheet }) = read else {
+        return Verdict::Other;
+    };
     let days = numbers.days;
-    let sheet = read.sheet;
     if days == 0 {
         return Verdict::Other;
     }
@@ -26,8 +28,8 @@ pub(crate) fn written(
     };
     let mut out = [0u8; MOST_FILE_BYTES];
     let answer = file_writing::write(numbers, floors, ceilings, rises, sheet, &mut out);
-    if answer.refusal == 0 && out.get(..answer.length) != Some(file) {
-        return Verdict::Other;
+    match answer {
+        Ok(length) if out.get(..length) != Some(file) => Verdict::Other,
+        _ => Verdict::of(&answer),
     }
-    Verdict::of(answer.refusal)
 }

@@ -4,6 +4,7 @@ ghost use Rattle.session.specs.Showing.{SessionInBounds};
 
 use crate::lines;
 use program_output::A;
+use refusals::number_of;
 use session::Session;
 use session_cuts::Cut;
 use session_cutting::AfterCut;
@@ -17,6 +18,7 @@ const UNKNOWN: usize = 4;
 
 const DAYS: usize = A.days;
 
+#[tactic(auto, using(session_cutting::proofs::Laws::numbered_in_bounds))]
 fn cut(session: Session, kind: usize, day: usize, value: i32, room: usize) -> AfterCut
     requires { SessionInBounds session × (room ≤ 3) }
     ensures { SessionInBounds result.session }
@@ -35,21 +37,19 @@ pub(crate) fn spent() -> Session
 fn of_a(kind: usize, day: usize, value: i32, room: usize) -> u8
     requires { room ≤ 3 }
 {
-    cut(A.open().session, kind, day, value, room).answer.refusal
+    number_of(&cut(A.open().session, kind, day, value, room).answer)
 }
 
 fn of_spent(kind: usize, day: usize, value: i32, room: usize) -> u8
     requires { room ≤ 3 }
 {
-    cut(spent(), kind, day, value, room).answer.refusal
+    number_of(&cut(spent(), kind, day, value, room).answer)
 }
 
 // A total cut of A that is given without a day.
 fn without_day(cut: Cut) -> u8 {
     let mut changed = [0u16; DAYS];
-    session_cutting::cut(A.open().session, cut, &mut changed)
-        .answer
-        .refusal
+    number_of(&session_cutting::cut(A.open().session, cut, &mut changed).answer)
 }
 
 fn days(rt: &impl Print) -> io::Result<()> {

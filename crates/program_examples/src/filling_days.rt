@@ -9,8 +9,8 @@ use std::io;
 // A line ends with the ranges, or with the refusal.
 fn print_opened(rt: &impl Print, text: &str, profile: Profile<'_>) -> io::Result<()> {
     let opened = profile.open();
-    if opened.refusal != 0 {
-        return println!(rt; "{text}: {}", opened.refusal);
+    if let Some(refusal) = opened.refusal {
+        return println!(rt; "{text}: {}", u8::from(refusal));
     }
     println!(rt; "{text}: {}", Ranges::of(opened.session))
 }
@@ -78,8 +78,8 @@ const COLD: Profile<'static> = Profile {
     highest: 60,
 };
 
-// No schedule keeps the rise.
-pub(crate) const FALLING: Profile<'static> = Profile {
+// Its rise can't be kept.
+pub(crate) const NO_SCHEDULE: Profile<'static> = Profile {
     days: 2,
     first: 0,
     floors: &[5, 0],
@@ -110,7 +110,7 @@ fn of_two_days(rt: &impl Print) -> io::Result<()> {
         "days 5..9, 0..4, total 0..20, first counted day 2",
         Profile {
             first: 2,
-            ..FALLING
+            ..NO_SCHEDULE
         },
     )?;
     print_opened(
@@ -118,7 +118,7 @@ fn of_two_days(rt: &impl Print) -> io::Result<()> {
         "first counted day 1",
         Profile {
             first: 1,
-            ..FALLING
+            ..NO_SCHEDULE
         },
     )
 }

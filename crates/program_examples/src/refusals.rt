@@ -1,10 +1,14 @@
 // One line for each bound of an entry and each refusal of opening.
 ghost use Rattle.std.specs.Prelude.{◌≤◌};
 
-use crate::filling_days::FALLING;
+use crate::filling_days::NO_SCHEDULE;
 use crate::lines;
 use program_output::Profile;
 use std::io;
+
+fn number(profile: Profile) -> u8 {
+    profile.open().refusal.map_or(0, u8::from)
+}
 
 // ---- lengths
 
@@ -22,7 +26,7 @@ fn lengths(days: usize, floors: usize, ceilings: usize, rises: usize) -> u8
         lowest: 0,
         highest: 0,
     };
-    profile.open().refusal
+    number(profile)
 }
 
 fn day_counts(rt: &impl Print) -> io::Result<()> {
@@ -59,7 +63,7 @@ fn day(floor: i16, ceiling: i16, lowest: i32, highest: i32) -> u8 {
         lowest,
         highest,
     };
-    profile.open().refusal
+    number(profile)
 }
 
 fn points(rt: &impl Print) -> io::Result<()> {
@@ -81,7 +85,7 @@ fn rise(rise: i16) -> u8 {
         lowest: -512000,
         highest: 2048000,
     };
-    profile.open().refusal
+    number(profile)
 }
 
 fn rises(rt: &impl Print) -> io::Result<()> {
@@ -106,7 +110,7 @@ fn ranges(rt: &impl Print) -> io::Result<()> {
         ("day 1..0", day(1, 0, 0, 1)),
         ("total 1..0", day(0, 1, 1, 0)),
         ("day 3..8, total 9..9", day(3, 8, 9, 9)),
-        ("days 5..9 and 0..4, rise 0", FALLING.open().refusal),
+        ("days 5..9 and 0..4, rise 0", number(NO_SCHEDULE)),
     ];
     lines(rt, &refusals)
 }
@@ -132,7 +136,7 @@ fn causes_from(place: u8) -> u8 {
         lowest: if place <= 5 { -512001 } else { -512000 },
         highest: 2048000,
     };
-    profile.open().refusal
+    number(profile)
 }
 
 // Opening has no cause 7, and 13 in its place. No cause comes after 8.

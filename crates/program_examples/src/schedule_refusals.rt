@@ -6,7 +6,8 @@ ghost use Rattle.session.specs.Showing.{SessionInBounds};
 use crate::cut_refusals::spent;
 use crate::lines;
 use program_output::A;
-use schedule_inspection::Inspection;
+use refusals::{Refusal, number_of};
+use schedule_inspection::Finding;
 use session::Session;
 use std::{fmt, io};
 
@@ -18,7 +19,12 @@ pub(crate) fn on_day(session: Session, day: usize, value: i32, room: usize) -> u
     requires { SessionInBounds session × (room ≤ 4) }
 {
     let mut list = [0i16; 4];
-    schedule_writing::write_day(session, day, value, &mut list[..room])
+    number_of(&schedule_writing::write_day(
+        session,
+        day,
+        value,
+        &mut list[..room],
+    ))
 }
 
 fn day_of_a(day: usize, value: i32, room: usize) -> u8
@@ -81,7 +87,7 @@ pub(crate) fn with_total(session: Session, value: i32, room: usize) -> u8
     requires { SessionInBounds session × (room ≤ 4) }
 {
     let mut list = [0i16; 4];
-    schedule_writing::write_total(session, value, &mut list[..room])
+    number_of(&schedule_writing::write_total(session, value, &mut list[..room]))
 }
 
 fn total_of_a(value: i32, room: usize) -> u8
@@ -122,30 +128,29 @@ fn total_order(rt: &impl Print) -> io::Result<()> {
 
 // ---- inspected
 
-// What inspection finds of a schedule.
+// What inspecting a schedule answers.
 #[derive(Clone, Copy)]
-pub(crate) struct Finding(Inspection);
+pub(crate) struct Inspection(Result<Finding, Refusal>);
 
-impl fmt::Display for Finding {
+impl fmt::Display for Inspection {
     fn fmt<W: fmt::Write>(&self, f: &mut fmt::Formatter<W>) -> fmt::Result {
         match self.0 {
-            Inspection::WrongLength => write!(f, "2"),
-            Inspection::Spent => write!(f, "9"),
-            Inspection::Kept => write!(f, "kept"),
-            Inspection::BrokenDay(day) => write!(f, "day {day}"),
-            Inspection::BrokenRise(rise) => write!(f, "rise {rise}"),
-            Inspection::BrokenTotal => write!(f, "total"),
+            Err(refusal) => write!(f, "{}", u8::from(refusal)),
+            Ok(Finding::Kept) => write!(f, "kept"),
+            Ok(Finding::BrokenDay(day)) => write!(f, "day {day}"),
+            Ok(Finding::BrokenRise(rise)) => write!(f, "rise {rise}"),
+            Ok(Finding::BrokenTotal) => write!(f, "total"),
         }
     }
 }
 
-pub(crate) fn inspected(session: Session, list: &[i16]) -> Finding
+pub(crate) fn inspected(session: Session, list: &[i16]) -> Inspection
     requires { SessionInBounds session }
 {
-    Finding(schedule_inspection::inspect(session, list))
+    Inspection(schedule_inspection::inspect(session, list))
 }
 
-fn of_a(list: &[i16]) -> Finding {
+fn of_a(list: &[i16]) -> Inspection {
     inspected(A.open().session, list)
 }
 

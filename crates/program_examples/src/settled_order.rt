@@ -13,6 +13,7 @@ use std::io;
 // ---- a few days
 
 // Prints what a cut lists, and gives the session after it.
+#[tactic(auto, using(session_cutting::proofs::Laws::cut_in_bounds))]
 fn print_cut(rt: &impl Print, text: &str, session: Session, cut: Cut) -> io::Result<Session>
     requires { SessionInBounds session }
     ensures { IfOk result (λ s. SessionInBounds s) }
@@ -21,7 +22,7 @@ fn print_cut(rt: &impl Print, text: &str, session: Session, cut: Cut) -> io::Res
     let after = session_cutting::cut(session, cut, &mut list);
     println!(rt;
         "{text}: {} changed,{}",
-        after.answer.changed,
+        after.answer.unwrap_or(0),
         Places(&list)
     )?;
     Ok(after.session)
@@ -128,7 +129,7 @@ fn print_many(rt: &impl Print, text: &str, equal: bool) -> io::Result<()> {
         .count();
     println!(rt;
         "{text}: {} changed, before the next: {in_order}",
-        after.answer.changed
+        after.answer.unwrap_or(0)
     )
 }
 

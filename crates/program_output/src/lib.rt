@@ -4,7 +4,7 @@
 ghost use Rattle.std.specs.Prelude.{◌≡◌, pos, replicate};
 ghost use Rattle.limits.specs.Limits.{most_days};
 ghost use Rattle.theory_lists.specs.Written.{written};
-ghost use Rattle.session.specs.Opening.{numbers_with, opened, profile};
+ghost use Rattle.session.specs.Opening.{numbers_with, opened, opened_as, profile};
 ghost use Rattle.session.specs.Showing.{SessionInBounds, floor_on, ceiling_on, total_floor, total_ceiling};
 
 use limits::MOST_DAYS;
@@ -26,8 +26,9 @@ pub struct Profile<'a> {
 }
 
 impl Profile<'_> {
+    #[tactic(auto, using(session::proofs::SessionBounds::opened_in_bounds))]
     pub fn open(self) -> Opened
-        ensures value { result ≡ opened (profile (numbers_with self.entry.days self.entry.first self.entry.lowest self.entry.highest) self.entry.floors.now self.entry.ceilings.now self.entry.rises.now) }
+        ensures value { opened_as result ≡ opened (profile (numbers_with self.entry.days self.entry.first self.entry.lowest self.entry.highest) self.entry.floors.now self.entry.ceilings.now self.entry.rises.now) }
         ensures in_bounds { SessionInBounds result.session }
     {
         let numbers = Numbers {
@@ -85,7 +86,7 @@ impl Ranges {
     {
         let mut floors = [0; MOST_DAYS];
         let mut ceilings = [0; MOST_DAYS];
-        let shown = session.show(&mut floors, &mut ceilings);
+        let shown = session.show(&mut floors, &mut ceilings).unwrap();
         Ranges {
             days: session.days,
             floors,

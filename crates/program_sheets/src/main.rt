@@ -21,9 +21,9 @@ const PLACES: usize = 4;
 
 // A cut as it was asked for.
 #[derive(Clone, Copy)]
-struct Wish(Option<Cut>);
+struct AskedCut(Option<Cut>);
 
-impl fmt::Display for Wish {
+impl fmt::Display for AskedCut {
     fn fmt<W: fmt::Write>(&self, f: &mut fmt::Formatter<W>) -> fmt::Result {
         let Some(cut) = self.0 else {
             return write!(f, "unknown kind");
@@ -50,7 +50,7 @@ fn print_after(rt: &impl Print, text: &str, after: AfterSheet, list: &[u16]) -> 
         let answer = answered.answer;
         println!(rt;
             "{}: {}, {} changed",
-            Wish(answered.cut),
+            AskedCut(answered.cut),
             number_of(&answer),
             answer.unwrap_or(0)
         )?;

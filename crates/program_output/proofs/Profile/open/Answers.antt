@@ -1,6 +1,0 @@
--- `Profile::open` meets its contract: every opening's session has its numbers in bounds.
-use Rattle.session.proofs.SessionBounds.{opened_in_bounds}
-use Rattle.program_output.proofs.Profile.open.Goals as goal
-
-pub returns-clause-in_bounds : goal.returns-clause-in_bounds
-returns-clause-in_bounds c = rw c.«open».ensures (opened_in_bounds _)
