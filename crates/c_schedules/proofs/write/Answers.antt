@@ -52,7 +52,8 @@ load_levels-requires c = (search rules, code_fits _ (taken (goal.at.load_levels-
 
 pub put_levels-requires : goal.put_levels-requires
 put_levels-requires c =
-    (few (goal.at.put_levels-requires c).After-days_of-n, omega (arith, c.if-list-n.false), λ k h. (loaded (goal.at.put_levels-requires c).After-load_levels).small k (omega (arith, c.days_of-n.ensures)))
+    (omega (arith, few (goal.at.put_levels-requires c).After-days_of-n), omega (arith, c.if-list-n.false),
+    λ k h. (loaded (goal.at.put_levels-requires c).After-load_levels).small k (omega (arith, c.days_of-n.ensures)))
 
 pub returns : goal.returns
 returns c =
