@@ -58,12 +58,12 @@ total-clips : (day : ℕ) (value : ℤ) → total_cut_refusal day value ≡ 0 �
 unfolding checked_value
 total-clips day value e = let f = total-formed day value e in rw (eq-eqb day 0 f.0, f.1) refl
 
-refusal_of : (n : ℕ) (c : Cut) → (checked_cut n c).refusal ≡ malformed n c
+cut_refusal : (n : ℕ) (c : Cut) → (checked_cut n c).refusal ≡ malformed n c
 unfolding checked_cut
-refusal_of n (DayFloor day value) = value_refusal (ltb day n) (within lowest_point highest_point value) 7 3 (code lowest_point value)
-refusal_of n (DayCeiling day value) = value_refusal (ltb day n) (within lowest_point highest_point value) 7 3 (code lowest_point value)
-refusal_of n (TotalFloor day value) = value_refusal (eqb day 0) (within lowest_total highest_total value) 12 5 (code lowest_total value)
-refusal_of n (TotalCeiling day value) = value_refusal (eqb day 0) (within lowest_total highest_total value) 12 5 (code lowest_total value)
+cut_refusal n (DayFloor day value) = value_refusal (ltb day n) (within lowest_point highest_point value) 7 3 (code lowest_point value)
+cut_refusal n (DayCeiling day value) = value_refusal (ltb day n) (within lowest_point highest_point value) 7 3 (code lowest_point value)
+cut_refusal n (TotalFloor day value) = value_refusal (eqb day 0) (within lowest_total highest_total value) 12 5 (code lowest_total value)
+cut_refusal n (TotalCeiling day value) = value_refusal (eqb day 0) (within lowest_total highest_total value) 12 5 (code lowest_total value)
 
 clips_of : (n : ℕ) (c : Cut) → n ≤ 512 → malformed n c ≡ 0 → Clips c (checked_cut n c).value
 unfolding checked_cut
@@ -74,7 +74,7 @@ clips_of n (TotalCeiling day value) few e = total-clips day value e
 
 module _ (n : ℕ) (c : Cut) {r : Checked} (e : r ≡ checked_cut n c) where
   pub checked-refusal : r.refusal ≡ malformed n c
-  checked-refusal = rw e (refusal_of n c)
+  checked-refusal = rw e (cut_refusal n c)
 
   pub checked-clips : n ≤ 512 → r.refusal ≡ 0 → Clips c r.value
   checked-clips few z = rw e (clips_of n c few (sym checked-refusal ∙ z))
