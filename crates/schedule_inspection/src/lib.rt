@@ -97,7 +97,11 @@ fn first_outside(
     requires { n ≤ most_days }
     ensures { result ≡ first_found (day_outside setpoints.now floors.now ceilings.now) n }
 {
-    (0..n).find(|&day| is_day_outside(setpoints[day], floors[day], ceilings[day]))
+    let day = (0..n as u32).find(|&day| {
+        let day = day as usize;
+        is_day_outside(setpoints[day], floors[day], ceilings[day])
+    })?;
+    Some(day as usize)
 }
 
 // The first broken one of the n - 1 rises.
@@ -105,7 +109,11 @@ fn first_fallen(setpoints: &[u16; MOST_DAYS], rises: &[u16; MOST_DAYS], n: usize
     requires { (0 < n) × (n ≤ most_days) }
     ensures { result ≡ first_found (fallen setpoints.now rises.now) (n - 1) }
 {
-    (0..n - 1).find(|&k| is_fallen(setpoints[k], setpoints[k + 1], rises[k]))
+    let rise = (0..n as u32 - 1).find(|&k| {
+        let k = k as usize;
+        is_fallen(setpoints[k], setpoints[k + 1], rises[k])
+    })?;
+    Some(rise as usize)
 }
 
 // The first broken rule of n setpoints, each held plus 32,768: days in order, then rises in order, then the total of the days from day `first` on.
