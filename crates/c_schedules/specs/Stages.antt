@@ -4,8 +4,7 @@ use Rattle.limits.specs.Limits.{highest_level, highest_total_code}
 use Rattle.session.specs.declared.Session.{Session}
 use Rattle.schedule_raising.specs.Raising.{raised_to}
 use Rattle.schedule_writing.specs.Writing.{levels_through}
-use Rattle.schedule_writing.specs.Stages.{refused_as, day_checked, total_checked}
-use Rattle.schedule_writing.specs.declared.Checked.{Checked}
+use Rattle.schedule_writing.specs.Stages.{Checked, refused_as, day_checked, total_checked}
 use Rattle.c_schedules.specs.declared.Subject.{Subject}
 use Rattle.c_schedules.specs.declared.Subject.TheVariants.{Day, Total}
 
