@@ -88,6 +88,7 @@ pub fn code_ranges(
 }
 
 // Stores n points from a place on, the k-th as `point` gives it.
+#[tactic(auto, unfolding(crate::specs::Lists::point_bytes))]
 pub fn put_each_point<F: Fn(usize) -> i16>(n: usize, place: usize, out: &mut [u8], point: F)
     requires { (n ≤ most_days) × (place + n * 2 ≤ length out.old) × ((k : ℕ) → k < n → F.pre point k) }
     ensures { (f : ℕ → ℤ) → ((k : ℕ) (z : _) → k < n → F.post point k z → z ≡ f k) → out.new ≡ sets out.old place (point_bytes f n) }
@@ -115,6 +116,7 @@ pub fn put_levels(levels: &[u16; MOST_DAYS], n: usize, out: &mut [u8])
 }
 
 // Stores n unsigned numbers from a place on.
+#[tactic(auto, unfolding(crate::specs::Lists::cell_bytes))]
 pub fn put_cells(cells: &[u16; MOST_DAYS], n: usize, place: usize, out: &mut [u8])
     requires { (n ≤ most_days) × (place + n * 2 ≤ length out.old) }
     ensures { out.new ≡ sets out.old place (cell_bytes (at cells.now) n) }
@@ -134,6 +136,7 @@ fn have_lengths(days: usize, floors: usize, ceilings: usize, rises: usize) -> bo
 }
 
 // 1 for a bad day count, 2 for a list of the wrong length, else 0.
+#[tactic(auto, unfolding(crate::specs::Profiles::byte_counts_refusal))]
 pub fn length_refusal(days: usize, floors: usize, ceilings: usize, rises: usize) -> u8
     ensures { result ≡ byte_counts_refusal days floors ceilings rises }
 {

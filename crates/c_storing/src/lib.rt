@@ -150,7 +150,9 @@ pub fn store_cut(
     session_order::list_losers(losses, n, floors, ceilings, changed)
 }
 
-// Stores n levels from one place at a place behind them.
+// Stores n levels from one place at a place behind them. A loop of its own, since it reads the bytes that it stores to: lent in two parts
+// (`split_at_mut`) it took more of the board's instructions.
+#[tactic(auto, unfolding(c_lists::specs::Lists::cell_bytes))]
 fn copy_levels(bytes: &mut [u8], from: usize, n: usize, place: usize)
     requires { (n ≤ most_days) × (from + n * cell_length ≤ place) × (place + n * cell_length ≤ length bytes.old) }
     ensures { bytes.new ≡ sets bytes.old place (cell_bytes (λ k. min (u16_at bytes.old (from + k * cell_length)) highest_level) n) }

@@ -1,6 +1,5 @@
 use Rattle.base_little_endian.proofs.Laws.{u16-length}
-use Rattle.c_lists.specs.Lists.{cell_bytes}
-use Rattle.theory_lists.specs.Rows.{stored_all, even_none, even_more}
+use Rattle.theory_lists.specs.Rows.{even_none, even_more}
 use Rattle.c_lists.proofs.put_cells.Goals as goal
 
 pub loop-j-init : goal.loop-j-init
@@ -9,7 +8,3 @@ loop-j-init c = even_none 2
 pub loop-j-preserved : goal.loop-j-preserved
 loop-j-preserved c =
     even_more 2 (λ k. u16-length _) c.loop-j.invariant c.loop-j-test.true c.put_u16.ensures
-
-pub returns : goal.returns
-unfolding cell_bytes
-returns c = (stored_all c.loop-j.invariant c.loop-j-test.false).0
