@@ -21,7 +21,7 @@ use Rattle.session.specs.Showing.{SessionInBounds}
 use Rattle.session.specs.declared.Session.{Session}
 use Rattle.schedule_raising.specs.Raising.{raised_to}
 use Rattle.schedule_writing.specs.Writing.{day_write_refusal, levels_through}
-use Rattle.schedule_writing.specs.Stages.{Checked, refused_as, taken, checked, day_checked}
+use Rattle.schedule_writing.specs.Stages.{ValueChecked, refused_as, taken, checked, day_checked}
 use Rattle.schedule_writing.proofs.Levels.{Standing}
 use Rattle.schedule_writing.proofs.Stages.{present-bounds, DayTaken, TotalTaken, day_asks, day_standing, day-refusal, total_asks, total_standing, total-refusal}
 use Rattle.schedule_inspection.specs.Inspecting.{Finding, refused, judged}
@@ -47,11 +47,11 @@ module _ (s : Session) (day : ℕ) (value : ℤ) where
   day_there : day < s.days → day_checked s day value ≡ checked_for s (Day day) value
   day_there h = rw (lt-ltb day s.days h)
 
-  pub day-read : day < s.days → {floor ceiling : ℕ} {spent : Bool} {q : Checked} → (floor ≡ at s.present.floors day) × (ceiling ≡ at s.present.ceilings day) × (spent ≡ s.spent)
+  pub day-read : day < s.days → {floor ceiling : ℕ} {spent : Bool} {q : ValueChecked} → (floor ≡ at s.present.floors day) × (ceiling ≡ at s.present.ceilings day) × (spent ≡ s.spent)
       → q ≡ checked lowest_point floor ceiling spent value → q ≡ checked_for s (Day day) value
   day-read h r e = (rw (r.0, r.1, r.2) at e) ∙ day_there h
 
-pub total-read : (s : Session) (value : ℤ) {lowest highest : ℕ} {spent : Bool} {q : Checked} → (lowest ≡ s.present.lowest) × (highest ≡ s.present.highest) × (spent ≡ s.spent)
+pub total-read : (s : Session) (value : ℤ) {lowest highest : ℕ} {spent : Bool} {q : ValueChecked} → (lowest ≡ s.present.lowest) × (highest ≡ s.present.highest) × (spent ≡ s.spent)
     → q ≡ checked lowest_total lowest highest spent value → q ≡ checked_for s Total value
 total-read s value r e = rw (r.0, r.1, r.2) at e
 
@@ -168,7 +168,7 @@ module _ (b : List ℕ) (subject : Subject) (value : ℤ) (l : List ℕ) where
   write_unread e = (rw e refl, sym (points_left 2 _ _ l (λ z. absurd (omega arith))))
 
   module _ (right : both b l ≡ true) where
-    number : {q : Checked} → q ≡ checked_for (decoding b) subject value → q.refusal ≡ write_refusal b subject value l
+    number : {q : ValueChecked} → q ≡ checked_for (decoding b) subject value → q.refusal ≡ write_refusal b subject value l
     unfolding both write_refusal
     number e = rw right (ap (λ c. c.refusal) e ∙ refusal_for_lem (decoding b) subject value)
 

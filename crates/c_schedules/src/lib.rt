@@ -5,7 +5,7 @@ ghost use Rattle.std.specs.Prelude.{◌≡◌, ◌*◌, length};
 ghost use Rattle.theory_lists.specs.Written.{written};
 ghost use Rattle.theory_method.specs.Filter.{zeros};
 ghost use Rattle.refusals.specs.Number.{refusal_of};
-ghost use Rattle.schedule_writing.specs.Stages.{checked_as};
+ghost use Rattle.schedule_writing.specs.Stages.{value_as};
 ghost use Rattle.schedule_inspection.specs.Inspecting.{found, finding, judged};
 ghost use Rattle.c_lists.specs.Lists.{points_in, lent_points};
 ghost use Rattle.c_layout.specs.Layout.{session_bytes, decoding};
@@ -30,7 +30,7 @@ pub enum Subject {
 // Checks 7, 9 and 10 of a value for a day.
 fn check_day(session: &[u8], day: usize, value: i32) -> Result<usize, Refusal>
     requires { length session.now ≡ session_bytes }
-    ensures { checked_as result ≡ checked_for (decoding session.now) (Subject.Day day) value }
+    ensures { value_as result ≡ checked_for (decoding session.now) (Subject.Day day) value }
 {
     if days_of(session) <= day {
         return Err(Refusal::Day);
@@ -46,7 +46,7 @@ fn check_day(session: &[u8], day: usize, value: i32) -> Result<usize, Refusal>
 // Checks 9 and 10 of a value for the total.
 fn check_total(session: &[u8], value: i32) -> Result<usize, Refusal>
     requires { length session.now ≡ session_bytes }
-    ensures { checked_as result ≡ checked_for (decoding session.now) Subject.Total value }
+    ensures { value_as result ≡ checked_for (decoding session.now) Subject.Total value }
 {
     let total = total_of(session);
     schedule_writing::check_total(value, total.lowest, total.highest, is_spent(session))
@@ -54,7 +54,7 @@ fn check_total(session: &[u8], value: i32) -> Result<usize, Refusal>
 
 fn check(session: &[u8], subject: Subject, value: i32) -> Result<usize, Refusal>
     requires { length session.now ≡ session_bytes }
-    ensures { checked_as result ≡ checked_for (decoding session.now) subject value }
+    ensures { value_as result ≡ checked_for (decoding session.now) subject value }
 {
     match subject {
         Subject::Day(day) => check_day(session, day, value),

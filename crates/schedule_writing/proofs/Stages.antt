@@ -18,7 +18,7 @@ use Rattle.theory_lists.specs.Lent.{list_left, list-filled}
 use Rattle.session.specs.declared.Session.{Session}
 use Rattle.schedule_raising.specs.Raising.{raised_to}
 use Rattle.schedule_writing.specs.Writing.{day_write_refusal, total_write_refusal, levels_through, day_levels, total_levels, day_written, total_written}
-use Rattle.schedule_writing.specs.Stages.{Checked, refused_as, taken, day_checked, total_checked}
+use Rattle.schedule_writing.specs.Stages.{ValueChecked, refused_as, taken, day_checked, total_checked}
 use Rattle.schedule_writing.proofs.Checks.{checked-refusal, taken-code, taken-most}
 use Rattle.schedule_writing.proofs.Levels.{Standing, raised_standing, through_standing}
 
@@ -63,7 +63,7 @@ module _ {s : Session} {value : ℤ} {code : ℕ} (d : TotalTaken s value code) 
   total_standing e = rw (← taken-code lowest_total value _ _ _ d.right) (raised_standing total_asks e)
 
 -- the number that is given for it, where the list is n long and the day in the profile
-module _ (s : Session) (value : ℤ) {q : Checked} {room : ℕ} (long : room ≡ s.days) where
+module _ (s : Session) (value : ℤ) {q : ValueChecked} {room : ℕ} (long : room ≡ s.days) where
   pub day-refusal : (day : ℕ) → day < s.days → q ≡ day_checked s day value → q.refusal ≡ day_write_refusal s day value room
   unfolding day_write_refusal
   day-refusal day known e =

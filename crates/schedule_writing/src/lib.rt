@@ -8,7 +8,7 @@ ghost use Rattle.theory_method.specs.Filter.{box, InBounds};
 ghost use Rattle.refusals.specs.Number.{refusal_of};
 ghost use Rattle.session.specs.Showing.{SessionInBounds};
 ghost use Rattle.schedule_writing.specs.Writing.{day_write_refusal, total_write_refusal, levels_through, day_written, total_written};
-ghost use Rattle.schedule_writing.specs.Stages.{checked_as, checked_code, checked};
+ghost use Rattle.schedule_writing.specs.Stages.{value_as, checked_code, checked};
 
 use limits::MOST_DAYS;
 use refusals::Refusal;
@@ -16,7 +16,7 @@ use session::Session;
 
 // A value's code, or 9 for a spent session, then 10 for a value outside its range: one outside its bounds is within no range.
 fn check(value: Option<usize>, floor: usize, ceiling: usize, spent: bool) -> Result<usize, Refusal>
-    ensures { checked_as result ≡ checked_code value floor ceiling spent }
+    ensures { value_as result ≡ checked_code value floor ceiling spent }
 {
     if spent {
         return Err(Refusal::Spent);
@@ -30,7 +30,7 @@ fn check(value: Option<usize>, floor: usize, ceiling: usize, spent: bool) -> Res
 // A day's value, checked by its range.
 pub fn check_day(value: i32, floor: u16, ceiling: u16, spent: bool) -> Result<usize, Refusal>
     requires { ceiling ≤ highest_level }
-    ensures { checked_as result ≡ checked lowest_point floor ceiling spent value }
+    ensures { value_as result ≡ checked lowest_point floor ceiling spent value }
 {
     check(
         base_codes::code(value, Session::LOWEST_POINT, Session::HIGHEST_POINT),
@@ -43,7 +43,7 @@ pub fn check_day(value: i32, floor: u16, ceiling: u16, spent: bool) -> Result<us
 // The total's value, checked by its range, as it is held.
 pub fn check_total(value: i32, lowest: usize, highest: usize, spent: bool) -> Result<usize, Refusal>
     requires { highest ≤ highest_total_code }
-    ensures { checked_as result ≡ checked lowest_total lowest highest spent value }
+    ensures { value_as result ≡ checked lowest_total lowest highest spent value }
 {
     check(
         base_codes::code(value, Session::LOWEST_TOTAL, Session::HIGHEST_TOTAL),

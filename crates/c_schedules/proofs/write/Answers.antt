@@ -51,9 +51,11 @@ pub load_levels-requires : goal.load_levels-requires
 load_levels-requires c = (search rules, code_fits _ (taken (goal.at.load_levels-requires c).In_ok-code), refl)
 
 pub put_levels-requires : goal.put_levels-requires
-put_levels-requires c =
-    (omega (arith, few (goal.at.put_levels-requires c).After-days_of-n), omega (arith, c.if-list-n.false),
-    λ k h. (loaded (goal.at.put_levels-requires c).After-load_levels).small k (omega (arith, c.days_of-n.ensures)))
+put_levels-requires c = (
+  omega (arith, few (goal.at.put_levels-requires c).After-days_of-n),
+  omega (arith, c.if-list-n.false),
+  λ k h. (loaded (goal.at.put_levels-requires c).After-load_levels).small k (omega (arith, c.days_of-n.ensures)),
+)
 
 pub returns : goal.returns
 returns c =
