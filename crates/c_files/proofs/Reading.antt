@@ -1,4 +1,5 @@
 -- What `read` gives and leaves in its lists, by the checks that refuse and by the bytes that it stores.
+use Rattle.std.specs.Prelude.{Result, Ok, Err}
 use Prim.Native.Nat.{ℕ, ◌-◌, ◌*◌, ◌/◌, ◌≤◌}
 use mathlib.Core.Path.{◌≡◌, refl, ap, sym, ◌∙◌}
 use mathlib.Core.Bool.{Bool, true, false, ◌||◌}
@@ -13,16 +14,19 @@ use Rattle.theory_lists.specs.Checks.{or-false}
 use Rattle.theory_lists.specs.Lent.{lent_list}
 use Rattle.theory_lists.specs.Rows.{front-sets}
 use Rattle.base_codes.specs.Code.{on}
+use Rattle.refusals.specs.declared.Refusal.{Refusal}
+use Rattle.refusals.specs.declared.Refusal.TheVariants.{Length}
+use Rattle.refusals.specs.Number.{refusal_number, refusal_of}
+use Rattle.refusals.proofs.Laws.{refused}
 use Rattle.c_lists.specs.Lists.{point_bytes, lent_points}
 use Rattle.c_lists.proofs.Laws.{Handing, points_stored}
 use Rattle.file_format.specs.Format.{day_offset, day_count, cut_count, floor_at, ceiling_at, rise_at}
 use Rattle.file_format.specs.Reading.{early_reading}
 use Rattle.file_format.proofs.Taken.{Taken, not-refused}
-use Rattle.file_reading.specs.declared.ReadAnswer.{ReadAnswer}
-use Rattle.file_reading.specs.Reading.{contents, read_from}
+use Rattle.file_reading.specs.Reading.{ReadAnswer, refused_read, contents, read_from}
 use Rattle.file_reading.proofs.Laws.{read_number, read_taken}
-use Rattle.c_files.specs.declared.Contents.{Contents}
-use Rattle.c_files.specs.Reading.{no_room_over, reading_refusal_over, refused_contents, read_into, cuts_lent}
+use Rattle.c_files.specs.declared.Contents as Code
+use Rattle.c_files.specs.Reading.{no_room_over, reading_refusal_over, contents_as, read_into, cuts_lent}
 
 -- what the reader of files found, where it refused nothing
 pub record Found (b : List ℕ) (r : ReadAnswer) : Type 0 where
@@ -60,31 +64,27 @@ roomy n m floors ceilings rises cuts e =
 
 module _ (b fs cs rs ks : List ℕ) where
   -- what `read` ensures
-  abbrev Answers : Contents → List ℕ → List ℕ → List ℕ → List ℕ → Type 0
+  abbrev Answers : Result Code.Contents Refusal → List ℕ → List ℕ → List ℕ → List ℕ → Type 0
   Answers r floors ceilings rises cuts =
-      (r ≡ read_into b (length fs) (length cs) (length rs) (length ks))
-      × ((floors ≡ lent_points r.refusal (floor_at b) (day_count b) fs)
-      × ((ceilings ≡ lent_points r.refusal (ceiling_at b) (day_count b) cs)
-      × ((rises ≡ lent_points r.refusal (rise_at b) (day_count b - 1) rs)
-      × (cuts ≡ cuts_lent r.refusal b ks))))
+      (contents_as r ≡ read_into b (length fs) (length cs) (length rs) (length ks))
+      × ((floors ≡ lent_points (refusal_of r) (floor_at b) (day_count b) fs)
+      × ((ceilings ≡ lent_points (refusal_of r) (ceiling_at b) (day_count b) cs)
+      × ((rises ≡ lent_points (refusal_of r) (rise_at b) (day_count b - 1) rs)
+      × (cuts ≡ cuts_lent (refusal_of r) b ks))))
 
-  refused : (number : ℕ) {r : Contents} → reading_refusal_over b (length fs) (length cs) (length rs) (length ks) ≡ number → (number ≡ 0 → ⊥) → r ≡ refused_contents number → Answers r fs cs rs ks
+  refused_by : (r : Refusal) → reading_refusal_over b (length fs) (length cs) (length rs) (length ks) ≡ refusal_number r → Answers (Err r) fs cs rs ks
   unfolding read_into lent_points cuts_lent
-  refused number e x a =
-      let test = ne_eqb number 0 x in
-      let z = ap (λ (s : Contents). s.refusal) a in
-      (rw (e, test) a, (rw (z, test), (rw (z, test), (rw (z, test), rw (z, test)))))
+  refused_by r e = let test = ne_eqb (refusal_number r) 0 (refused r) in (rw (e, test), (rw test, (rw test, (rw test, rw test))))
 
-  pub bad_file : {a : ReadAnswer} {r : Contents} → a ≡ read_from b 512 512 512 → (a.refusal ≡ 0 → ⊥) → r ≡ refused_contents a.refusal → Answers r fs cs rs ks
+  pub bad_file : (r : Refusal) → refused_read (refusal_number r) ≡ read_from b 512 512 512 → Answers (Err r) fs cs rs ks
   unfolding reading_refusal_over
-  bad_file {a} e x d =
-      let number : a.refusal ≡ early_reading b = ap (λ s. s.refusal) e ∙ read_number b 512 512 512 (omega arith) (omega arith) (omega arith) in
-      refused a.refusal (rw (← number, ne_eqb a.refusal 0 x) refl) x d
+  bad_file r e =
+      let number : refusal_number r ≡ early_reading b = ap (λ (s : ReadAnswer). s.refusal) e ∙ read_number b 512 512 512 (omega arith) (omega arith) (omega arith) in
+      refused_by r (rw (← number, ne_eqb (refusal_number r) 0 (refused r)))
 
-  pub too_short : {a : ReadAnswer} {m : ℕ} {r : Contents} → Found b a → m ≡ cut_count b → no_room_over a.numbers.days m (length fs) (length cs) (length rs) (length ks) ≡ true
-      → r ≡ refused_contents 2 → Answers r fs cs rs ks
+  pub too_short : {a : ReadAnswer} {m : ℕ} → Found b a → m ≡ cut_count b → no_room_over a.numbers.days m (length fs) (length cs) (length rs) (length ks) ≡ true → Answers (Err Length) fs cs rs ks
   unfolding reading_refusal_over
-  too_short here em e d = refused 2 (rw (not-refused b here.taken, rw (here.days, em) at e) refl) (λ z. omega arith) d
+  too_short here em e = refused_by Length (rw (not-refused b here.taken, rw (here.days, em) at e))
 
   -- what has passed: the file's own checks, with m cuts in it, and 2
   pub record Passed (a : ReadAnswer) (m : ℕ) : Type 0 where
@@ -106,7 +106,7 @@ module _ (b fs cs rs ks : List ℕ) where
     pub cuts_put : cuts ≡ sets ks 0 (drop (day_offset a.numbers.days) b)
 
   pub read_all : {a : ReadAnswer} {m : ℕ} {floors ceilings rises cuts : List ℕ} → Passed a m → Stored a floors ceilings rises cuts
-      → Answers (record { refusal = 0; numbers = a.numbers; cuts = m }) floors ceilings rises cuts
+      → Answers (Ok (record { numbers = a.numbers; cuts = m })) floors ceilings rises cuts
   unfolding reading_refusal_over read_into contents lent_points cuts_lent
   read_all {a} {m} p s =
       let here = p.found in

@@ -1,4 +1,5 @@
 -- What `write` gives and leaves in its output, by the checks that refuse and by the bytes that it stores.
+use Rattle.std.specs.Prelude.{Result, Ok, Err}
 use Prim.Native.Nat.{ℕ, ◌+◌, ◌-◌, ◌*◌, ◌/◌, ◌%◌, ◌≤◌, ◌<◌}
 use mathlib.Core.Path.{◌≡◌, refl, sym, ◌∙◌}
 use mathlib.Core.List.{List}
@@ -15,6 +16,10 @@ use Rattle.theory_lists.specs.Part.{Part, part_rows, part_same}
 use Rattle.theory_lists.specs.Rows.{rows, length-rows, front-sets}
 use Rattle.base_codes.specs.Code.{on}
 use Rattle.base_little_endian.specs.Fields.{Bytes}
+use Rattle.refusals.specs.declared.Refusal.{Refusal}
+use Rattle.refusals.specs.declared.Refusal.TheVariants.{Length}
+use Rattle.refusals.specs.Number.{refusal_number}
+use Rattle.refusals.proofs.Laws.{refused}
 use Rattle.session.specs.Profile.{Profile}
 use Rattle.session.specs.Opening.{early_opening}
 use Rattle.session_cuts.specs.declared.Cut.TheVariants.{DayFloor}
@@ -22,7 +27,7 @@ use Rattle.session_cuts.specs.Sheet.{cut_on}
 use Rattle.file_format.specs.Format.{day_offset, file_length, numbered_at, known, header, day_bytes, cut_bytes, file}
 use Rattle.file_format.proofs.Parts.{cut-length, length-file, parts_stored}
 use Rattle.file_format.proofs.WrittenBack.{cut-back}
-use Rattle.file_writing.specs.declared.WriteAnswer.{WriteAnswer}
+use Rattle.file_writing.specs.Writing.{write_as}
 use Rattle.c_lists.specs.Lists.{points_in}
 use Rattle.c_lists.specs.Profiles.{ByteProfile, byte_length_refusal, profile_of}
 use Rattle.c_lists.proofs.Laws.{Long, long}
@@ -96,27 +101,27 @@ module _ (h : ByteProfile) (b : List ℕ) where
 
   module _ (l : List ℕ) where
     -- what `write` ensures
-    abbrev Answers : WriteAnswer → List ℕ → Type 0
-    Answers r out = (r ≡ write_over h b (length l)) × (out ≡ output_over h b l)
+    abbrev Answers : Result ℕ Refusal → List ℕ → Type 0
+    Answers r out = (write_as r ≡ write_over h b (length l)) × (out ≡ output_over h b l)
 
-    refused : (number : ℕ) {r : WriteAnswer} → writing_refusal_over h b (length l) ≡ number → (number ≡ 0 → ⊥) → r ≡ record { refusal = number; length = 0 } → Answers r l
+    refused_by : (r : Refusal) → writing_refusal_over h b (length l) ≡ refusal_number r → Answers (Err r) l
     unfolding write_over output_over
-    refused number e x a = (rw (e, ne_eqb number 0 x) a, rw (e, ne_eqb number 0 x) refl)
+    refused_by r e = let test = ne_eqb (refusal_number r) 0 (refused r) in (rw (e, test), rw (e, test))
 
-    module _ {number : ℕ} {r : WriteAnswer} (x : number ≡ 0 → ⊥) (a : r ≡ record { refusal = number; length = 0 }) where
-      early : number ≡ early_writing_over h b → Answers r l
+    module _ (r : Refusal) where
+      early : refusal_number r ≡ early_writing_over h b → Answers (Err r) l
       unfolding writing_refusal_over
-      early e = refused number (rw (← e, ne_eqb number 0 x) refl) x a
+      early e = refused_by r (rw (← e, ne_eqb (refusal_number r) 0 (refused r)))
 
-      pub bad_lengths : number ≡ lengths_refusal (byte_length_refusal h) (length b) → Answers r l
+      pub bad_lengths : refusal_number r ≡ lengths_refusal (byte_length_refusal h) (length b) → Answers (Err r) l
       unfolding early_writing_over
-      bad_lengths e = early (rw (← e, ne_eqb number 0 x) refl)
+      bad_lengths e = early (rw (← e, ne_eqb (refusal_number r) 0 (refused r)))
 
-      pub bad_profile : lengths_refusal (byte_length_refusal h) (length b) ≡ 0 → number ≡ early_opening p → Answers r l
+      pub bad_profile : lengths_refusal (byte_length_refusal h) (length b) ≡ 0 → refusal_number r ≡ early_opening p → Answers (Err r) l
       unfolding early_writing_over
-      bad_profile lengths e = early (rw (lengths, ← e, ne_eqb number 0 x) refl)
+      bad_profile lengths e = early (rw (lengths, ← e, ne_eqb (refusal_number r) 0 (refused r)))
 
-      pub bad_cut_lem : Opens → number ≡ cuts_refusal n b → Answers r l
+      pub bad_cut_lem : Opens → refusal_number r ≡ cuts_refusal n b → Answers (Err r) l
       unfolding early_writing_over
       bad_cut_lem o e = early (rw (o.lengths, o.profile) e)
 
@@ -135,16 +140,16 @@ module _ (h : ByteProfile) (b : List ℕ) where
       pub cuts_put : out ≡ sets two (day_offset n) b
 
     module _ (c : Checked) where
-      pub too_short : {r : WriteAnswer} → length l < file_length n (length b / 8) → r ≡ record { refusal = 2; length = 0 } → Answers r l
+      pub too_short : length l < file_length n (length b / 8) → Answers (Err Length) l
       unfolding writing_refusal_over
-      too_short short a = refused 2 (rw (none_early c, lt-ltb (length l) (file_length n (length b / 8)) short) refl) (λ z. omega arith) a
+      too_short short = refused_by Length (rw (none_early c, lt-ltb (length l) (file_length n (length b / 8)) short))
 
       module _ (bytes : Bytes b) (room : file_length n (length b / 8) ≤ length l) where
         accepted : writing_refusal_over h b (length l) ≡ 0
         unfolding writing_refusal_over
         accepted = rw (none_early c, le-ltb (length l) (file_length n (length b / 8)) room) refl
 
-        pub written : {out : List ℕ} → Stored out → Answers (record { refusal = 0; length = file_length n (length b / 8) }) out
+        pub written : {out : List ℕ} → Stored out → Answers (Ok (file_length n (length b / 8))) out
         unfolding write_over output_over
         written {out} d =
             let s = sized h (length b) c.opens.lengths in

@@ -8,7 +8,7 @@ use Rattle.session.specs.Opening.{early_opening}
 use Rattle.session_cuts.specs.declared.Cut.{Cut}
 use Rattle.session_cutting.specs.Cutting.{malformed}
 use Rattle.file_format.specs.Format.{cut_length, file_length, numbered_at, known, file}
-use Rattle.file_writing.specs.declared.WriteAnswer.{WriteAnswer}
+use Rattle.file_writing.specs.Writing.{WriteAnswer}
 use Rattle.c_lists.specs.Profiles.{ByteProfile, byte_length_refusal, profile_of}
 
 -- the refusal of a numbered cut by itself: an unknown kind is 12

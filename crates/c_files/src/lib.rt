@@ -5,28 +5,27 @@ ghost use Rattle.std.specs.Prelude.{◌≡◌, ◌+◌, ◌-◌, ◌*◌, ◌≤
 ghost use Rattle.std.proofs.lemmas.List.Edits.{sets};
 ghost use Rattle.limits.specs.Limits.{most_cuts};
 ghost use Rattle.theory_lists.specs.First.{first_nonzero};
+ghost use Rattle.refusals.specs.Number.{refusal_of};
 ghost use Rattle.c_lists.specs.Lists.{lent_points};
 ghost use Rattle.c_lists.specs.Profiles.{byte_profile, byte_counts_refusal};
 ghost use Rattle.file_format.specs.Format.{cut_length, day_count, floor_at, ceiling_at, rise_at, numbered_at};
-ghost use Rattle.c_files.specs.Reading.{no_room_over, refused_contents, read_into, cuts_lent};
+ghost use Rattle.c_files.specs.Reading.{no_room_over, contents_as, read_into, cuts_lent};
 ghost use Rattle.c_files.specs.Writing.{numbered_refusal, lengths_refusal, write_over, output_over};
+ghost use Rattle.file_writing.specs.Writing.{write_as};
 
 use base_little_endian::u16_at;
-use base_numbers::wide;
-use c_lists::{length_refusal, points, put_points};
+use c_lists::{points, put_points};
 use file_checks::numbered_at;
 use file_format::{CUT_BYTES, day_offset};
 use file_parts::{put_days, put_header};
-use file_writing::WriteAnswer;
 use limits::{MOST_CUTS, MOST_DAYS};
-use session::{Numbers, early_refusal};
+use refusals::Refusal;
+use session::{Numbers, check_early};
 use session_cuts::Cut;
-use session_cutting::malformed;
 
-// What reading gives beside the lists: the refusal's number, 0 for none; the profile's numbers, and how many cuts there are.
+// What reading gives beside the lists: the profile's numbers, and how many cuts there are.
 #[derive(Clone, Copy)]
 pub struct Contents {
-    pub refusal: u8,
     pub numbers: Numbers,
     pub cuts: usize,
 }
@@ -41,17 +40,6 @@ fn put_rest(from: &[u8], start: usize, out: &mut [u8], place: usize)
 }
 
 // ---- reading
-
-fn refused(number: u8) -> Contents
-    ensures { result ≡ refused_contents number }
-{
-    let numbers = Numbers::NONE;
-    Contents {
-        refusal: number,
-        numbers,
-        cuts: 0,
-    }
-}
 
 // Whether a list is too short for what it would hold, by the lists' counts of bytes.
 fn has_no_room(
@@ -75,23 +63,20 @@ pub fn read(
     ceilings: &mut [u8],
     rises: &mut [u8],
     cuts: &mut [u8],
-) -> Contents
-    ensures value { result ≡ read_into file.now (length floors.old) (length ceilings.old) (length rises.old) (length cuts.old) }
-    ensures floors_after { floors.new ≡ lent_points result.refusal (floor_at file.now) (day_count file.now) floors.old }
-    ensures ceilings_after { ceilings.new ≡ lent_points result.refusal (ceiling_at file.now) (day_count file.now) ceilings.old }
-    ensures rises_after { rises.new ≡ lent_points result.refusal (rise_at file.now) (day_count file.now - 1) rises.old }
-    ensures cuts_after { cuts.new ≡ cuts_lent result.refusal file.now cuts.old }
+) -> Result<Contents, Refusal>
+    ensures value { contents_as result ≡ read_into file.now (length floors.old) (length ceilings.old) (length rises.old) (length cuts.old) }
+    ensures floors_after { floors.new ≡ lent_points (refusal_of result) (floor_at file.now) (day_count file.now) floors.old }
+    ensures ceilings_after { ceilings.new ≡ lent_points (refusal_of result) (ceiling_at file.now) (day_count file.now) ceilings.old }
+    ensures rises_after { rises.new ≡ lent_points (refusal_of result) (rise_at file.now) (day_count file.now - 1) rises.old }
+    ensures cuts_after { cuts.new ≡ cuts_lent (refusal_of result) file.now cuts.old }
 {
     let mut low = [0i16; MOST_DAYS];
     let mut high = [0i16; MOST_DAYS];
     let mut steps = [0i16; MOST_DAYS];
-    let found = file_reading::read(file, &mut low, &mut high, &mut steps);
-    if found.refusal != 0 {
-        return refused(found.refusal);
-    }
+    let found = file_reading::read(file, &mut low, &mut high, &mut steps)?;
     let numbers = found.numbers;
     let days = numbers.days;
-    let count = wide(u16_at(file, 2));
+    let count = usize::from(u16_at(file, 2));
     if has_no_room(
         days,
         count,
@@ -100,69 +85,57 @@ pub fn read(
         rises.len(),
         cuts.len(),
     ) {
-        return refused(2);
+        return Err(Refusal::Length);
     }
     put_points(&low, days, floors);
     put_points(&high, days, ceilings);
     put_points(&steps, days - 1, rises);
     put_rest(file, day_offset(days), cuts, 0);
-    Contents {
-        refusal: 0,
+    Ok(Contents {
         numbers,
         cuts: count,
-    }
+    })
 }
 
 // ---- writing
 
-// The refusal that a numbered cut has by itself: 12, 7, then 3 or 5, else 0.
-fn numbered_refusal(numbered: Option<Cut>, days: usize) -> u8
-    ensures { result ≡ numbered_refusal days numbered }
+// A numbered cut's value as it is held, or the refusal that the cut has by itself: 12, 7, then 3 or 5.
+fn check_numbered(numbered: Option<Cut>, days: usize) -> Result<usize, Refusal>
+    ensures { refusal_of result ≡ numbered_refusal days numbered }
 {
-    let Some(cut) = numbered else {
-        return 12;
-    };
-    malformed(cut, days)
+    let cut = numbered.ok_or(Refusal::Kind)?;
+    session_cutting::check(cut, days)
 }
 
-// The first refusal of the cuts in their order, or 0.
-fn cuts_refusal(cuts: &[u8], count: usize, days: usize) -> u8
+// The first refusal of the cuts in their order.
+fn check_cuts(cuts: &[u8], count: usize, days: usize) -> Result<(), Refusal>
     requires { (count ≤ most_cuts) × (count * cut_length ≤ length cuts.now) }
-    ensures { result ≡ first_nonzero (λ j. numbered_refusal days (numbered_at cuts.now (j * cut_length))) count }
+    ensures { refusal_of result ≡ first_nonzero (λ j. numbered_refusal days (numbered_at cuts.now (j * cut_length))) count }
 {
     for j in 0..count {
-        let refusal = numbered_refusal(numbered_at(cuts, j * CUT_BYTES), days);
-        if refusal != 0 {
-            return refusal;
-        }
+        check_numbered(numbered_at(cuts, j * CUT_BYTES), days)?;
     }
-    0
+    Ok(())
 }
 
-// 1 for the counts, then 2 for a list of the wrong length, else 0, by the lists' counts of bytes.
-fn lengths_refusal(days: usize, floors: usize, ceilings: usize, rises: usize, cuts: usize) -> u8
-    ensures { result ≡ lengths_refusal (byte_counts_refusal days floors ceilings rises) cuts }
+// 1 for the counts, then 2 for a list of the wrong length, by the lists' counts of bytes.
+fn check_lengths(
+    days: usize,
+    floors: usize,
+    ceilings: usize,
+    rises: usize,
+    cuts: usize,
+) -> Result<(), Refusal>
+    ensures { refusal_of result ≡ lengths_refusal (byte_counts_refusal days floors ceilings rises) cuts }
 {
     if MOST_CUTS < cuts / CUT_BYTES {
-        return 1;
+        return Err(Refusal::Count);
     }
-    let refusal = length_refusal(days, floors, ceilings, rises);
-    if refusal != 0 {
-        return refusal;
-    }
+    c_lists::check_lengths(days, floors, ceilings, rises)?;
     if cuts % CUT_BYTES != 0 {
-        return 2;
+        return Err(Refusal::Length);
     }
-    0
-}
-
-fn refuse(number: u8) -> WriteAnswer
-    ensures { result ≡ record { refusal = number; length = 0 } }
-{
-    WriteAnswer {
-        refusal: number,
-        length: 0,
-    }
+    Ok(())
 }
 
 // Writes a file: document 01's checks 1 to 6 and 13 as opening does, each cut in order as cutting does, then 2 where the output is too short.
@@ -173,37 +146,28 @@ pub fn write(
     rises: &[u8],
     cuts: &[u8],
     out: &mut [u8],
-) -> WriteAnswer
-    ensures value { result ≡ write_over (byte_profile numbers floors.now ceilings.now rises.now) cuts.now (length out.old) }
+) -> Result<usize, Refusal>
+    ensures value { write_as result ≡ write_over (byte_profile numbers floors.now ceilings.now rises.now) cuts.now (length out.old) }
     ensures out_after { out.new ≡ output_over (byte_profile numbers floors.now ceilings.now rises.now) cuts.now out.old }
 {
     let days = numbers.days;
-    let of_lists = lengths_refusal(days, floors.len(), ceilings.len(), rises.len(), cuts.len());
-    if of_lists != 0 {
-        return refuse(of_lists);
-    }
+    check_lengths(days, floors.len(), ceilings.len(), rises.len(), cuts.len())?;
     let mut low = [0i16; MOST_DAYS];
     let mut high = [0i16; MOST_DAYS];
     let mut steps = [0i16; MOST_DAYS];
     points(floors, days, &mut low);
     points(ceilings, days, &mut high);
     points(rises, days - 1, &mut steps);
-    let of_profile = early_refusal(numbers, &low[..days], &high[..days], &steps[..days - 1]);
-    if of_profile != 0 {
-        return refuse(of_profile);
-    }
+    check_early(numbers, &low[..days], &high[..days], &steps[..days - 1])?;
     let count = cuts.len() / CUT_BYTES;
-    let of_cuts = cuts_refusal(cuts, count, days);
-    if of_cuts != 0 {
-        return refuse(of_cuts);
-    }
+    check_cuts(cuts, count, days)?;
     let from = day_offset(days);
     let length = from + count * CUT_BYTES;
     if out.len() < length {
-        return refuse(2);
+        return Err(Refusal::Length);
     }
     put_header(numbers, count, out);
     put_days(&low[..days], &high[..days], &steps[..days - 1], days, out);
     put_rest(cuts, 0, out, from);
-    WriteAnswer { refusal: 0, length }
+    Ok(length)
 }

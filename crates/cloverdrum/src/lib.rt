@@ -21,6 +21,7 @@ use c_files::Contents;
 use c_layout::SESSION_BYTES;
 use c_schedules::Subject;
 use refusals::number_of;
+use schedule_inspection::Finding;
 use session::{Numbers, Shown};
 
 // What is lent back beside a refusal.
@@ -163,10 +164,11 @@ pub extern "C" fn cloverdrum_inspect(
 ) -> u8
     ensures { record { refusal = result; rule = rule.new; place = place.new } ≡ inspected_over session.now schedule.now }
 {
-    let found = c_schedules::inspect(session, schedule);
-    *rule = found.rule;
-    *place = found.place;
-    found.refusal
+    let answer = c_schedules::inspect(session, schedule);
+    let found = answer.unwrap_or(Finding::Kept);
+    *rule = found.rule();
+    *place = found.place();
+    number_of(&answer)
 }
 
 // ---- files

@@ -24,17 +24,13 @@ pub fn put_header(numbers: Numbers, cuts: usize, out: &mut [u8])
     requires { (numbers.days ≤ most_days) × (numbers.first < numbers.days) × (cuts ≤ most_cuts) × (days_begin ≤ length out.old) }
     ensures { out.new ≡ sets out.old 0 (header numbers cuts) }
 {
-    let days = numbers.days;
-    let first = numbers.first;
-    let lowest = numbers.lowest;
-    let highest = numbers.highest;
-    put_u16(out, 0, days as u16);
+    put_u16(out, 0, numbers.days as u16);
     put_u16(out, 2, cuts as u16);
     put_u16(out, 4, DAYS_OFFSET);
-    put_u16(out, 6, day_offset(days) as u16);
-    put_i32(out, 8, lowest);
-    put_i32(out, 12, highest);
-    put_u16(out, FIRST_DAY_AT, first as u16);
+    put_u16(out, 6, day_offset(numbers.days) as u16);
+    put_i32(out, 8, numbers.lowest);
+    put_i32(out, 12, numbers.highest);
+    put_u16(out, FIRST_DAY_AT, numbers.first as u16);
 }
 
 fn put_day(out: &mut [u8], at: usize, floor: i16, ceiling: i16, rise: i16)
@@ -50,10 +46,7 @@ fn put_day(out: &mut [u8], at: usize, floor: i16, ceiling: i16, rise: i16)
 fn rise_on(rises: &[i16], k: usize) -> i16
     ensures { result ≡ on rises.now k }
 {
-    if k < rises.len() {
-        return rises[k];
-    }
-    0
+    rises.get(k).copied().unwrap_or(0)
 }
 
 pub fn put_days(floors: &[i16], ceilings: &[i16], rises: &[i16], days: usize, out: &mut [u8])
@@ -84,8 +77,8 @@ fn put_entry(entry: Entry, at: usize, out: &mut [u8])
     requires { (day_of entry.cut < 65536) × (at + cut_length ≤ length out.old) }
     ensures { out.new ≡ sets out.old at (cut_bytes entry.cut) }
 {
-    let cut = entry.cut;
-    match cut {
+    // The numbers of the kinds are the file's format.
+    match entry.cut {
         Cut::DayFloor(day, value) => put_fields(0, day, value, at, out),
         Cut::DayCeiling(day, value) => put_fields(1, day, value, at, out),
         Cut::TotalFloor(day, value) => put_fields(2, day, value, at, out),

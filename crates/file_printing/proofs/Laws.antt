@@ -1,28 +1,35 @@
 -- The loop that applies cuts, a text stored part after part, what is shown, and the stages.
+use Rattle.std.specs.Prelude.{Result, Ok, Err}
+use Rattle.std.specs.Result.{IsOk}
 use Prim.Native.Nat.{ℕ, ◌+◌, ◌≤◌, ◌<◌}
 use mathlib.Core.Path.{◌≡◌, refl, ap, sym, ◌∙◌}
-use mathlib.Core.Bool.{Bool, true, false, cond}
 use mathlib.Core.List.{List, ◌++◌}
 use native.Mathlib.Omega.{arith}
-use lib.Dec.{eqb}
 use lib.IntN.{ℤ, pos}
 use lib.ListN.{length, length-append}
 use lib.Seq.{sets, length-sets}
-use borrow.Author.Tests.{le-ltb, eqb-true, eq-eqb}
+use borrow.Author.Tests.{le-ltb}
 use Rattle.theory_lists.specs.Rows.{sets_append}
 use Rattle.theory_lists.specs.Written.{written, written_below}
 use Rattle.theory_lists.specs.Lent.{lent_list, list-filled}
 use Rattle.base_codes.specs.Code.{on}
-use Rattle.session.specs.Showing.{SessionInBounds, floor_on, ceiling_on, total_floor, total_ceiling, shown, Shown}
+use Rattle.refusals.specs.declared.Refusal.{Refusal}
+use Rattle.refusals.specs.Number.{refusal_number, refusal_of}
+use Rattle.refusals.proofs.Laws.{refused}
+use Rattle.session.specs.Showing.{SessionInBounds, floor_on, ceiling_on, total_floor, total_ceiling, shown, Shown, shown_as}
+use Rattle.session.specs.declared.Shown as Code-shown
 use Rattle.session.specs.declared.Session.{Session}
-use Rattle.session.specs.Opening.{Opened}
+use Rattle.session.specs.Opening.{Opened, opened}
+use Rattle.session.specs.Profile.{Profile}
+use Rattle.session.proofs.SessionBounds.{opened_in_bounds}
 use Rattle.session_cuts.specs.declared.Cut.{Cut}
+use Rattle.session_cutting.specs.Cutting.{after_cut, after_as}
+use Rattle.session_cutting.specs.declared.AfterCut as Code
+use Rattle.session_cutting.proofs.Laws.{cut_in_bounds}
 use Rattle.base_text.specs.Numbers.{number}
-use Rattle.file_printing.specs.declared.Stage.{Stage}
-use Rattle.file_printing.specs.declared.Stage.TheVariants.{Passed, Refused}
-use Rattle.file_printing.specs.Stages.{stage_of, number_of}
-use Rattle.file_printing.specs.Printing.{cut_once, cut_all, day_line}
-use Rattle.file_printing.proofs.Lines.{all_none, all_more}
+use Rattle.file_printing.specs.Stages.{unrefused, Told}
+use Rattle.file_printing.specs.Printing.{after_entry, cut_once, cut_all, day_line}
+use Rattle.file_printing.proofs.Lines.{all_none, all_more, all-stays, once_applied}
 
 -- ---- the cuts
 
@@ -36,12 +43,29 @@ module _ {o : Opened} {f : ℕ → Cut} {n : ℕ} where
   pub applied_none : SessionInBounds o.session → Applied o f n 0 o
   applied_none b = record { most = omega arith; made = sym (all_none o f); bounds = b }
 
-  pub applied_more : {j : ℕ} {after next : Opened} → Applied o f n j after → j < n → (next ≡ cut_once after (f j)) × SessionInBounds next.session → Applied o f n (j + 1) next
-  applied_more {j} h u e =
-      record { most = omega arith; made = e.0 ∙ ap (λ a. cut_once a (f j)) h.made ∙ sym (all_more o f j); bounds = e.1 }
+  -- the next cut, where none has been refused
+  more : {j : ℕ} {s : Session} → Applied o f n j (unrefused s) → cut_all o f (j + 1) ≡ after_entry (after_cut s (f j) 512)
+  more {j} {s} h = all_more o f j ∙ ap (λ a. cut_once a (f j)) (sym h.made) ∙ once_applied (unrefused s) (f j) refl
 
-  pub applied_all : {j : ℕ} {after : Opened} → Applied o f n j after → n ≤ j → (after ≡ cut_all o f n) × SessionInBounds after.session
-  applied_all {j} h u = let e : j ≡ n = omega (arith, h.most) in (rw e at h.made, h.bounds)
+  pub applied_more : {j : ℕ} {s next : Session} → Applied o f n j (unrefused s) → j < n → Told (Ok next) (after_entry (after_cut s (f j) 512)) → Applied o f n (j + 1) (unrefused next)
+  applied_more {j} h u e = record { most = omega arith; made = sym (more h ∙ e.0); bounds = e.1 }
+
+  pub applied_refused : {j : ℕ} {s : Session} (r : Refusal) → Applied o f n j (unrefused s) → j < n → Told (Err r) (after_entry (after_cut s (f j) 512)) → Told (Err r) (cut_all o f n)
+  applied_refused {j} {s} r h u e =
+      let here : (cut_all o f (j + 1)).refusal ≡ refusal_number r = ap (λ a. a.refusal) (more h) ∙ e in
+      ap (λ a. a.refusal) (all-stays o f (j + 1) n (omega arith) (λ z. refused r (sym here ∙ z))) ∙ here
+
+  pub applied_all : {j : ℕ} {s : Session} → Applied o f n j (unrefused s) → n ≤ j → Told (Ok s) (cut_all o f n)
+  applied_all {j} h u = let e : j ≡ n = omega (arith, h.most) in (sym (rw e at h.made), h.bounds)
+
+-- a cut that is not refused
+pub cut_told : (s : Session) (c : Cut) {a : Code.AfterCut} {n : ℕ} → SessionInBounds s → after_as a ≡ after_cut s c 512 → a.answer ≡ Ok n
+    → Told (Ok a.session) (after_entry (after_cut s c 512))
+cut_told s c b e was = (ap after_entry (sym e) ∙ rw was refl, rw (← e) at (cut_in_bounds s c 512 b))
+
+-- a profile that opens
+pub opened_told : (p : Profile) {s : Session} → unrefused s ≡ opened p → Told (Ok s) (opened p)
+opened_told p e = (sym e, rw (← e) at (opened_in_bounds p))
 
 -- ---- the text
 
@@ -83,57 +107,48 @@ module _ {l : List ℕ} {place : ℕ} where
 
 -- ---- what is shown
 
+number-shown : (q : Result Code-shown.Shown Refusal) → refusal_of q ≡ (shown_as q).refusal
+number-shown (Ok shown) = refl
+number-shown (Err refusal) = refl
+
 -- what `show` was asked and gave: the lists ls and us were lent, and fs and cs came back
-pub record Asked (s : Session) (r : Shown) (ls us fs cs : List ℤ) : Type 0 where
+pub record Asked (s : Session) (q : Result Code-shown.Shown Refusal) (ls us fs cs : List ℤ) : Type 0 where
   pub bounds : SessionInBounds s
   pub floors-long : length ls ≡ 512
   pub ceilings-long : length us ≡ 512
-  pub answer : r ≡ shown s (length ls) (length us)
-  pub floors : fs ≡ lent_list r.refusal (floor_on s) s.days ls
-  pub ceilings : cs ≡ lent_list r.refusal (ceiling_on s) s.days us
+  pub answer : shown_as q ≡ shown s (length ls) (length us)
+  pub floors : fs ≡ lent_list (refusal_of q) (floor_on s) s.days ls
+  pub ceilings : cs ≡ lent_list (refusal_of q) (ceiling_on s) s.days us
 
 -- with lists of 512 numbers lent: the present ranges
 pub record Showed (s : Session) (r : Shown) (fs cs : List ℤ) : Type 0 where
+  pub none : r.refusal ≡ 0
   pub least : r.lowest ≡ total_floor s
   pub most : r.highest ≡ total_ceiling s
   pub lines : (k : ℕ) → k < s.days → day_line k (on fs k) (on cs k) ≡ day_line k (floor_on s k) (ceiling_on s k)
 
-pub showed : {s : Session} {r : Shown} {ls us fs cs : List ℤ} → Asked s r ls us fs cs → Showed s r fs cs
+pub showed : {s : Session} {q : Result Code-shown.Shown Refusal} {ls us fs cs : List ℤ} → Asked s q ls us fs cs → Showed s (shown_as q) fs cs
 unfolding shown
-showed {s} {r} {ls} {us} {fs} {cs} q =
-    let l = q.floors-long in
-    let u = q.ceilings-long in
-    let m = q.bounds.present.most in
-    let a : r ≡ record { refusal = 0; lowest = total_floor s; highest = total_ceiling s; spent = s.spent } =
-    rw (l, u, le-ltb 512 s.days m) at q.answer in
-    let z : r.refusal ≡ 0 = ap (λ x. x.refusal) a in
-    let g : fs ≡ written (floor_on s) s.days ls = q.floors ∙ list-filled r.refusal (floor_on s) s.days ls z in
-    let d : cs ≡ written (ceiling_on s) s.days us = q.ceilings ∙ list-filled r.refusal (ceiling_on s) s.days us z in
+showed {s} {q} {ls} {us} {fs} {cs} h =
+    let l = h.floors-long in
+    let u = h.ceilings-long in
+    let m = h.bounds.present.most in
+    let a : shown_as q ≡ record { refusal = 0; lowest = total_floor s; highest = total_ceiling s; spent = s.spent } =
+    rw (l, u, le-ltb 512 s.days m) at h.answer in
+    let none : (shown_as q).refusal ≡ 0 = ap (λ x. x.refusal) a in
+    let z : refusal_of q ≡ 0 = number-shown q ∙ none in
+    let g : fs ≡ written (floor_on s) s.days ls = h.floors ∙ list-filled (refusal_of q) (floor_on s) s.days ls z in
+    let d : cs ≡ written (ceiling_on s) s.days us = h.ceilings ∙ list-filled (refusal_of q) (ceiling_on s) s.days us z in
     record {
+      none = none;
       least = ap (λ x. x.lowest) a;
       most = ap (λ x. x.highest) a;
-      lines = λ k h.
-          let low : on fs k ≡ floor_on s k = rw g (written_below (floor_on s) (pos 0) s.days ls k h (omega arith)) in
-          let high : on cs k ≡ ceiling_on s k = rw d (written_below (ceiling_on s) (pos 0) s.days us k h (omega arith)) in
+      lines = λ k below.
+          let low : on fs k ≡ floor_on s k = rw g (written_below (floor_on s) (pos 0) s.days ls k below (omega arith)) in
+          let high : on cs k ≡ ceiling_on s k = rw d (written_below (ceiling_on s) (pos 0) s.days us k below (omega arith)) in
           rw (low, high) refl;
     }
 
--- ---- the stages
-
-module _ {stage : Stage} (n : ℕ) (e : stage ≡ stage_of n) where
-  pub stage_passed : stage ≡ Passed → n ≡ 0
-  stage_passed p = go (eqb n 0) (eqb-true n 0) (sym e ∙ p)
-    where
-      go : (b : Bool) → (b ≡ true → n ≡ 0) → cond b Passed (Refused n) ≡ Passed → n ≡ 0
-      go true h q = h refl
-      go false h q = absurd (let z : ◌≡◌ {A = ℕ} 0 1 = cc in omega arith)
-
-  pub stage_refused : {number : ℕ} → stage ≡ Refused number → n ≡ 0 → ⊥
-  stage_refused p z = let q : stage_of n ≡ Passed = rw (eq-eqb n 0 z) refl in let w : ◌≡◌ {A = ℕ} 0 1 = cc in omega arith
-
-  pub stage_number : number_of stage ≡ n
-  stage_number = rw e (go (eqb n 0) (eqb-true n 0))
-    where
-      go : (b : Bool) → (b ≡ true → n ≡ 0) → number_of (cond b Passed (Refused n)) ≡ n
-      go true h = sym (h refl)
-      go false h = refl
+pub is_shown : {s : Session} {fs cs : List ℤ} (r : Result Code-shown.Shown Refusal) → Showed s (shown_as r) fs cs → IsOk r
+is_shown (Ok shown) h = refl
+is_shown (Err refusal) h = absurd (refused refusal h.none)

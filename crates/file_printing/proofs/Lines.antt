@@ -1,7 +1,7 @@
 -- What holds of cuts one after another, and how long the lines are.
 use mathlib.Core.Path.{◌≡◌, refl, ap, ◌∙◌}
 use mathlib.Core.List.{List, [], ◌∷◌, ◌++◌, append_assoc}
-use Prim.Native.Nat.{ℕ, zero, suc, ◌+◌, ◌≤◌, ◌<◌, ◌^◌}
+use Prim.Native.Nat.{ℕ, zero, suc, ◌+◌, ◌-◌, ◌≤◌, ◌<◌, ◌^◌}
 use native.Mathlib.Numerals.{add-one}
 use native.Mathlib.Omega.{arith}
 use lib.IntN.{ℤ, pos, negsuc}
@@ -53,6 +53,15 @@ module _ (o : Opened) (f : ℕ → Cut) where
   unfolding cut_all
   all-refused h zero = refl
   all-refused h (suc m) = ap (λ a. cut_once a (f m)) (all-refused h m) ∙ once-refused o (f m) h
+
+  -- a refusal stays
+  pub all-stays : (j n : ℕ) → j ≤ n → ((cut_all o f j).refusal ≡ 0 → ⊥) → cut_all o f n ≡ cut_all o f j
+  unfolding cut_all
+  all-stays j n h some = let e : n ≡ j + (n - j) = omega arith in rw e (go (n - j))
+    where
+      go : (d : ℕ) → cut_all o f (j + d) ≡ cut_all o f j
+      go zero = let e : j + 0 ≡ j = omega arith in rw e refl
+      go (suc d) = let e : j + suc d ≡ suc (j + d) = omega arith in rw e (ap (λ a. cut_once a (f (j + d))) (go d) ∙ once-refused (cut_all o f j) (f (j + d)) some)
 
 -- only the first m matter
 pub all_same : (o : Opened) (f g : ℕ → Cut) (m : ℕ) → ((j : ℕ) → j < m → f j ≡ g j) → cut_all o f m ≡ cut_all o g m

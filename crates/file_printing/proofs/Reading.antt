@@ -12,9 +12,8 @@ use Rattle.session_cuts.specs.Sheet.{cuts_of}
 use Rattle.file_format.specs.Format.{day_count, cut_count, floor_at, ceiling_at, rise_at, numbers_in, profile_in, cuts_in}
 use Rattle.file_format.specs.Reading.{early_reading}
 use Rattle.file_format.proofs.Taken.{not-refused}
-use Rattle.file_reading.specs.Reading.{sheet_from, contents, read_from}
+use Rattle.file_reading.specs.Reading.{ReadAnswer, sheet_from, contents, read_from}
 use Rattle.file_reading.proofs.Laws.{read_taken, sheet_cuts}
-use Rattle.file_reading.specs.declared.ReadAnswer.{ReadAnswer}
 
 -- what is handed on of a file that is not refused: its profile and its cuts
 pub record Got (b : List ℕ) (r : ReadAnswer) (fs cs rs : List ℤ) : Type 0 where

@@ -1,11 +1,15 @@
--- A stage's answer by its refusal's number, and the number of an answer. A reader may pass this page over.
-use Rattle.std.specs.Prelude.{cond, ℕ, eqb}
-use Rattle.file_printing.specs.declared.Stage.{Stage}
-use Rattle.file_printing.specs.declared.Stage.TheVariants.{Passed, Refused}
+-- A stage's answer, by what is opened. A reader may pass this page over.
+use Rattle.std.specs.Prelude.{◌≡◌, Result, Ok, Err}
+use Rattle.refusals.specs.declared.Refusal.{Refusal}
+use Rattle.refusals.specs.Number.{refusal_number}
+use Rattle.session.specs.Opening.{Opened}
+use Rattle.session.specs.Showing.{SessionInBounds}
+use Rattle.session.specs.declared.Session.{Session}
 
-abbrev pub stage_of : ℕ → Stage
-stage_of refusal = cond (eqb refusal 0) Passed (Refused refusal)
+abbrev pub unrefused : Session → Opened
+unrefused s = record { refusal = 0; session = s }
 
-abbrev pub number_of : Stage → ℕ
-number_of Passed = 0
-number_of (Refused number) = number
+-- a stage tells the session, or the refusal
+abbrev pub Told : Result Session Refusal → Opened → Type 0
+Told (Ok s) o = (o ≡ unrefused s) × SessionInBounds s
+Told (Err refusal) o = o.refusal ≡ refusal_number refusal

@@ -8,13 +8,15 @@ ghost use Rattle.theory_lists.specs.Front.{in_front};
 ghost use Rattle.theory_lists.specs.Rows.{rows};
 ghost use Rattle.base_codes.specs.Code.{on};
 ghost use Rattle.session.specs.Opening.{opened, profile};
+ghost use Rattle.session_cutting.specs.Cutting.{after_cut};
 ghost use Rattle.session.specs.Showing.{SessionInBounds};
 ghost use Rattle.session_cuts.specs.Sheet.{blank};
-ghost use Rattle.file_printing.specs.Printing.{day_line_length, cut_once, cut_all, range, total_line, day_line, refused_line, ranges_text, printed};
-ghost use Rattle.file_printing.specs.Stages.{stage_of, number_of};
+ghost use Rattle.file_printing.specs.Printing.{day_line_length, after_entry, cut_all, range, total_line, day_line, refused_line, ranges_text, printed};
+ghost use Rattle.file_printing.specs.Stages.{unrefused, Told};
 
 use limits::{MOST_CUTS, MOST_DAYS};
-use session::{Numbers, Opened, Session};
+use refusals::{Refusal, number_of};
+use session::{Numbers, Session};
 use session_cuts::Entry;
 
 // The most bytes of the total's line, of a day's, and of the text.
@@ -26,63 +28,29 @@ pub const MOST_TEXT_BYTES: usize = TOTAL_LINE_BYTES + MOST_DAYS * DAY_LINE_BYTES
 
 const MOST_RISES: usize = MOST_DAYS - 1;
 
-// A stage's answer: that it passed, or the number of its refusal.
-#[derive(Clone, Copy)]
-enum Stage {
-    Passed,
-    Refused(u8),
-}
-
-fn stage_of(refusal: u8) -> Stage
-    ensures { result ≡ stage_of refusal }
-{
-    if refusal == 0 {
-        return Stage::Passed;
-    }
-    Stage::Refused(refusal)
-}
-
-// The refusal's number, 0 for none.
-fn number_of(stage: Stage) -> u8
-    ensures { result ≡ number_of stage }
-{
-    let Stage::Refused(number) = stage else {
-        return 0;
-    };
-    number
-}
-
 // ---- the cuts
 
-fn cut_once(opened: Opened, entry: Entry) -> Opened
-    requires { SessionInBounds opened.session }
-    ensures { (result ≡ cut_once opened entry.cut) × SessionInBounds result.session }
+// The session after one cut more.
+fn cut_once(session: Session, entry: Entry) -> Result<Session, Refusal>
+    requires { SessionInBounds session }
+    ensures { Told result (after_entry (after_cut session entry.cut most_days)) }
 {
-    let Stage::Passed = stage_of(opened.refusal) else {
-        return opened;
-    };
-    let session = opened.session;
-    let cut = entry.cut;
     let mut changed = [0u16; MOST_DAYS];
-    let after = session_lent::cut_held(session, cut, &mut changed);
-    let answer = after.answer;
-    let session = after.session;
-    Opened {
-        refusal: answer.refusal,
-        session,
-    }
+    let after = session_lent::cut_held(session, entry.cut, &mut changed);
+    after.answer?;
+    Ok(after.session)
 }
 
 // Applies the first `count` entries in order, up to the first refusal.
-fn cut_all(opened: Opened, count: usize, entries: [Entry; MOST_CUTS]) -> Opened
-    requires { SessionInBounds opened.session × (count ≤ most_cuts) }
-    ensures { (result ≡ cut_all opened (λ j. (get_or entries j blank).cut) count) × SessionInBounds result.session }
+fn cut_all(session: Session, count: usize, entries: [Entry; MOST_CUTS]) -> Result<Session, Refusal>
+    requires { SessionInBounds session × (count ≤ most_cuts) }
+    ensures { Told result (cut_all (unrefused session) (λ j. (get_or entries j blank).cut) count) }
 {
-    let mut after = opened;
+    let mut after = session;
     for j in 0..count {
-        after = cut_once(after, entries[j]);
+        after = cut_once(after, entries[j])?;
     }
-    after
+    Ok(after)
 }
 
 // ---- the text
@@ -145,7 +113,7 @@ fn put_ranges(session: Session, out: &mut [u8; MOST_TEXT_BYTES]) -> usize
     let days = session.days;
     let mut floors = [0i16; MOST_DAYS];
     let mut ceilings = [0i16; MOST_DAYS];
-    let shown = session.show(&mut floors, &mut ceilings);
+    let shown = session.show(&mut floors, &mut ceilings).unwrap();
     let at = put_total(out, shown.lowest, shown.highest);
     put_days(out, at, days, &floors, &ceilings)
 }
@@ -167,16 +135,20 @@ fn open_read(
     floors: &[i16; MOST_DAYS],
     ceilings: &[i16; MOST_DAYS],
     rises: &[i16; MOST_RISES],
-) -> Opened
+) -> Result<Session, Refusal>
     requires { (0 < numbers.days) × (numbers.days ≤ most_days) }
-    ensures { result ≡ opened (profile numbers (take numbers.days floors.now) (take numbers.days ceilings.now) (take (numbers.days - 1) rises.now)) }
+    ensures { Told result (opened (profile numbers (take numbers.days floors.now) (take numbers.days ceilings.now) (take (numbers.days - 1) rises.now))) }
 {
     let days = numbers.days;
     let low: &[i16] = floors;
     let high: &[i16] = ceilings;
     let least: &[i16] = rises;
     let steps = days - 1;
-    Session::open(numbers, &low[..days], &high[..days], &least[..steps])
+    let opened = Session::open(numbers, &low[..days], &high[..days], &least[..steps]);
+    match opened.refusal {
+        None => Ok(opened.session),
+        Some(refusal) => Err(refusal),
+    }
 }
 
 // Reads a file, opens its profile, applies its cuts in order, and stores at the front of `out` the first refusal, or the ranges.
@@ -188,24 +160,18 @@ pub fn print_ranges(file: &[u8], out: &mut [u8; MOST_TEXT_BYTES]) -> usize
     let mut floors = [0i16; MOST_DAYS];
     let mut ceilings = [0i16; MOST_DAYS];
     let mut rises = [0i16; MOST_RISES];
-    let read = file_reading::read(file, &mut floors, &mut ceilings, &mut rises);
-    let reading = stage_of(read.refusal);
-    let Stage::Passed = reading else {
-        return put_refusal(number_of(reading), out);
+    let reading = file_reading::read(file, &mut floors, &mut ceilings, &mut rises);
+    let Ok(contents) = reading else {
+        return put_refusal(number_of(&reading), out);
     };
-    let numbers = read.numbers;
-    let opened = open_read(numbers, &floors, &ceilings, &rises);
-    let opening = stage_of(opened.refusal);
-    let Stage::Passed = opening else {
-        return put_refusal(number_of(opening), out);
+    let opening = open_read(contents.numbers, &floors, &ceilings, &rises);
+    let Ok(session) = opening else {
+        return put_refusal(number_of(&opening), out);
     };
-    let sheet = read.sheet;
-    let entries = sheet.entries;
-    let after = cut_all(opened, sheet.count, entries);
-    let cutting = stage_of(after.refusal);
-    let Stage::Passed = cutting else {
-        return put_refusal(number_of(cutting), out);
+    let sheet = contents.sheet;
+    let cutting = cut_all(session, sheet.count, sheet.entries);
+    let Ok(session) = cutting else {
+        return put_refusal(number_of(&cutting), out);
     };
-    let session = after.session;
     put_ranges(session, out)
 }

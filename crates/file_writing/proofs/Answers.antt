@@ -30,6 +30,11 @@ use Rattle.file_writing.specs.Writing.{write_as, write_answer, output}
 abbrev pub Answers : Profile → Sheet → List ℕ → Result ℕ Refusal → List ℕ → Type 0
 Answers p s l r out = (write_as r ≡ write_answer p (cuts_of s) (length l)) × (out ≡ output p (cuts_of s) l)
 
+-- the answer by another name
+pub value_told : (p : Profile) (s : Sheet) (l : List ℕ) {out : List ℕ} {x : Result ℕ Refusal} (r : Refusal) → x ≡ Err r → Answers p s l (Err r) out
+    → write_as x ≡ write_answer p (cuts_of s) (length l)
+value_told p s l r e all = rw e all.0
+
 -- the first refusal of the entries, or 0
 abbrev pub entries_refusal : Profile → Sheet → ℕ
 entries_refusal p s = first_nonzero (λ j. malformed p.days (get_or s.entries j blank).cut) s.count

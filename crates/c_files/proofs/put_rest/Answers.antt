@@ -1,5 +1,5 @@
 -- `put_rest` meets its contract: what std's copy leaves is the bytes from `start` on, stored at `place` (`pasted` of Rows).
-use Prim.Native.Nat.{◌+◌, ◌-◌}
+use Prim.Native.Nat.{◌-◌}
 use mathlib.Core.Path.{◌≡◌, ◌∙◌}
 use native.Mathlib.Omega.{arith}
 use lib.ListN.{length, length-drop, take, drop}

@@ -1,5 +1,5 @@
 -- `put_days` meets its contract: the bytes of k days are stored (`Stored`), six to a day.
-use Prim.Native.Nat.{◌+◌, ◌-◌, ◌*◌}
+use Prim.Native.Nat.{◌+◌, ◌*◌}
 use Rattle.base_codes.specs.Code.{on}
 use Rattle.file_format.specs.Format.{day_bytes}
 use Rattle.theory_lists.specs.Rows.{Stored}

@@ -1,5 +1,5 @@
 -- `put_entries` meets its contract: the bytes of j entries are stored (`Stored`), eight to an entry.
-use Prim.Native.Nat.{◌+◌, ◌-◌, ◌*◌}
+use Prim.Native.Nat.{◌+◌, ◌*◌}
 use lib.ListN.{get_or}
 use Rattle.session_cuts.specs.Sheet.{blank}
 use Rattle.file_format.specs.Format.{cut_bytes}

@@ -1,5 +1,4 @@
 -- `put_days` meets its contract: the lines of k days are stored (`Stored`).
-use Prim.Native.Nat.{◌-◌}
 use Rattle.base_codes.specs.Code.{on}
 use Rattle.file_printing.specs.Printing.{day_line}
 use Rattle.theory_lists.specs.Rows.{Stored}

@@ -2,10 +2,9 @@
 use mathlib.Core.Path.{◌≡◌, sym}
 use native.Mathlib.Omega.{arith}
 use borrow.Author.Rules.{rules}
-use Rattle.std.specs.Prelude.{Err}
 use Rattle.session.specs.Opening.{profile, early_opening}
 use Rattle.session.proofs.Entered.{Entered, Sized, entered}
-use Rattle.file_writing.proofs.Answers.{Checked, too_many, bad_profile, bad_cut_lem, too_short, entry_day, written}
+use Rattle.file_writing.proofs.Answers.{Checked, too_many, bad_profile, bad_cut_lem, too_short, entry_day, written, value_told}
 use Rattle.file_writing.proofs.write.Goals as goal
 use Rattle.file_writing.proofs.write.Goals.{In_ok-check_entries}
 
@@ -17,30 +16,32 @@ returns-then-count-gt-MOST_CUTS c =
 
 pub returns-in_err-check_early : goal.returns-in_err-check_early
 returns-in_err-check_early c =
-    let e : c.from_residual.result ≡ Err c.in_err-check_early.field-0.0 = search rules in
-    let all = bad_profile _ c.args.sheet c.args.out.now _ c.if-count-gt-MOST_CUTS.false c.in_err-check_early.ensures in
-    rw e (record { value = all.0; out_after = all.1 })
+    let a = c.args in
+    let r = c.in_err-check_early.field-0.0 in
+    let all = bad_profile (profile a.numbers a.floors.now a.ceilings.now a.rises.now) a.sheet a.out.now r c.if-count-gt-MOST_CUTS.false c.in_err-check_early.ensures in
+    record { value = value_told _ _ _ r (search rules) all; out_after = all.1 }
 
 pub returns-in_err-check_entries : goal.returns-in_err-check_entries
 returns-in_err-check_entries c =
     let a = c.args in
-    let e : c.from_residual-in_err-check_entries.result ≡ Err c.in_err-check_entries.field-0.0 = search rules in
-    let passed : early_opening (profile a.numbers a.floors.now a.ceilings.now a.rises.now) ≡ 0 = omega arith in
-    let all = bad_cut_lem _ a.sheet a.out.now _ (record { few = c.if-count-gt-MOST_CUTS.false; profile = passed }) c.in_err-check_entries.ensures in
-    rw e (record { value = all.0; out_after = all.1 })
+    let p = profile a.numbers a.floors.now a.ceilings.now a.rises.now in
+    let r = c.in_err-check_entries.field-0.0 in
+    let passed : early_opening p ≡ 0 = omega arith in
+    let all = bad_cut_lem p a.sheet a.out.now r (record { few = c.if-count-gt-MOST_CUTS.false; profile = passed }) c.in_err-check_entries.ensures in
+    record { value = value_told _ _ _ r (search rules) all; out_after = all.1 }
 
 -- past the checks of the profile and the cuts
+right : (c : In_ok-check_entries) → Entered (profile c.args.numbers c.args.floors.now c.args.ceilings.now c.args.rises.now)
+right c = entered _ (omega arith)
+
 checked : (c : In_ok-check_entries) → Checked (profile c.args.numbers c.args.floors.now c.args.ceilings.now c.args.rises.now) c.args.sheet
 checked c = record {
-  opens = (record { few = c.if-count-gt-MOST_CUTS.false; profile = sym c.in_ok-check_early.ensures });
+  opens = (record { few = c.if-count-gt-MOST_CUTS.false; profile = omega arith });
   formed = sym c.in_ok-check_entries.ensures;
 }
 
-right : (c : In_ok-check_entries) → Entered (profile c.args.numbers c.args.floors.now c.args.ceilings.now c.args.rises.now)
-right c = entered _ (sym c.in_ok-check_early.ensures)
-
 sizes : (c : In_ok-check_entries) → Sized (profile c.args.numbers c.args.floors.now c.args.ceilings.now c.args.rises.now)
-sizes c = (entered (profile c.args.numbers c.args.floors.now c.args.ceilings.now c.args.rises.now) (sym c.in_ok-check_early.ensures)).sized
+sizes c = (right c).sized
 
 pub day_offset-from-requires : goal.day_offset-from-requires
 day_offset-from-requires c = (sizes (goal.at.day_offset-from-requires c).In_ok-check_entries).few

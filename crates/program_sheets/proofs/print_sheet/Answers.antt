@@ -1,10 +1,11 @@
 -- `print_sheet` meets its contract: a sheet keeps the numbers in bounds, taken or refused.
+use mathlib.Core.Path.{ap, sym, subst}
 use mathlib.Core.Bool.{true, false, cond}
 use Prim.Native.Nat.{ℕ}
 use lib.Dec.{eqb}
 use Rattle.session.specs.Showing.{SessionInBounds}
 use Rattle.session.specs.declared.Session.{Session}
-use Rattle.session_sheets.specs.Sheets.{sheet_refusal, asked_on, taken_sheet, refused_sheet, after_sheet}
+use Rattle.session_sheets.specs.Sheets.{AfterSheet, sheet_refusal, asked_on, taken_sheet, refused_sheet, after_sheet}
 use Rattle.session_sheets.specs.declared.AskedSheet.{AskedSheet}
 use Rattle.session_sheets.proofs.Laws.{after-bounds}
 use Rattle.program_sheets.proofs.print_sheet.Goals as goal
@@ -17,7 +18,7 @@ kept s t answers changed b =
     [ true ↦ after-bounds s (asked_on t) t.count b | false ↦ b ]
 
 pub print_after-requires : goal.print_after-requires
-print_after-requires g c = rw c.cut_sheet-after.ensures.value (kept _ _ _ _ c.requires.0)
+print_after-requires g c = subst SessionInBounds (ap (λ (x : AfterSheet). x.session) (sym c.cut_sheet-after.ensures.value)) (kept _ _ _ _ c.requires.0)
 
 pub returns : goal.returns
-returns g c = rw c.cut_sheet-after.ensures.value (kept _ _ _ _ c.requires.0)
+returns g c = subst SessionInBounds (ap (λ (x : AfterSheet). x.session) (sym c.cut_sheet-after.ensures.value)) (kept _ _ _ _ c.requires.0)
