@@ -1,19 +1,16 @@
 -- `write_through` meets its contract: with the day's floor and ceiling set the ranges are in bounds, and stay so where the floors are carried.
--- What is set, carried and raised is said once, by records and laws of Levels.
+-- What is set, carried and raised is said once, by a record and laws of Levels.
 use mathlib.Core.Path.{refl}
-use lib.ListN.{set}
 use Rattle.schedule_writing.proofs.Levels.{LevelCarried, through-bounds, through-raised}
 use Rattle.schedule_writing.proofs.write_through.Goals as goal
 use Rattle.schedule_writing.proofs.write_through.Goals.{After-carry}
 
 level-carried : (c : After-carry) → let a = c.args in
-    LevelCarried a.floors.now a.ceilings.now a.rises.now a.n a.first a.lowest a.day a.level (set a.floors.now a.day a.level) (set a.ceilings.now a.day a.level)
-    c.carry.result c.carry.new.floors
-level-carried c = record {
-  before = (let p = c.requires in record { bounds = p.0; known = p.1; small = p.2; floors = refl; ceilings = refl });
-  stop = c.carry.ensures.value;
-  forward = c.carry.ensures.floors_after;
-}
+    LevelCarried a.floors.now a.ceilings.now a.rises.now a.n a.first a.lowest a.day a.level c.carry.result c.carry.new.floors
+level-carried c =
+    let p = c.requires in
+    let e = c.carry.ensures in
+    record { bounds = p.0; known = p.1; small = p.2; stop = e.value; forward = e.floors_after }
 
 pub carry-requires : goal.carry-requires
 carry-requires c = c.requires.0.most
