@@ -4,9 +4,10 @@ import re
 
 from checks.tree import CRATES, NOT_CODE, functions
 
-# Names brought in; a call, by a method or by a path, which may give types.
+# Names brought in; a call, by a method or by a path, which may give types; a macro that calls the method `fmt` of what it prints.
 USE = re.compile(r"^use ((?:\w+::)+)(\w+|\{[^}]*\});", re.M)
 CALL = re.compile(r"(\.)?((?:\w+::)*\w+)(?:::<[^<>()]*>)?\(")
+PRINT = re.compile(r"\b(?:write|writeln|print|println)!\(")
 
 
 def called(crate, brought, body):
@@ -17,6 +18,8 @@ def called(crate, brought, body):
         owner = whole[-2] if whole[-2][:1].isupper() else ""
         home = whole[1] if (CRATES / whole[1]).is_dir() and whole[2:] else crate
         yield (None, None, whole[-1]) if method or len(owner) == 1 else (home, owner, whole[-1])
+    if PRINT.search(body):
+        yield None, None, "fmt"
 
 
 def brought_in(source):

@@ -18,7 +18,7 @@ CRATE = re.compile(r"^(\w+)(?: staticlib)?:")
 # A source as `rt fmt` lays it out: what is no code; a trait, whose methods are those of its types; the methods of a type; a function, to the brace below it.
 NOT_CODE = re.compile(r'b"(?:[^"\\]|\\.)*"|//[^\n]*|^ *(?:requires|ensures)\b[^\n]*', re.M | re.S)
 TRAIT = re.compile(r"^(?:pub )?trait .*?^\}", re.M | re.S)
-IMPL = re.compile(r"^impl(?:<[^>]*>)? (?:\w+ for )?(\w+)(?:<[^>]*>)? \{\n(.*?)^\}", re.M | re.S)
+IMPL = re.compile(r"^impl(?:<[^>\n]*>)? (?:[\w:]+ for )?(\w+)(?:<[^>]*>)? \{\n(.*?)^\}", re.M | re.S)
 FUNCTION = re.compile(r'^( *)(?:(pub(?:\(crate\))?) )?(extern "C" )?fn (\w+)(.*?)^\1\}', re.M | re.S)
 
 # A declaration of specs/: a definition, a record, a data type or a law.

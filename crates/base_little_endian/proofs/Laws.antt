@@ -77,6 +77,15 @@ pub i32-to : {z : ℤ} → SFits w32 z → to_le_bytes w32 (of_z w32 (to_z w32 (
 unfolding i32_bytes
 i32-to f = rw (to_z-of_z f) (u32-to (Fits-of_z f))
 
+pub four_stored : (l : List ℕ) (i : ℕ) (z : ℤ) {bytes : List ℕ} → bytes ≡ i32_bytes z
+    → set (set (set (set l i (at bytes 0)) (i + 1) (at bytes 1)) (i + 2) (at bytes 2)) (i + 3) (at bytes 3) ≡ sets l i (i32_bytes z)
+unfolding i32_bytes u32_bytes u16_bytes
+four_stored l i z e =
+    let b : i + 1 ≡ suc i = omega arith in
+    let c : i + 2 ≡ suc (suc i) = omega arith in
+    let d : i + 3 ≡ suc (suc (suc i)) = omega arith in
+    rw (e, b, c, d) refl
+
 -- ---- read back
 
 module _ {b : List ℕ} where

@@ -31,9 +31,8 @@ pub fn i32_at(bytes: &[u8], at: usize) -> i32
     i32::from_le_bytes([bytes[at], bytes[at + 1], bytes[at + 2], bytes[at + 3]])
 }
 
-// ---- stored
+// ---- stored, byte by byte: std's copy of so few was slower on the board, since it asks each time which of both lists lies first
 
-// Two stores, since std's copy of 2 bytes was slower on the board: it asks each time which of both lists lies first.
 pub fn put_u16(out: &mut [u8], at: usize, x: u16)
     requires { at + 2 ≤ length out.old }
     ensures { out.new ≡ sets out.old at (u16_bytes x) }
@@ -54,5 +53,9 @@ pub fn put_i32(out: &mut [u8], at: usize, z: i32)
     requires { at + 4 ≤ length out.old }
     ensures { out.new ≡ sets out.old at (i32_bytes z) }
 {
-    out[at..at + 4].copy_from_slice(&z.to_le_bytes());
+    let [first, second, third, fourth] = z.to_le_bytes();
+    out[at] = first;
+    out[at + 1] = second;
+    out[at + 2] = third;
+    out[at + 3] = fourth;
 }

@@ -1,6 +1,6 @@
 -- What holds of lists whose lengths were checked, of the points stored from them, and of lists that points are stored into.
 use mathlib.Core.Path.{◌≡◌, refl, ap, sym, ◌∙◌}
-use mathlib.Core.Bool.{Bool, true, false, cond, ◌&&◌, and-eq-true_iff}
+use mathlib.Core.Bool.{Bool, ◌&&◌, and-eq-true_iff}
 use mathlib.Core.List.{List}
 use Prim.Native.Nat.{ℕ, ◌-◌, ◌*◌, ◌≤◌, ◌<◌}
 use native.Mathlib.Omega.{arith}
@@ -16,24 +16,10 @@ use Rattle.theory_lists.specs.Lent.{lent_list, list-filled}
 use Rattle.theory_lists.specs.Front.{in_front}
 use Rattle.theory_lists.specs.Rows.{rows, rows_same, length-rows, front-sets}
 use Rattle.base_codes.specs.Code.{on}
-use Rattle.session.proofs.Lengths.{days-taken}
 use Rattle.base_little_endian.specs.Fields.{i16_bytes}
 use Rattle.base_little_endian.proofs.Laws.{i16_length}
 use Rattle.c_lists.specs.Lists.{point_at, points_in, point_bytes, lent_points}
-use Rattle.c_lists.specs.Profiles.{ByteProfile, have_lengths, byte_counts_refusal, byte_length_refusal}
-
--- ---- the lengths by what the tests found
-
-module _ (n floors ceilings rises : ℕ) {found : Bool} (some : n ≡ 0 → ⊥) (few : n ≤ 512) (e : found ≡ have_lengths n floors ceilings rises) where
-  judged : cond {A = ℕ} found 0 2 ≡ byte_counts_refusal n floors ceilings rises
-  unfolding byte_counts_refusal
-  judged = ap (λ b. cond b 0 2) e ∙ days-taken n (cond (have_lengths n floors ceilings rises) 0 2) some few
-
-  pub lengths_wrong : found ≡ false → 2 ≡ byte_counts_refusal n floors ceilings rises
-  lengths_wrong h = ap (λ b. cond b 0 2) (sym h) ∙ judged
-
-  pub lengths_right : found ≡ true → 0 ≡ byte_counts_refusal n floors ceilings rises
-  lengths_right h = ap (λ b. cond b 0 2) (sym h) ∙ judged
+use Rattle.c_lists.specs.Profiles.{ByteProfile, byte_counts_refusal, byte_length_refusal}
 
 -- what 1 and 2 let pass
 pub record Long (h : ByteProfile) : Type 0 where

@@ -92,6 +92,7 @@ pub fn code_ranges(
 }
 
 // Stores n points from a place on, the k-th as `point` gives it.
+#[tactic(auto, unfolding(crate::specs::Lists::point_bytes))]
 pub fn put_each_point<F: Fn(usize) -> i16>(n: usize, place: usize, out: &mut [u8], point: F)
     requires { (n ≤ most_days) × (place + n * 2 ≤ length out.old) × ((k : ℕ) → k < n → F.pre point k) }
     ensures { (f : ℕ → ℤ) → ((k : ℕ) (z : _) → k < n → F.post point k z → z ≡ f k) → out.new ≡ sets out.old place (point_bytes f n) }
@@ -118,23 +119,16 @@ pub fn put_levels(levels: &[u16; MOST_DAYS], n: usize, out: &mut [u8])
     put_each_point(n, 0, out, |k| decode_short(levels[k], LOWEST_POINT));
 }
 
-// Stores n unsigned numbers from a place on, the k-th as `cell` gives it.
-pub fn put_each_cell<F: Fn(usize) -> u16>(n: usize, place: usize, out: &mut [u8], cell: F)
-    requires { (n ≤ most_days) × (place + n * 2 ≤ length out.old) × ((k : ℕ) → k < n → F.pre cell k) }
-    ensures { (f : ℕ → ℕ) → ((k : ℕ) (x : _) → k < n → F.post cell k x → x ≡ f k) → out.new ≡ sets out.old place (cell_bytes f n) }
-{
-    for j in 0..n as u32 {
-        let k = j as usize;
-        put_u16(out, place + k * 2, cell(k));
-    }
-}
-
 // Stores n unsigned numbers from a place on.
+#[tactic(auto, unfolding(crate::specs::Lists::cell_bytes))]
 pub fn put_cells(cells: &[u16; MOST_DAYS], n: usize, place: usize, out: &mut [u8])
     requires { (n ≤ most_days) × (place + n * 2 ≤ length out.old) }
     ensures { out.new ≡ sets out.old place (cell_bytes (at cells.now) n) }
 {
-    put_each_cell(n, place, out, |k| cells[k]);
+    for j in 0..n as u32 {
+        let k = j as usize;
+        put_u16(out, place + k * 2, cells[k]);
+    }
 }
 
 // Whether a profile's lists are as long as its days ask, by their counts of bytes.
@@ -146,6 +140,7 @@ fn have_lengths(days: usize, floors: usize, ceilings: usize, rises: usize) -> bo
 }
 
 // 1 for a bad day count, then 2 for a list of the wrong length.
+#[tactic(auto, unfolding(crate::specs::Profiles::byte_counts_refusal))]
 pub fn check_lengths(
     days: usize,
     floors: usize,

@@ -1,5 +1,5 @@
 // What a session's bytes hold, each part read when it is needed.
-#![tactic(auto)]
+#![tactic(auto, using(c_layout::proofs::Held::days_few))]
 
 ghost use Rattle.std.specs.Prelude.{◌≡◌, ◌+◌, ◌*◌, ◌≤◌, ◌<◌, min, length};
 ghost use Rattle.std.proofs.lemmas.List.Edits.{sets};
@@ -71,6 +71,7 @@ pub fn level(bytes: &[u8], place: usize) -> u16
 
 // ---- parts of the session, each read when it is needed
 
+#[tactic(auto, unfolding(c_layout::specs::Layout::decoding))]
 pub fn days_of(bytes: &[u8]) -> usize
     requires { length bytes.now ≡ session_bytes }
     ensures { result ≡ (decoding bytes.now).days }
@@ -79,6 +80,7 @@ pub fn days_of(bytes: &[u8]) -> usize
 }
 
 // The first counted day, one of the session's days.
+#[tactic(auto, unfolding(c_layout::specs::Layout::decoding))]
 pub fn first_of(bytes: &[u8]) -> usize
     requires { length bytes.now ≡ session_bytes }
     ensures { result ≡ (decoding bytes.now).first }
@@ -87,6 +89,7 @@ pub fn first_of(bytes: &[u8]) -> usize
     usize::from(u16_at(bytes, FIRST_AT)).min(last)
 }
 
+#[tactic(auto, unfolding(c_layout::specs::Layout::decoding))]
 pub fn is_spent(bytes: &[u8]) -> bool
     requires { length bytes.now ≡ session_bytes }
     ensures { result ≡ (decoding bytes.now).spent }
@@ -95,6 +98,7 @@ pub fn is_spent(bytes: &[u8]) -> bool
 }
 
 // The total's present range.
+#[tactic(auto, unfolding(c_layout::specs::Layout::decoding, c_layout::specs::Layout::ranges_at))]
 pub fn total_of(bytes: &[u8]) -> TotalRange
     requires { length bytes.now ≡ session_bytes }
     ensures { (result.lowest ≡ (decoding bytes.now).present.lowest) × (result.highest ≡ (decoding bytes.now).present.highest) }

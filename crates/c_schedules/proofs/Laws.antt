@@ -21,8 +21,7 @@ use Rattle.session.specs.Showing.{SessionInBounds}
 use Rattle.session.specs.declared.Session.{Session}
 use Rattle.schedule_raising.specs.Raising.{raised_to}
 use Rattle.schedule_writing.specs.Writing.{day_write_refusal, levels_through}
-use Rattle.schedule_writing.specs.Stages.{refused_as, checked, day_checked}
-use Rattle.schedule_writing.specs.declared.Checked.{Checked}
+use Rattle.schedule_writing.specs.Stages.{ValueChecked, refused_as, taken, checked, day_checked}
 use Rattle.schedule_writing.proofs.Levels.{Standing}
 use Rattle.schedule_writing.proofs.Stages.{present-bounds, DayTaken, TotalTaken, day_asks, day_standing, day-refusal, total_asks, total_standing, total-refusal}
 use Rattle.schedule_inspection.specs.Inspecting.{Finding, refused, judged}
@@ -48,11 +47,11 @@ module _ (s : Session) (day : ℕ) (value : ℤ) where
   day_there : day < s.days → day_checked s day value ≡ checked_for s (Day day) value
   day_there h = rw (lt-ltb day s.days h)
 
-  pub day-read : day < s.days → {floor ceiling : ℕ} {spent : Bool} {q : Checked} → (floor ≡ at s.present.floors day) × (ceiling ≡ at s.present.ceilings day) × (spent ≡ s.spent)
+  pub day-read : day < s.days → {floor ceiling : ℕ} {spent : Bool} {q : ValueChecked} → (floor ≡ at s.present.floors day) × (ceiling ≡ at s.present.ceilings day) × (spent ≡ s.spent)
       → q ≡ checked lowest_point floor ceiling spent value → q ≡ checked_for s (Day day) value
   day-read h r e = (rw (r.0, r.1, r.2) at e) ∙ day_there h
 
-pub total-read : (s : Session) (value : ℤ) {lowest highest : ℕ} {spent : Bool} {q : Checked} → (lowest ≡ s.present.lowest) × (highest ≡ s.present.highest) × (spent ≡ s.spent)
+pub total-read : (s : Session) (value : ℤ) {lowest highest : ℕ} {spent : Bool} {q : ValueChecked} → (lowest ≡ s.present.lowest) × (highest ≡ s.present.highest) × (spent ≡ s.spent)
     → q ≡ checked lowest_total lowest highest spent value → q ≡ checked_for s Total value
 total-read s value r e = rw (r.0, r.1, r.2) at e
 
@@ -76,32 +75,31 @@ pub record PointsStanding (f : ℕ → ℤ) (n : ℕ) (out : List ℕ) : Type 0 
 points_of_lem : {x : ℕ → ℕ} {n : ℕ} {out : List ℕ} → Standing x n out → PointsStanding (λ k. decoded lowest_point (x k)) n out
 points_of_lem d = record { here = λ k h. ap (decoded lowest_point) (d.here k h); small = d.small }
 
--- a value that is not refused
-pub record Taken (s : Session) (subject : Subject) (value : ℤ) (q : Checked) : Type 0 where
+-- a value that is not refused, and its code
+pub record Taken (s : Session) (subject : Subject) (value : ℤ) (code : ℕ) : Type 0 where
   pub bounds : SessionInBounds s
-  pub right : q ≡ checked_for s subject value
-  pub none : q.refusal ≡ 0
+  pub right : taken code ≡ checked_for s subject value
 
-module _ {s : Session} {value : ℤ} {q : Checked} where
-  day-taken : (day : ℕ) → Taken s (Day day) value q → DayTaken s day value q
+module _ {s : Session} {value : ℤ} {code : ℕ} where
+  day-taken : (day : ℕ) → Taken s (Day day) value code → DayTaken s day value code
   day-taken day t = go (dec_lt day s.days)
     where
-      go : Dec (day < s.days) → DayTaken s day value q
-      go (yes h) = record { bounds = t.bounds; known = h; right = t.right ∙ sym (day_there s day value h); none = t.none }
+      go : Dec (day < s.days) → DayTaken s day value code
+      go (yes h) = record { bounds = t.bounds; known = h; right = t.right ∙ sym (day_there s day value h) }
       go (no h) =
           let l : s.days ≤ day = omega arith in
-          let z : 7 ≡ q.refusal = ap (λ c. c.refusal) (day_missing s day value l ∙ sym t.right) in
-          absurd (omega (arith, t.none))
+          let z : 7 ≡ 0 = ap (λ c. c.refusal) (day_missing s day value l ∙ sym t.right) in
+          absurd (omega (arith, z))
 
-  total-taken : Taken s Total value q → TotalTaken s value q
-  total-taken t = record { bounds = t.bounds; right = t.right; none = t.none }
+  total-taken : Taken s Total value code → TotalTaken s value code
+  total-taken t = record { bounds = t.bounds; right = t.right }
 
   -- its code is what writing asks for, and the levels that are written are the schedule's
-  pub code_fits : (subject : Subject) → Taken s subject value q → CodeFits s subject q.code
+  pub code_fits : (subject : Subject) → Taken s subject value code → CodeFits s subject code
   code_fits (Day day) t = let a = day_asks (day-taken day t) in (a.1, a.2)
   code_fits Total t = (total_asks (total-taken t)).highest
 
-  pub points_standing : (subject : Subject) → Taken s subject value q → {out : List ℕ} → out ≡ written (levels_for s subject q.code) s.days s.present.floors
+  pub points_standing : (subject : Subject) → Taken s subject value code → {out : List ℕ} → out ≡ written (levels_for s subject code) s.days s.present.floors
       → PointsStanding (setpoint_for s subject value) s.days out
   points_standing (Day day) t e = points_of_lem (day_standing (day-taken day t) e)
   points_standing Total t e = points_of_lem (total_standing (total-taken t) e)
@@ -169,23 +167,23 @@ module _ (b : List ℕ) (subject : Subject) (value : ℤ) (l : List ℕ) where
   unfolding both write_refusal
   write_unread e = (rw e refl, sym (points_left 2 _ _ l (λ z. absurd (omega arith))))
 
-  module _ (right : both b l ≡ true) {q : Checked} (e : q ≡ checked_for (decoding b) subject value) where
-    number : q.refusal ≡ write_refusal b subject value l
+  module _ (right : both b l ≡ true) where
+    number : {q : ValueChecked} → q ≡ checked_for (decoding b) subject value → q.refusal ≡ write_refusal b subject value l
     unfolding both write_refusal
-    number = rw right (ap (λ c. c.refusal) e ∙ refusal_for_lem (decoding b) subject value)
+    number e = rw right (ap (λ c. c.refusal) e ∙ refusal_for_lem (decoding b) subject value)
 
-    pub write-refused : (q.refusal ≡ 0 → ⊥) → Writes q.refusal l
-    write-refused h = (number, sym (points_left q.refusal _ _ l h))
+    pub write-refused : {refusal : ℕ} → refused_as refusal ≡ checked_for (decoding b) subject value → (refusal ≡ 0 → ⊥) → Writes refusal l
+    write-refused {refusal} e h = (number e, sym (points_left refusal _ _ l h))
 
     -- the points of the levels are stored
-    pub write-all : q.refusal ≡ 0 → {n : ℕ} → n ≡ (decoding b).days → length l ≡ n * 2 → {levels out : List ℕ}
+    pub write-all : {code : ℕ} → taken code ≡ checked_for (decoding b) subject value → {n : ℕ} → n ≡ (decoding b).days → length l ≡ n * 2 → {levels out : List ℕ}
         → PointsStanding (setpoint_for (decoding b) subject value) (decoding b).days levels → out ≡ sets l 0 (point_bytes (λ k. decoded lowest_point (at levels k)) n) → Writes 0 out
-    write-all z d long p w = (
-      sym z ∙ number,
+    write-all e d long p w = (
+      number e,
       points_front (setpoint_for (decoding b) subject value) _ (decoding b).days l p.here (omega arith) (rw d at w) ∙ sym (points_filled 0 _ _ l refl),
     )
 
--- ---- judge_points and judge
+-- ---- judge_points and inspect
 
 -- the first n points of a list
 module _ (l : List ℕ) (n : ℕ) where
@@ -226,7 +224,3 @@ module _ (b l : List ℕ) where
     pub inspect_judged : spent ≡ false → {f : Finding} → f ≡ judged (decoding b) (points_in l (decoding b).days) → f ≡ inspected_over b l
     unfolding both inspected_over
     inspect_judged h f = rw right (f ∙ unspent-judged (decoding b) (points_in l (decoding b).days) (points_long l (decoding b).days) (sym e ∙ h))
-
--- a finding by its numbers
-pub found : {refusal rule place : ℕ} {f : Finding} → (refusal ≡ f.refusal) × (rule ≡ f.rule) × (place ≡ f.place) → record { refusal = refusal; rule = rule; place = place } ≡ f
-found e = λ i. record { refusal = e.0 i; rule = e.1 i; place = e.2 i }

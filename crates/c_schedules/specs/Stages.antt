@@ -4,13 +4,12 @@ use Rattle.limits.specs.Limits.{highest_level, highest_total_code}
 use Rattle.session.specs.declared.Session.{Session}
 use Rattle.schedule_raising.specs.Raising.{raised_to}
 use Rattle.schedule_writing.specs.Writing.{levels_through}
-use Rattle.schedule_writing.specs.Stages.{refused_as, day_checked, total_checked}
-use Rattle.schedule_writing.specs.declared.Checked.{Checked}
+use Rattle.schedule_writing.specs.Stages.{ValueChecked, refused_as, day_checked, total_checked}
 use Rattle.c_schedules.specs.declared.Subject.{Subject}
 use Rattle.c_schedules.specs.declared.Subject.TheVariants.{Day, Total}
 
 -- a value by its subject's present range. 7: a day not in the profile; then 9 and 10
-abbrev pub checked_for : Session → Subject → ℤ → Checked
+abbrev pub checked_for : Session → Subject → ℤ → ValueChecked
 checked_for s (Day day) value = cond (ltb day s.days) (day_checked s day value) (refused_as 7)
 checked_for s Total value = total_checked s value
 

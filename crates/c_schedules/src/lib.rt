@@ -4,7 +4,9 @@
 ghost use Rattle.std.specs.Prelude.{◌≡◌, ◌*◌, length};
 ghost use Rattle.theory_lists.specs.Written.{written};
 ghost use Rattle.theory_method.specs.Filter.{zeros};
-ghost use Rattle.schedule_inspection.specs.Inspecting.{finding, judged};
+ghost use Rattle.refusals.specs.Number.{refusal_of};
+ghost use Rattle.schedule_writing.specs.Stages.{value_as};
+ghost use Rattle.schedule_inspection.specs.Inspecting.{found, finding, judged};
 ghost use Rattle.c_lists.specs.Lists.{points_in, lent_points};
 ghost use Rattle.c_layout.specs.Layout.{session_bytes, decoding};
 ghost use Rattle.c_schedules.specs.Schedules.{setpoint_for, write_refusal, inspected_over};
@@ -14,17 +16,9 @@ use c_layout::SESSION_BYTES;
 use c_lists::{code_points, put_levels};
 use c_loading::{ceiling_of, days_of, first_of, floor_of, is_spent, load_present, total_of};
 use limits::{HIGHEST_SETPOINT, LOWEST_SETPOINT, MOST_DAYS};
-use schedule_inspection::Inspection;
-use schedule_writing::{Checked, write_through};
-
-// What inspecting finds: the refusal's number; the rule that is broken, 0 for none, 1 for a day's range, 2 for a rise, 3 for the total's range; and the
-// number of the day or rise.
-#[derive(Clone, Copy)]
-pub struct Finding {
-    pub refusal: u8,
-    pub rule: usize,
-    pub place: usize,
-}
+use refusals::Refusal;
+use schedule_inspection::Finding;
+use schedule_writing::write_through;
 
 // What a schedule is written for.
 #[derive(Clone, Copy)]
@@ -34,15 +28,12 @@ pub enum Subject {
 }
 
 // Checks 7, 9 and 10 of a value for a day.
-fn check_day(session: &[u8], day: usize, value: i32) -> Checked
+fn check_day(session: &[u8], day: usize, value: i32) -> Result<usize, Refusal>
     requires { length session.now ≡ session_bytes }
-    ensures { result ≡ checked_for (decoding session.now) (Subject.Day day) value }
+    ensures { value_as result ≡ checked_for (decoding session.now) (Subject.Day day) value }
 {
     if days_of(session) <= day {
-        return Checked {
-            refusal: 7,
-            code: 0,
-        };
+        return Err(Refusal::Day);
     }
     schedule_writing::check_day(
         value,
@@ -53,17 +44,17 @@ fn check_day(session: &[u8], day: usize, value: i32) -> Checked
 }
 
 // Checks 9 and 10 of a value for the total.
-fn check_total(session: &[u8], value: i32) -> Checked
+fn check_total(session: &[u8], value: i32) -> Result<usize, Refusal>
     requires { length session.now ≡ session_bytes }
-    ensures { result ≡ checked_for (decoding session.now) Subject.Total value }
+    ensures { value_as result ≡ checked_for (decoding session.now) Subject.Total value }
 {
     let total = total_of(session);
     schedule_writing::check_total(value, total.lowest, total.highest, is_spent(session))
 }
 
-fn check(session: &[u8], subject: Subject, value: i32) -> Checked
+fn check(session: &[u8], subject: Subject, value: i32) -> Result<usize, Refusal>
     requires { length session.now ≡ session_bytes }
-    ensures { result ≡ checked_for (decoding session.now) subject value }
+    ensures { value_as result ≡ checked_for (decoding session.now) subject value }
 {
     match subject {
         Subject::Day(day) => check_day(session, day, value),
@@ -90,69 +81,29 @@ fn load_levels(session: &[u8], subject: Subject, code: usize, levels: &mut [u16;
     }
 }
 
-pub fn write(session: &[u8], subject: Subject, value: i32, list: &mut [u8]) -> u8
-    ensures value { result ≡ write_refusal session.now subject value list.old }
-    ensures list_after { list.new ≡ lent_points result (setpoint_for (decoding session.now) subject value) (decoding session.now).days list.old }
+// Fills a list with the schedule for its subject's value.
+pub fn write(session: &[u8], subject: Subject, value: i32, list: &mut [u8]) -> Result<(), Refusal>
+    ensures value { refusal_of result ≡ write_refusal session.now subject value list.old }
+    ensures list_after { list.new ≡ lent_points (refusal_of result) (setpoint_for (decoding session.now) subject value) (decoding session.now).days list.old }
 {
     if session.len() != SESSION_BYTES {
-        return 2;
+        return Err(Refusal::Length);
     }
     let n = days_of(session);
     if list.len() != n * 2 {
-        return 2;
+        return Err(Refusal::Length);
     }
-    let checked = check(session, subject, value);
-    if checked.refusal != 0 {
-        return checked.refusal;
-    }
+    let code = check(session, subject, value)?;
     let mut levels = [0u16; MOST_DAYS];
-    load_levels(session, subject, checked.code, &mut levels);
+    load_levels(session, subject, code, &mut levels);
     put_levels(&levels, n, list);
-    0
-}
-
-// What an answer says by numbers.
-fn number(answer: Inspection) -> Finding
-    ensures { (result.refusal ≡ (finding answer).refusal) × (result.rule ≡ (finding answer).rule) × (result.place ≡ (finding answer).place) }
-{
-    match answer {
-        Inspection::WrongLength => Finding {
-            refusal: 2,
-            rule: 0,
-            place: 0,
-        },
-        Inspection::Spent => Finding {
-            refusal: 9,
-            rule: 0,
-            place: 0,
-        },
-        Inspection::Kept => Finding {
-            refusal: 0,
-            rule: 0,
-            place: 0,
-        },
-        Inspection::BrokenDay(day) => Finding {
-            refusal: 0,
-            rule: 1,
-            place: day,
-        },
-        Inspection::BrokenRise(rise) => Finding {
-            refusal: 0,
-            rule: 2,
-            place: rise,
-        },
-        Inspection::BrokenTotal => Finding {
-            refusal: 0,
-            rule: 3,
-            place: 0,
-        },
-    }
+    Ok(())
 }
 
 // Judges a list that is n long by the present ranges and rises.
-fn judge_points(session: &[u8], list: &[u8]) -> Inspection
+fn judge_points(session: &[u8], list: &[u8]) -> Finding
     requires { (length session.now ≡ session_bytes) × (length list.now ≡ (decoding session.now).days * 2) }
-    ensures { finding result ≡ judged (decoding session.now) (points_in list.now (decoding session.now).days) }
+    ensures { found result ≡ judged (decoding session.now) (points_in list.now (decoding session.now).days) }
 {
     let n = days_of(session);
     let first = first_of(session);
@@ -175,23 +126,18 @@ fn judge_points(session: &[u8], list: &[u8]) -> Inspection
     )
 }
 
-fn judge(session: &[u8], list: &[u8]) -> Inspection
+// Judges a schedule by the session's present ranges and rises.
+pub fn inspect(session: &[u8], list: &[u8]) -> Result<Finding, Refusal>
     ensures { finding result ≡ inspected_over session.now list.now }
 {
     if session.len() != SESSION_BYTES {
-        return Inspection::WrongLength;
+        return Err(Refusal::Length);
     }
     if list.len() != days_of(session) * 2 {
-        return Inspection::WrongLength;
+        return Err(Refusal::Length);
     }
     if is_spent(session) {
-        return Inspection::Spent;
+        return Err(Refusal::Spent);
     }
-    judge_points(session, list)
-}
-
-pub fn inspect(session: &[u8], list: &[u8]) -> Finding
-    ensures { record { refusal = result.refusal; rule = result.rule; place = result.place } ≡ inspected_over session.now list.now }
-{
-    number(judge(session, list))
+    Ok(judge_points(session, list))
 }

@@ -197,11 +197,7 @@ pub fn cut(
 
 // ---- showing
 
-pub fn show(
-    session: &[u8],
-    floors: &mut [u8],
-    ceilings: &mut [u8],
-) -> Result<Shown, Refusal>
+pub fn show(session: &[u8], floors: &mut [u8], ceilings: &mut [u8]) -> Result<Shown, Refusal>
     ensures value { shown_as result ≡ shown_over session.now (length floors.old) (length ceilings.old) }
     ensures floors_after { floors.new ≡ lent_points (refusal_of result) (floor_on (decoding session.now)) (decoding session.now).days floors.old }
     ensures ceilings_after { ceilings.new ≡ lent_points (refusal_of result) (ceiling_on (decoding session.now)) (decoding session.now).days ceilings.old }

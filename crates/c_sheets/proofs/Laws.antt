@@ -1,8 +1,6 @@
 -- A sheet on a session's bytes: an answer's bytes, the cuts of a list made one after another, what is loaded, and what is stored in the end.
 use Rattle.std.specs.Prelude.{Option, Result, Ok, Err}
-use Rattle.std.specs.Result.{result_unwrap_or}
 use Rattle.refusals.specs.declared.Refusal.{Refusal}
-use Rattle.refusals.specs.Number.{refusal_of}
 use Prim.Native.Nat.{ℕ, ◌+◌, ◌*◌, ◌/◌, ◌%◌, ◌≤◌, ◌<◌}
 use mathlib.Core.Path.{◌≡◌, refl, ap, sym, subst, ◌∙◌}
 use mathlib.Core.Bool.{Bool, true, false}
@@ -49,15 +47,6 @@ answer-length a = length-append (u16_bytes a.refusal) (u16_bytes a.changed) ∙ 
 
 pub answers-length : (s : Session) (cuts : List ℕ) (m : ℕ) → length (answers_bytes s cuts m) ≡ m * 4
 answers-length s cuts m = length-rows (λ j. answer_bytes (answer_on s (asked_at cuts) j)) 4 m (λ k _. answer-length (answer_on s (asked_at cuts) k))
-
--- an answer's two numbers, as the code finds them
-pub number-told : (a : Result ℕ Refusal) → refusal_of a ≡ (answer_as a).refusal
-number-told (Ok changed) = refl
-number-told (Err refusal) = refl
-
-pub changed-told : (a : Result ℕ Refusal) → result_unwrap_or a 0 ≡ (answer_as a).changed
-changed-told (Ok changed) = refl
-changed-told (Err refusal) = refl
 
 -- the number of changed days stored behind the refusal
 pub answer_stored : (a : CutAnswer) (l : List ℕ) (place : ℕ) {k n : ℕ} {m out : List ℕ} → k ≡ a.refusal → n ≡ a.changed → m ≡ sets l place (u16_bytes k) → out ≡ sets m (place + 2) (u16_bytes n)

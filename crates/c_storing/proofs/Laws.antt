@@ -1,22 +1,14 @@
 -- Bytes stored one part after another.
-use Prim.Native.Nat.{ℕ, zero, suc, ◌+◌, ◌≤◌}
+use Prim.Native.Nat.{ℕ, ◌+◌, ◌≤◌}
 use mathlib.Core.Path.{◌≡◌, refl, ◌∙◌}
-use mathlib.Core.List.{List, [], ◌∷◌, ◌++◌, append-nil}
-use Rattle.std.proofs.Common.{append_assoc}
-use native.Mathlib.Numerals.{add-one}
+use mathlib.Core.List.{List, ◌++◌, append-nil}
 use native.Mathlib.Omega.{arith}
-use lib.ListN.{length, length-append, length-drop, replicate, replicate-append-replicate, take, drop}
-use lib.Seq.{sets, sets-eq, drop-length, drop-drop, get_or-take}
+use lib.ListN.{length, length-append}
+use lib.Seq.{sets, drop-length}
 use Rattle.theory_lists.specs.Front.{in_front}
 use Rattle.theory_lists.specs.Part.{stored_before, stored_past}
 use Rattle.base_little_endian.specs.Fields.{u16_at}
-use Rattle.theory_lists.specs.Rows.{rows, front-sets, stored_after}
-
--- rows of one element each
-pub rows-replicate : {A : Type 0} (a : A) (n : ℕ) → rows (λ k. a ∷ []) n ≡ replicate n a
-unfolding rows
-rows-replicate a zero = refl
-rows-replicate a (suc n) = rw (rows-replicate a n) (rw (add-one n) at (replicate-append-replicate n 1 a))
+use Rattle.theory_lists.specs.Rows.{front-sets, stored_after}
 
 -- w numbers, xs, stored from a place on
 pub record Laid (l : List ℕ) (place : ℕ) (xs : List ℕ) (w : ℕ) (out : List ℕ) : Type 0 where
@@ -38,16 +30,6 @@ module _ {l m out xs : List ℕ} {place w : ℕ} (h : Laid l place xs w m) (ys :
 pub sets-whole : (xs l : List ℕ) → length xs ≡ length l → sets l 0 xs ≡ xs
 unfolding in_front
 sets-whole xs l e = front-sets xs l (omega arith) ∙ rw (e, drop-length) (append-nil xs)
-
--- ---- the part behind a place, lent apart
-
-pub back_sets : (xs l : List ℕ) (i : ℕ) → i + length xs ≤ length l → take i l ++ sets (drop i l) 0 xs ≡ sets l i xs
-unfolding in_front
-back_sets xs l i h = rw (front-sets xs (drop i l) (omega (arith, length-drop i l)), drop-drop (length xs) i l, sets-eq xs l i h) (rw append_assoc refl)
-
-pub field_front : (l : List ℕ) (i k : ℕ) → k + 2 ≤ i → u16_at (take i l) k ≡ u16_at l k
-unfolding u16_at
-field_front l i k h = rw (get_or-take i l k 0 (omega arith), get_or-take i l (k + 1) 0 (omega arith)) refl
 
 -- ---- a field that no store reached
 

@@ -1,5 +1,5 @@
 // A session's bytes stored: a fresh session whole, and what a cut changes.
-#![tactic(auto)]
+#![tactic(auto, using(c_layout::proofs::Held::days_few))]
 
 ghost use Rattle.std.specs.Prelude.{◌≡◌, true, false, ◌++◌, ◌+◌, ◌-◌, ◌*◌, ◌≤◌, min, length, replicate};
 ghost use Rattle.std.proofs.lemmas.List.Edits.{sets};
@@ -23,7 +23,7 @@ use c_layout::{
     BLOCK_BYTES, CELL_BYTES, DAYS_AT, FIRST_AT, MARK_AT, OPENED_AT, OPENED_TOTALS_AT, PRESENT_AT,
     PRESENT_TOTALS_AT, RISES_AT, TOTAL_BYTES,
 };
-use c_lists::{put_cells, put_each_cell};
+use c_lists::put_cells;
 use c_loading::{days_of, level, totals};
 use limits::MOST_DAYS;
 use session::Session;
@@ -150,13 +150,18 @@ pub fn store_cut(
     session_order::list_losers(losses, n, floors, ceilings, changed)
 }
 
-// Stores n levels from one place at a place behind them.
+// Stores n levels from one place at a place behind them. A loop of its own, since it reads the bytes that it stores to: lent in two parts
+// (`split_at_mut`) it took more of the board's instructions.
+#[tactic(auto, unfolding(c_lists::specs::Lists::cell_bytes))]
 fn copy_levels(bytes: &mut [u8], from: usize, n: usize, place: usize)
     requires { (n ≤ most_days) × (from + n * cell_length ≤ place) × (place + n * cell_length ≤ length bytes.old) }
     ensures { bytes.new ≡ sets bytes.old place (cell_bytes (λ k. min (u16_at bytes.old (from + k * cell_length)) highest_level) n) }
 {
-    let (held, out) = bytes.split_at_mut(place);
-    put_each_cell(n, 0, out, |k| level(held, from + k * CELL_BYTES));
+    for j in 0..n as u32 {
+        let k = j as usize;
+        let held = level(bytes, from + k * CELL_BYTES);
+        put_u16(bytes, place + k * CELL_BYTES, held);
+    }
 }
 
 // Marks the session spent: its present ranges are those that it had when opened.

@@ -17,9 +17,24 @@ ghost use Rattle.c_sheets.specs.Sheets.{sheet_answer, bytes_after_sheet, answers
 ghost use Rattle.c_schedules.specs.Schedules.{setpoint_for, write_refusal, inspected_over};
 ghost use Rattle.c_schedules.specs.declared.Subject.TheVariants.{Day, Total};
 
+use c_files::Contents;
 use c_layout::SESSION_BYTES;
 use c_schedules::Subject;
-use session::Numbers;
+use refusals::number_of;
+use schedule_inspection::Finding;
+use session::{Numbers, Shown};
+
+// What is lent back beside a refusal.
+const NOTHING_SHOWN: Shown = Shown {
+    lowest: 0,
+    highest: 0,
+    spent: false,
+};
+
+const NOTHING_READ: Contents = Contents {
+    numbers: Numbers::NONE,
+    cuts: 0,
+};
 
 // How many bytes a session has.
 #[unsafe(no_mangle)]
@@ -51,7 +66,7 @@ pub extern "C" fn cloverdrum_open(
         lowest: total_floor,
         highest: total_ceiling,
     };
-    c_sessions::open(session, numbers, floors, ceilings, rises)
+    number_of(&c_sessions::open(session, numbers, floors, ceilings, rises))
 }
 
 // ---- cutting
@@ -70,8 +85,8 @@ pub extern "C" fn cloverdrum_cut(
     ensures changed_after { changed.new ≡ changed_bytes session.old (numbered kind day value) changed.old }
 {
     let answer = c_sessions::cut(session, kind, day, value, changed);
-    *changed_days = answer.changed;
-    answer.refusal
+    *changed_days = answer.unwrap_or(0);
+    number_of(&answer)
 }
 
 // Makes up to 512 cuts in order.
@@ -88,18 +103,12 @@ pub extern "C" fn cloverdrum_cut_sheet(
     ensures answers_after { answers.new ≡ answers_after result session.old cuts.now answers.old }
     ensures changed_after { changed.new ≡ days_after result session.old cuts.now changed.old }
 {
-    let answer = c_sheets::cut_sheet(session, cuts, answers, changed);
-    *changed_days = answer.changed;
-    answer.refusal
+    let sheet = c_sheets::cut_sheet(session, cuts, answers, changed);
+    *changed_days = sheet.unwrap_or(0);
+    number_of(&sheet)
 }
 
 // ---- showing
-
-fn mark(spent: bool) -> u8
-    ensures { result ≡ cond spent 1 0 }
-{
-    if spent { 1 } else { 0 }
-}
 
 // Shows the ranges.
 #[unsafe(no_mangle)]
@@ -115,13 +124,12 @@ pub extern "C" fn cloverdrum_read(
     ensures floors_after { floors.new ≡ lent_points result (floor_on (decoding session.now)) (decoding session.now).days floors.old }
     ensures ceilings_after { ceilings.new ≡ lent_points result (ceiling_on (decoding session.now)) (decoding session.now).days ceilings.old }
 {
-    let shown = c_sessions::show(session, floors, ceilings);
-    let low = shown.lowest;
-    let high = shown.highest;
-    *total_floor = low;
-    *total_ceiling = high;
-    *spent = mark(shown.spent);
-    shown.refusal
+    let answer = c_sessions::show(session, floors, ceilings);
+    let shown = answer.unwrap_or(NOTHING_SHOWN);
+    *total_floor = shown.lowest;
+    *total_ceiling = shown.highest;
+    *spent = u8::from(shown.spent);
+    number_of(&answer)
 }
 
 // ---- schedules
@@ -136,7 +144,7 @@ pub extern "C" fn cloverdrum_write_day(
     ensures value { result ≡ write_refusal session.now (Day day) value schedule.old }
     ensures schedule_after { schedule.new ≡ lent_points result (setpoint_for (decoding session.now) (Day day) value) (decoding session.now).days schedule.old }
 {
-    c_schedules::write(session, Subject::Day(day), value, schedule)
+    number_of(&c_schedules::write(session, Subject::Day(day), value, schedule))
 }
 
 #[unsafe(no_mangle)]
@@ -144,7 +152,7 @@ pub extern "C" fn cloverdrum_write_total(session: &[u8], value: i32, schedule: &
     ensures value { result ≡ write_refusal session.now Total value schedule.old }
     ensures schedule_after { schedule.new ≡ lent_points result (setpoint_for (decoding session.now) Total value) (decoding session.now).days schedule.old }
 {
-    c_schedules::write(session, Subject::Total, value, schedule)
+    number_of(&c_schedules::write(session, Subject::Total, value, schedule))
 }
 
 #[unsafe(no_mangle)]
@@ -156,10 +164,11 @@ pub extern "C" fn cloverdrum_inspect(
 ) -> u8
     ensures { record { refusal = result; rule = rule.new; place = place.new } ≡ inspected_over session.now schedule.now }
 {
-    let found = c_schedules::inspect(session, schedule);
-    *rule = found.rule;
-    *place = found.place;
-    found.refusal
+    let answer = c_schedules::inspect(session, schedule);
+    let found = answer.unwrap_or(Finding::Kept);
+    *rule = found.rule();
+    *place = found.place();
+    number_of(&answer)
 }
 
 // ---- files
@@ -183,16 +192,15 @@ pub extern "C" fn cloverdrum_read_file(
     ensures rises_after { rises.new ≡ lent_points result (rise_at file.now) (day_count file.now - 1) rises.old }
     ensures cuts_after { cuts.new ≡ cuts_lent result file.now cuts.old }
 {
-    let contents = c_files::read(file, floors, ceilings, rises, cuts);
+    let answer = c_files::read(file, floors, ceilings, rises, cuts);
+    let contents = answer.unwrap_or(NOTHING_READ);
     let numbers = contents.numbers;
-    let low = numbers.lowest;
-    let high = numbers.highest;
     *days = numbers.days;
     *cuts_count = contents.cuts;
-    *total_floor = low;
-    *total_ceiling = high;
+    *total_floor = numbers.lowest;
+    *total_ceiling = numbers.highest;
     *first_counted_day = numbers.first;
-    contents.refusal
+    number_of(&answer)
 }
 
 #[unsafe(no_mangle)]
@@ -218,6 +226,6 @@ pub extern "C" fn cloverdrum_write_file(
         highest: total_ceiling,
     };
     let answer = c_files::write(numbers, floors, ceilings, rises, cuts, file);
-    *file_bytes = answer.length;
-    answer.refusal
+    *file_bytes = answer.unwrap_or(0);
+    number_of(&answer)
 }

@@ -4,9 +4,10 @@
 mod endings;
 mod judge;
 mod tally;
+mod verdict;
 mod writing;
 
-ghost use Rattle.std.specs.Prelude.{◌<◌, ◌≤◌, length};
+ghost use Rattle.std.specs.Prelude.{◌<◌, length};
 
 use std::io;
 use tally::Tally;
@@ -37,52 +38,38 @@ const TOO_WARM: [u8; 78] = *b"\
     \x08\x07\x34\x08\x00\x00";
 
 fn truncated(file: &[u8]) -> Tally {
-    let mut t = tally::none();
+    let mut tally = Tally::default();
     for k in 0..file.len() {
-        t = tally::noted(t, &file[..k]);
+        tally.note(&file[..k]);
     }
-    t
+    tally
 }
 
-// The file with another byte at place i.
-fn with_byte(t: Tally, file: &[u8], i: usize, byte: u8) -> Tally
-    requires { (i < length file.now) × (length file.now ≤ 78) }
-{
-    let n = file.len();
-    let mut bytes = [0u8; 78];
-    base_text::put(&mut bytes, 0, file);
-    bytes[i] = byte;
-    tally::noted(t, &bytes[..n])
-}
-
-// Byte i changed to each of its other values.
-fn byte_changed(t: Tally, file: &[u8], i: usize) -> Tally
-    requires { (i < length file.now) × (length file.now ≤ 78) }
+// Byte i changed to each of its other values, then back.
+fn change_byte(tally: &mut Tally, file: &mut [u8], i: usize)
+    requires { i < length file.old }
 {
     let byte = file[i];
-    let mut after = t;
     for more in 1..=255u8 {
-        after = with_byte(after, file, i, std::num::wrapping_add_u8(byte, more));
+        file[i] = byte.wrapping_add(more);
+        tally.note(file);
     }
-    after
+    file[i] = byte;
 }
 
-fn changed(file: &[u8]) -> Tally
-    requires { length file.now ≤ 78 }
-{
-    let mut t = tally::none();
+fn changed(file: &mut [u8]) -> Tally {
+    let mut tally = Tally::default();
     for i in 0..file.len() {
-        t = byte_changed(t, file, i);
+        change_byte(&mut tally, file, i);
     }
-    t
+    tally
 }
 
 fn main(rt: HostRuntime) -> io::Result<()> {
-    let mut out = rt.stdout();
-    let doc01 = DOC01;
-    tally::print(&mut out, b"doc01 truncated: ", truncated(&doc01))?;
-    tally::print(&mut out, b"doc01 changed: ", changed(&doc01))?;
-    let too_warm = TOO_WARM;
-    tally::print(&mut out, b"too_warm truncated: ", truncated(&too_warm))?;
-    tally::print(&mut out, b"too_warm changed: ", changed(&too_warm))
+    let mut doc01 = DOC01;
+    println!(rt; "doc01 truncated: {}", truncated(&doc01))?;
+    println!(rt; "doc01 changed: {}", changed(&mut doc01))?;
+    let mut too_warm = TOO_WARM;
+    println!(rt; "too_warm truncated: {}", truncated(&too_warm))?;
+    println!(rt; "too_warm changed: {}", changed(&mut too_warm))
 }

@@ -1,59 +1,35 @@
 // What the writer makes of what was read of a file.
-use crate::endings::OTHER;
-use file_reading::ReadAnswer;
+use crate::verdict::Verdict;
+use file_format::MOST_FILE_BYTES;
+use file_reading::Contents;
+use refusals::Refusal;
 
-// Whether the file's bytes, and no more, were written.
-fn same(written: &[u8; 78], length: usize, file: &[u8]) -> bool {
-    if length != file.len() {
-        return false;
-    }
-    if 78 < length {
-        return false;
-    }
-    for i in 0..length {
-        if written[i] != file[i] {
-            return false;
-        }
-    }
-    true
-}
-
-// 0 where the file is written back byte for byte, N from 1 to 13 where the writer refuses; OTHER where it writes something else, or nothing was read.
-pub(crate) fn back(
+// Other where it writes something else than the file, or nothing was read.
+pub(crate) fn written(
     file: &[u8],
-    read: ReadAnswer,
-    floors: &[i16; 512],
-    ceilings: &[i16; 512],
-    rises: &[i16; 511],
-) -> usize {
-    let numbers = read.numbers;
+    read: Result<Contents, Refusal>,
+    floors: &[i16],
+    ceilings: &[i16],
+    rises: &[i16],
+) -> Verdict {
+    let Ok(Contents { numbers, sheet }) = read else {
+        return Verdict::Other;
+    };
     let days = numbers.days;
     if days == 0 {
-        return OTHER;
+        return Verdict::Other;
     }
-    if 512 < days {
-        return OTHER;
-    }
-    let low: &[i16] = floors;
-    let high: &[i16] = ceilings;
-    let least: &[i16] = rises;
-    let steps = days - 1;
-    let sheet = read.sheet;
-    let mut out = [0u8; 78];
-    let answer = file_writing::write(
-        numbers,
-        &low[..days],
-        &high[..days],
-        &least[..steps],
-        sheet,
-        &mut out,
-    );
-    if answer.refusal != 0 {
-        return answer.refusal as usize;
-    }
-    if same(&out, answer.length, file) {
-        0
-    } else {
-        OTHER
+    let (Some(floors), Some(ceilings), Some(rises)) = (
+        floors.get(..days),
+        ceilings.get(..days),
+        rises.get(..days - 1),
+    ) else {
+        return Verdict::Other;
+    };
+    let mut out = [0u8; MOST_FILE_BYTES];
+    let answer = file_writing::write(numbers, floors, ceilings, rises, sheet, &mut out);
+    match answer {
+        Ok(length) if out.get(..length) != Some(file) => Verdict::Other,
+        _ => Verdict::of(&answer),
     }
 }

@@ -4,41 +4,25 @@
 
 mod cut_refusals;
 mod filling_days;
-mod output;
 mod refusals;
 mod schedule_refusals;
 mod settled_order;
 
-ghost use Rattle.session.specs.Showing.{SessionInBounds};
-
-use output::Output;
-use session::{Numbers, Opened, Session};
 use std::io;
 
-pub(crate) fn open(numbers: Numbers, floors: &[i16], ceilings: &[i16], rises: &[i16]) -> Opened
-    ensures { SessionInBounds result.session }
-{
-    Session::open(numbers, floors, ceilings, rises)
-}
-
-pub(crate) fn numbered(out: &mut Output, text: &[u8], number: usize) {
-    out.text(text);
-    out.decimal(number as u64);
-    out.text(b"\n");
-}
-
-// A line ends with the refusal, 0 for none.
-pub(crate) fn line(out: &mut Output, text: &[u8], refusal: u8) {
-    numbered(out, text, refusal as usize);
+// A line for each with its refusal, 0 for none.
+pub(crate) fn lines(rt: &impl Print, refusals: &[(&str, u8)]) -> io::Result<()> {
+    for (text, refusal) in refusals {
+        println!(rt; "{text}: {refusal}")?;
+    }
+    Ok(())
 }
 
 fn main(rt: HostRuntime) -> io::Result<()> {
-    let mut out = Output::new(rt.stdout());
-    refusals::print(&mut out);
-    filling_days::print_profiles(&mut out);
-    cut_refusals::print(&mut out);
-    settled_order::print(&mut out);
-    schedule_refusals::print(&mut out);
-    filling_days::print_schedules(&mut out);
-    out.end()
+    refusals::print(&rt)?;
+    filling_days::print_profiles(&rt)?;
+    cut_refusals::print(&rt)?;
+    settled_order::print(&rt)?;
+    schedule_refusals::print(&rt)?;
+    filling_days::print_schedules(&rt)
 }

@@ -3,11 +3,15 @@
 ghost use Rattle.std.specs.Prelude.{◌≤◌};
 ghost use Rattle.session.specs.Showing.{SessionInBounds};
 
-use crate::cut_refusals::{DAYS, profile_a, spent};
-use crate::output::Output;
-use crate::{line, numbered};
-use schedule_inspection::Inspection;
+use crate::cut_refusals::spent;
+use crate::lines;
+use program_output::A;
+use refusals::{Refusal, number_of};
+use schedule_inspection::Finding;
 use session::Session;
+use std::{fmt, io};
+
+const DAYS: usize = A.days;
 
 // ---- for a day
 
@@ -15,69 +19,66 @@ pub(crate) fn on_day(session: Session, day: usize, value: i32, room: usize) -> u
     requires { SessionInBounds session × (room ≤ 4) }
 {
     let mut list = [0i16; 4];
-    schedule_writing::write_day(session, day, value, &mut list[..room])
+    number_of(&schedule_writing::write_day(
+        session,
+        day,
+        value,
+        &mut list[..room],
+    ))
 }
 
 fn day_of_a(day: usize, value: i32, room: usize) -> u8
     requires { room ≤ 4 }
 {
-    on_day(profile_a(), day, value, room)
+    on_day(A.open().session, day, value, room)
 }
 
-fn days(out: &mut Output) {
-    line(out, b"schedule with 1 on day 0: ", day_of_a(0, 1, DAYS));
-    line(out, b"schedule with 2 on day 0: ", day_of_a(0, 2, DAYS));
-    line(out, b"schedule with 4 on day 0: ", day_of_a(0, 4, DAYS));
-    line(out, b"schedule with 5 on day 0: ", day_of_a(0, 5, DAYS));
-    line(out, b"schedule with 3 on day 2: ", day_of_a(2, 3, DAYS));
-    line(out, b"schedule with 4 on day 2: ", day_of_a(2, 4, DAYS));
-    line(out, b"schedule with 6 on day 2: ", day_of_a(2, 6, DAYS));
-    line(out, b"schedule with 7 on day 2: ", day_of_a(2, 7, DAYS));
-    line(out, b"schedule with 4 on day 3: ", day_of_a(3, 4, DAYS));
+fn days(rt: &impl Print) -> io::Result<()> {
+    let setpoints = [
+        (0, 1),
+        (0, 2),
+        (0, 4),
+        (0, 5),
+        (2, 3),
+        (2, 4),
+        (2, 6),
+        (2, 7),
+        (3, 4),
+        (0, i32::MIN),
+        (0, i32::MAX),
+    ];
+    for (day, value) in setpoints {
+        println!(rt;
+            "schedule with {value} on day {day}: {}",
+            day_of_a(day, value, DAYS)
+        )?;
+    }
+    Ok(())
 }
 
-fn day_extremes(out: &mut Output) {
-    line(
-        out,
-        b"schedule with -2147483648 on day 0: ",
-        day_of_a(0, -2147483648, DAYS),
-    );
-    line(
-        out,
-        b"schedule with 2147483647 on day 0: ",
-        day_of_a(0, 2147483647, DAYS),
-    );
-}
-
-fn day_lists(out: &mut Output) {
-    line(
-        out,
-        b"schedule with 3 on day 0, list of 2 places: ",
-        day_of_a(0, 3, 2),
-    );
-    line(
-        out,
-        b"schedule with 3 on day 0, list of 3 places: ",
-        day_of_a(0, 3, 3),
-    );
-    line(
-        out,
-        b"schedule with 3 on day 0, list of 4 places: ",
-        day_of_a(0, 3, 4),
-    );
+fn day_lists(rt: &impl Print) -> io::Result<()> {
+    for room in 2..=4 {
+        println!(rt;
+            "schedule with 3 on day 0, list of {room} places: {}",
+            day_of_a(0, 3, room)
+        )?;
+    }
+    Ok(())
 }
 
 // The first has every cause of a refusal at once, each later one a cause fewer.
-fn day_order(out: &mut Output) {
-    line(
-        out,
-        b"spent, list of 2 places, day 3, value 7: ",
-        on_day(spent(), 3, 7, 2),
-    );
-    line(out, b"list of 3 places: ", on_day(spent(), 3, 7, DAYS));
-    line(out, b"day 2: ", on_day(spent(), 2, 7, DAYS));
-    line(out, b"not spent: ", day_of_a(2, 7, DAYS));
-    line(out, b"value 6: ", day_of_a(2, 6, DAYS));
+fn day_order(rt: &impl Print) -> io::Result<()> {
+    let refusals = [
+        (
+            "spent, list of 2 places, day 3, value 7",
+            on_day(spent(), 3, 7, 2),
+        ),
+        ("list of 3 places", on_day(spent(), 3, 7, DAYS)),
+        ("day 2", on_day(spent(), 2, 7, DAYS)),
+        ("not spent", day_of_a(2, 7, DAYS)),
+        ("value 6", day_of_a(2, 6, DAYS)),
+    ];
+    lines(rt, &refusals)
 }
 
 // ---- for the total
@@ -86,132 +87,124 @@ pub(crate) fn with_total(session: Session, value: i32, room: usize) -> u8
     requires { SessionInBounds session × (room ≤ 4) }
 {
     let mut list = [0i16; 4];
-    schedule_writing::write_total(session, value, &mut list[..room])
+    number_of(&schedule_writing::write_total(session, value, &mut list[..room]))
 }
 
 fn total_of_a(value: i32, room: usize) -> u8
     requires { room ≤ 4 }
 {
-    with_total(profile_a(), value, room)
+    with_total(A.open().session, value, room)
 }
 
-fn totals(out: &mut Output) {
-    line(out, b"schedule with total 9: ", total_of_a(9, DAYS));
-    line(out, b"schedule with total 10: ", total_of_a(10, DAYS));
-    line(out, b"schedule with total 12: ", total_of_a(12, DAYS));
-    line(out, b"schedule with total 13: ", total_of_a(13, DAYS));
-    line(
-        out,
-        b"schedule with total -2147483648: ",
-        total_of_a(-2147483648, DAYS),
-    );
-    line(
-        out,
-        b"schedule with total 2147483647: ",
-        total_of_a(2147483647, DAYS),
-    );
+fn totals(rt: &impl Print) -> io::Result<()> {
+    for total in [9, 10, 12, 13, i32::MIN, i32::MAX] {
+        println!(rt; "schedule with total {total}: {}", total_of_a(total, DAYS))?;
+    }
+    Ok(())
 }
 
-fn total_lists(out: &mut Output) {
-    line(
-        out,
-        b"schedule with total 11, list of 2 places: ",
-        total_of_a(11, 2),
-    );
-    line(
-        out,
-        b"schedule with total 11, list of 3 places: ",
-        total_of_a(11, 3),
-    );
-    line(
-        out,
-        b"schedule with total 11, list of 4 places: ",
-        total_of_a(11, 4),
-    );
+fn total_lists(rt: &impl Print) -> io::Result<()> {
+    for room in 2..=4 {
+        println!(rt;
+            "schedule with total 11, list of {room} places: {}",
+            total_of_a(11, room)
+        )?;
+    }
+    Ok(())
 }
 
-fn total_order(out: &mut Output) {
-    line(
-        out,
-        b"spent, list of 2 places, total 13: ",
-        with_total(spent(), 13, 2),
-    );
-    line(out, b"list of 3 places: ", with_total(spent(), 13, DAYS));
-    line(out, b"not spent: ", total_of_a(13, DAYS));
-    line(out, b"total 12: ", total_of_a(12, DAYS));
+fn total_order(rt: &impl Print) -> io::Result<()> {
+    let refusals = [
+        (
+            "spent, list of 2 places, total 13",
+            with_total(spent(), 13, 2),
+        ),
+        ("list of 3 places", with_total(spent(), 13, DAYS)),
+        ("not spent", total_of_a(13, DAYS)),
+        ("total 12", total_of_a(12, DAYS)),
+    ];
+    lines(rt, &refusals)
 }
 
 // ---- inspected
 
-fn print_answer(out: &mut Output, answer: Inspection) {
-    match answer {
-        Inspection::WrongLength => line(out, b"", 2),
-        Inspection::Spent => line(out, b"", 9),
-        Inspection::Kept => out.text(b"kept\n"),
-        Inspection::BrokenDay(day) => numbered(out, b"day ", day),
-        Inspection::BrokenRise(rise) => numbered(out, b"rise ", rise),
-        Inspection::BrokenTotal => out.text(b"total\n"),
+// What inspecting a schedule answers.
+#[derive(Clone, Copy)]
+pub(crate) struct Inspection(Result<Finding, Refusal>);
+
+impl fmt::Display for Inspection {
+    fn fmt<W: fmt::Write>(&self, f: &mut fmt::Formatter<W>) -> fmt::Result {
+        match self.0 {
+            Err(refusal) => write!(f, "{}", u8::from(refusal)),
+            Ok(Finding::Kept) => write!(f, "kept"),
+            Ok(Finding::BrokenDay(day)) => write!(f, "day {day}"),
+            Ok(Finding::BrokenRise(rise)) => write!(f, "rise {rise}"),
+            Ok(Finding::BrokenTotal) => write!(f, "total"),
+        }
     }
 }
 
-pub(crate) fn inspected(out: &mut Output, text: &[u8], session: Session, list: &[i16])
+pub(crate) fn inspected(session: Session, list: &[i16]) -> Inspection
     requires { SessionInBounds session }
 {
-    out.text(text);
-    print_answer(out, schedule_inspection::inspect(session, list));
+    Inspection(schedule_inspection::inspect(session, list))
 }
 
-fn of_a(out: &mut Output, text: &[u8], x: i16, y: i16, z: i16) {
-    let list = [x, y, z];
-    inspected(out, text, profile_a(), &list);
+fn of_a(list: &[i16]) -> Inspection {
+    inspected(A.open().session, list)
 }
 
-fn setpoints(out: &mut Output) {
-    of_a(out, b"setpoints 1, 4, 6: ", 1, 4, 6);
-    of_a(out, b"setpoints 2, 4, 6: ", 2, 4, 6);
-    of_a(out, b"setpoints 4, 4, 4: ", 4, 4, 4);
-    of_a(out, b"setpoints 5, 4, 4: ", 5, 4, 4);
-    of_a(out, b"setpoints 2, 4, 3: ", 2, 4, 3);
-    of_a(out, b"setpoints 2, 4, 7: ", 2, 4, 7);
+fn setpoints(rt: &impl Print) -> io::Result<()> {
+    let schedules = [
+        [1, 4, 6],
+        [2, 4, 6],
+        [4, 4, 4],
+        [5, 4, 4],
+        [2, 4, 3],
+        [2, 4, 7],
+        [i16::MIN, 4, 4],
+        [i16::MAX, 4, 4],
+        [2, 4, i16::MIN],
+        [2, 4, i16::MAX],
+    ];
+    for [x, y, z] in schedules {
+        println!(rt; "setpoints {x}, {y}, {z}: {}", of_a(&[x, y, z]))?;
+    }
+    Ok(())
 }
 
-fn setpoint_extremes(out: &mut Output) {
-    of_a(out, b"setpoints -32768, 4, 4: ", -32768, 4, 4);
-    of_a(out, b"setpoints 32767, 4, 4: ", 32767, 4, 4);
-    of_a(out, b"setpoints 2, 4, -32768: ", 2, 4, -32768);
-    of_a(out, b"setpoints 2, 4, 32767: ", 2, 4, 32767);
-}
-
-fn setpoint_lists(out: &mut Output) {
-    let list = [2i16, 4, 4, 4];
-    inspected(out, b"setpoints 2, 4: ", profile_a(), &list[..2]);
-    inspected(out, b"setpoints 2, 4, 4: ", profile_a(), &list[..3]);
-    inspected(out, b"setpoints 2, 4, 4, 4: ", profile_a(), &list);
+fn setpoint_lists(rt: &impl Print) -> io::Result<()> {
+    println!(rt; "setpoints 2, 4: {}", of_a(&[2, 4]))?;
+    println!(rt; "setpoints 2, 4, 4: {}", of_a(&[2, 4, 4]))?;
+    println!(rt; "setpoints 2, 4, 4, 4: {}", of_a(&[2, 4, 4, 4]))
 }
 
 // The first has every cause at once, each later one a cause fewer.
-fn rule_order(out: &mut Output) {
-    let list = [5i16, 6, 3];
-    inspected(out, b"spent, setpoints 5, 6: ", spent(), &list[..2]);
-    inspected(out, b"setpoints 5, 6, 3: ", spent(), &list);
-    of_a(out, b"not spent: ", 5, 6, 3);
-    of_a(out, b"setpoints 4, 6, 3: ", 4, 6, 3);
-    of_a(out, b"setpoints 4, 5, 3: ", 4, 5, 3);
-    of_a(out, b"setpoints 4, 5, 4: ", 4, 5, 4);
-    of_a(out, b"setpoints 4, 5, 5: ", 4, 5, 5);
-    of_a(out, b"setpoints 4, 4, 4: ", 4, 4, 4);
+fn rule_order(rt: &impl Print) -> io::Result<()> {
+    let findings = [
+        ("spent, setpoints 5, 6", inspected(spent(), &[5, 6])),
+        ("setpoints 5, 6, 3", inspected(spent(), &[5, 6, 3])),
+        ("not spent", of_a(&[5, 6, 3])),
+        ("setpoints 4, 6, 3", of_a(&[4, 6, 3])),
+        ("setpoints 4, 5, 3", of_a(&[4, 5, 3])),
+        ("setpoints 4, 5, 4", of_a(&[4, 5, 4])),
+        ("setpoints 4, 5, 5", of_a(&[4, 5, 5])),
+        ("setpoints 4, 4, 4", of_a(&[4, 4, 4])),
+    ];
+    for (text, finding) in findings {
+        println!(rt; "{text}: {finding}")?;
+    }
+    Ok(())
 }
 
-pub(crate) fn print(out: &mut Output) {
-    days(out);
-    day_extremes(out);
-    day_lists(out);
-    day_order(out);
-    totals(out);
-    total_lists(out);
-    total_order(out);
-    setpoints(out);
-    setpoint_extremes(out);
-    setpoint_lists(out);
-    rule_order(out);
+pub(crate) fn print(rt: &impl Print) -> io::Result<()> {
+    days(rt)?;
+    day_lists(rt)?;
+    day_order(rt)?;
+    totals(rt)?;
+    total_lists(rt)?;
+    total_order(rt)?;
+    setpoints(rt)?;
+    setpoint_lists(rt)?;
+    rule_order(rt)
 }

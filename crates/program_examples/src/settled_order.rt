@@ -1,125 +1,78 @@
 // The days that a cut lists (document 02, request Two): a line for each cut with the places of a list that held 9 before; then cuts of 512 days, whose losses are
 // all equal or all different, with how many days stand before the next one as they should.
-ghost use Rattle.std.specs.Prelude.{◌≡◌, ◌≤◌, ◌<◌, length};
+ghost use Rattle.std.specs.Prelude.{◌≤◌, ◌<◌, IfOk};
 ghost use Rattle.session.specs.Showing.{SessionInBounds};
 
-use crate::cut_refusals::profile_a;
-use crate::output::Output;
-use crate::{numbered, open};
 use base_codes::decode_short;
-use session::{Numbers, Session};
+use limits::MOST_DAYS;
+use program_output::{A, FALLING, Places, Profile};
+use session::Session;
 use session_cuts::Cut;
+use std::io;
 
 // ---- a few days
 
-const PLACES: usize = 4;
-
-fn print_place(out: &mut Output, day: u16) {
-    out.text(b" ");
-    out.decimal(day as u64);
-}
-
-fn print_places(out: &mut Output, list: &[u16; PLACES]) {
-    for i in 0..PLACES {
-        print_place(out, list[i]);
-    }
-}
-
-fn print_list(out: &mut Output, text: &[u8], changed: usize, list: &[u16; PLACES]) {
-    out.text(text);
-    out.decimal(changed as u64);
-    out.text(b" changed,");
-    print_places(out, list);
-    out.text(b"\n");
-}
-
 // Prints what a cut lists, and gives the session after it.
-fn print_cut(out: &mut Output, text: &[u8], session: Session, cut: Cut) -> Session
+#[tactic(auto, using(session_cutting::proofs::Laws::cut_in_bounds))]
+fn print_cut(rt: &impl Print, text: &str, session: Session, cut: Cut) -> io::Result<Session>
     requires { SessionInBounds session }
-    ensures { SessionInBounds result }
+    ensures { IfOk result (λ s. SessionInBounds s) }
 {
-    let mut list = [9u16; PLACES];
+    let mut list = [9u16; 4];
     let after = session_cutting::cut(session, cut, &mut list);
-    let answer = after.answer;
-    print_list(out, text, answer.changed, &list);
-    after.session
-}
-
-// 0..4, 0..10, 0..6, rises -10, total 0..20.
-fn three_days() -> Session
-    ensures { SessionInBounds result }
-{
-    let floors = [0i16; 3];
-    let ceilings = [4i16, 10, 6];
-    let rises = [-10i16, -10];
-    let numbers = Numbers {
-        days: 3,
-        first: 0,
-        lowest: 0,
-        highest: 20,
-    };
-    let o = open(numbers, &floors, &ceilings, &rises);
-    o.session
+    println!(rt;
+        "{text}: {} changed,{}",
+        after.answer.unwrap_or(0),
+        Places(&list)
+    )?;
+    Ok(after.session)
 }
 
 // 0..9 each, total 0..36.
-fn four_days() -> Session
-    ensures { SessionInBounds result }
-{
-    let floors = [0i16; 4];
-    let ceilings = [9i16; 4];
-    let rises = [0i16; 3];
-    let numbers = Numbers {
-        days: 4,
-        first: 0,
-        lowest: 0,
-        highest: 36,
-    };
-    let o = open(numbers, &floors, &ceilings, &rises);
-    o.session
-}
+const FOUR_DAYS: Profile<'static> = Profile {
+    days: 4,
+    first: 0,
+    floors: &[0, 0, 0, 0],
+    ceilings: &[9, 9, 9, 9],
+    rises: &[0, 0, 0],
+    lowest: 0,
+    highest: 36,
+};
 
-fn of_three_days(out: &mut Output) {
+fn of_three_days(rt: &impl Print) -> io::Result<()> {
     print_cut(
-        out,
-        b"A, day 0 at least 4: ",
-        profile_a(),
+        rt,
+        "A, day 0 at least 4",
+        A.open().session,
         Cut::DayFloor(0, 4),
-    );
+    )?;
     let after = print_cut(
-        out,
-        b"A, day 0 at least 3: ",
-        profile_a(),
+        rt,
+        "A, day 0 at least 3",
+        A.open().session,
         Cut::DayFloor(0, 3),
-    );
+    )?;
+    print_cut(rt, "then total at most 11", after, Cut::total_ceiling(11))?;
     print_cut(
-        out,
-        b"then total at most 11: ",
-        after,
-        Cut::total_ceiling(11),
-    );
-    print_cut(
-        out,
-        b"days 0..4, 0..10, 0..6, rises -10, total at most 5: ",
-        three_days(),
+        rt,
+        "days 0..4, 0..10, 0..6, rises -10, total at most 5",
+        FALLING.open().session,
         Cut::total_ceiling(5),
-    );
+    )?;
+    Ok(())
 }
 
-fn of_four_days(out: &mut Output) {
+fn of_four_days(rt: &impl Print) -> io::Result<()> {
+    let session = FOUR_DAYS.open().session;
     print_cut(
-        out,
-        b"four days 0..9, total at most 10: ",
-        four_days(),
+        rt,
+        "four days 0..9, total at most 10",
+        session,
         Cut::total_ceiling(10),
-    );
-    print_cut(
-        out,
-        b"day 2 at most 3: ",
-        four_days(),
-        Cut::DayCeiling(2, 3),
-    );
-    print_cut(out, b"day 1 at least 5: ", four_days(), Cut::DayFloor(1, 5));
+    )?;
+    print_cut(rt, "day 2 at most 3", session, Cut::DayCeiling(2, 3))?;
+    print_cut(rt, "day 1 at least 5", session, Cut::DayFloor(1, 5))?;
+    Ok(())
 }
 
 // ---- 512 days
@@ -135,80 +88,54 @@ fn loss(equal: bool, k: usize) -> u16
     ((k * 77 % 128 + k / 128 * 128 + 1) * 9) as u16
 }
 
-fn fill(equal: bool, ceilings: &mut [i16; 512])
-    requires { length ceilings.old ≡ 512 }
-    ensures { length ceilings.new ≡ 512 }
-{
-    for k in 0..512 {
-        ceilings[k] = decode_short(loss(equal, k), -1000);
-    }
-}
-
 // Each day from -1000 up by what it loses where the total is at its floor.
 fn many_days(equal: bool) -> Session
     ensures { SessionInBounds result }
 {
-    let floors = [-1000i16; 512];
-    let mut ceilings = [0i16; 512];
-    fill(equal, &mut ceilings);
-    let rises = [-2000i16; 511];
-    let numbers = Numbers {
-        days: 512,
+    let mut ceilings = [0; MOST_DAYS];
+    for (k, ceiling) in ceilings.iter_mut().enumerate() {
+        *ceiling = decode_short(loss(equal, k), -1000);
+    }
+    let profile = Profile {
+        days: MOST_DAYS,
         first: 0,
+        floors: &[-1000; MOST_DAYS],
+        ceilings: &ceilings,
+        rises: &[-2000; MOST_DAYS - 1],
         lowest: -512000,
         highest: 2048000,
     };
-    let o = open(numbers, &floors, &ceilings, &rises);
-    o.session
+    profile.open().session
 }
 
-// 1 if a day stands before the next one as it should, otherwise 0.
-fn before(equal: bool, day: u16, next: u16) -> usize
-    ensures { result ≤ 1 }
-{
-    let j = day as usize;
-    let k = next as usize;
-    if 512 <= j {
-        return 0;
-    }
-    if 512 <= k {
-        return 0;
+// Whether a day stands before the next one as it should: by what they lose, the most first, then by their numbers.
+fn is_before(equal: bool, day: u16, next: u16) -> bool {
+    let j = usize::from(day);
+    let k = usize::from(next);
+    if MOST_DAYS <= j || MOST_DAYS <= k {
+        return false;
     }
     let x = loss(equal, j);
     let y = loss(equal, k);
-    if y < x {
-        return 1;
-    }
-    if x < y {
-        return 0;
-    }
-    if j < k { 1 } else { 0 }
+    y < x || (y == x && j < k)
 }
 
-fn in_order(equal: bool, list: &[u16; 512]) -> usize {
-    let mut count = 0;
-    for i in 1..512 {
-        count += before(equal, list[i - 1], list[i]);
-    }
-    count
-}
-
-fn print_many(out: &mut Output, text: &[u8], equal: bool) {
-    let mut list = [512u16; 512];
+fn print_many(rt: &impl Print, text: &str, equal: bool) -> io::Result<()> {
+    let mut list = [512u16; MOST_DAYS];
     let after = session_cutting::cut(many_days(equal), Cut::total_ceiling(-512000), &mut list);
-    let answer = after.answer;
-    out.text(text);
-    out.decimal(answer.changed as u64);
-    numbered(out, b" changed, before the next: ", in_order(equal, &list));
+    let in_order = list
+        .windows(2)
+        .filter(|pair| is_before(equal, pair[0], pair[1]))
+        .count();
+    println!(rt;
+        "{text}: {} changed, before the next: {in_order}",
+        after.answer.unwrap_or(0)
+    )
 }
 
-fn of_many_days(out: &mut Output) {
-    print_many(out, b"512 days that lose 5: ", true);
-    print_many(out, b"512 days that lose 9 to 4608: ", false);
-}
-
-pub(crate) fn print(out: &mut Output) {
-    of_three_days(out);
-    of_four_days(out);
-    of_many_days(out);
+pub(crate) fn print(rt: &impl Print) -> io::Result<()> {
+    of_three_days(rt)?;
+    of_four_days(rt)?;
+    print_many(rt, "512 days that lose 5", true)?;
+    print_many(rt, "512 days that lose 9 to 4608", false)
 }

@@ -42,8 +42,7 @@ use Rattle.file_writing.proofs.Laws.{answered, written-front, written-file}
 use Rattle.c_lists.specs.Lists.{point_at, points_in, point_bytes, lent_points}
 use Rattle.c_lists.specs.Profiles.{byte_profile, byte_length_refusal}
 use Rattle.c_lists.proofs.Laws.{points_left, points_filled}
-use Rattle.c_files.specs.declared.Contents.{Contents}
-use Rattle.c_files.specs.Reading.{no_room_over, reading_refusal_over, refused_contents, contents_of, read_into, cuts_lent}
+use Rattle.c_files.specs.Reading.{Contents, no_room_over, reading_refusal_over, refused_contents, contents_of, read_into, cuts_lent}
 use Rattle.c_files.specs.Writing.{numbered_refusal, cuts_in_bytes, lengths_refusal, early_writing_over, writing_refusal_over, write_over, output_over}
 use Rattle.c_files.proofs.Writing.{Sized, sized, length-cuts, cuts_back}
 use Rattle.promises.specs.FilesInBytes.{ListsInBytes, write, output_in_bytes, written_in_bytes, profile_in_bytes, Lent, read_over, filled_over, read_lists, RoomyInBytes, ReadAgainInBytes, WrittenBackInBytes, FilesInBytes}

@@ -16,8 +16,7 @@ use Rattle.session_cuts.specs.Sheet.{cuts_of}
 use Rattle.file_format.specs.Format.{day_count, numbers_in, floor_at, ceiling_at, rise_at, profile_in, cuts_in, file}
 use Rattle.file_format.proofs.Taken.{Taken, not-refused}
 use Rattle.file_format.proofs.RoundTrip.{Reads, reads_again, written_back}
-use Rattle.file_reading.specs.Reading.{contents}
-use Rattle.file_reading.specs.declared.ReadAnswer.{ReadAnswer}
+use Rattle.file_reading.specs.Reading.{ReadAnswer, contents}
 use Rattle.file_reading.proofs.Laws.{sheet_cuts, Room, read_taken, read_all}
 use Rattle.file_writing.specs.Writing.{write_answer}
 use Rattle.file_writing.proofs.Laws.{written_passed, written-front, written-file}

@@ -15,10 +15,8 @@ use Rattle.theory_lists.specs.Front.{in_front}
 use Rattle.session.specs.Opening.{opened}
 use Rattle.session.specs.declared.Session.{Session}
 use Rattle.session_cutting.specs.Cutting.{after_numbered}
-use Rattle.session_sheets.specs.Sheets.{after_cuts, sheet_refusal, not_answered, asked_on, answers_to, taken_sheet, refused_sheet, after_sheet, list_after_sheet}
+use Rattle.session_sheets.specs.Sheets.{AfterSheet, Answered, after_cuts, sheet_refusal, not_answered, asked_on, answers_to, taken_sheet, refused_sheet, after_sheet, list_after_sheet}
 use Rattle.session_sheets.specs.declared.AskedSheet.{AskedSheet}
-use Rattle.session_sheets.specs.declared.Answered.{Answered}
-use Rattle.session_sheets.specs.declared.AfterSheet.{AfterSheet}
 use Rattle.session_sheets.proofs.Laws.{after_narrows}
 use Rattle.promises.specs.Cuts.{after}
 use Rattle.promises.specs.Sheets.{SheetRefused, NoCut, calls_of, SingleCalls, SheetChanges, Sheets}

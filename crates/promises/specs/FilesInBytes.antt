@@ -6,11 +6,10 @@ use Rattle.base_little_endian.specs.Fields.{Bytes}
 use Rattle.session.specs.Profile.{Profile}
 use Rattle.file_format.specs.Format.{day_count, floor_at, ceiling_at, rise_at}
 use Rattle.file_writing.specs.Writing as ByValue
-use Rattle.file_writing.specs.declared.WriteAnswer.{WriteAnswer}
+use Rattle.file_writing.specs.Writing.{WriteAnswer}
 use Rattle.c_lists.specs.Lists.{lent_points}
 use Rattle.c_lists.specs.Profiles.{ByteProfile, byte_profile, profile_of}
-use Rattle.c_files.specs.declared.Contents.{Contents}
-use Rattle.c_files.specs.Reading.{read_into, cuts_lent}
+use Rattle.c_files.specs.Reading.{Contents, read_into, cuts_lent}
 use Rattle.c_files.specs.Writing.{cuts_in_bytes, write_over, output_over}
 
 -- a profile and cuts as the writer is handed them, and as a caller finds them after reading; each list is its bytes

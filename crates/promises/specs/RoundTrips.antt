@@ -9,8 +9,7 @@ use Rattle.session.specs.Opening.{profile}
 use Rattle.session_cuts.specs.declared.Cut.{Cut}
 use Rattle.session_cuts.specs.Sheet.{cuts_of}
 use Rattle.file_format.specs.Format.{day_count, floor_at, ceiling_at, rise_at}
-use Rattle.file_reading.specs.declared.ReadAnswer.{ReadAnswer}
-use Rattle.file_reading.specs.Reading.{read_from}
+use Rattle.file_reading.specs.Reading.{ReadAnswer, read_from}
 use Rattle.file_writing.specs.Writing.{write_answer, output}
 
 -- lists that are lent to the reader for floors, ceilings and rises

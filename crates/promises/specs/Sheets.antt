@@ -6,9 +6,8 @@ use Rattle.session.specs.Profile.{Profile}
 use Rattle.session.specs.Opening.{opened}
 use Rattle.session.specs.declared.Session.{Session}
 use Rattle.session_cutting.specs.Cutting.{after_numbered}
-use Rattle.session_sheets.specs.Sheets.{not_answered, asked_on, after_sheet, list_after_sheet}
+use Rattle.session_sheets.specs.Sheets.{AfterSheet, not_answered, asked_on, after_sheet, list_after_sheet}
 use Rattle.session_sheets.specs.declared.AskedSheet.{AskedSheet}
-use Rattle.session_sheets.specs.declared.AfterSheet.{AfterSheet}
 use Rattle.promises.specs.Cuts.{CutCall, after}
 use Rattle.promises.specs.Demands.{ListedChanges, AfterList}
 use Rattle.session_cuts.specs.declared.Cut.{Cut}

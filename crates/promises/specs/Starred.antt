@@ -20,10 +20,8 @@ use Rattle.session_cuts.specs.declared.Cut.{Cut}
 use Rattle.session_cuts.specs.declared.Cut.TheVariants.{DayFloor, DayCeiling, TotalCeiling}
 use Rattle.session_order.specs.Order.{days_where, insert_day, settled_order}
 use Rattle.session_cutting.specs.Cutting.{after_cut, early_cutting, clipped, list_after, after_numbered, AfterCut}
-use Rattle.session_sheets.specs.Sheets.{not_asked, after_cuts, sheet_refusal, answers_to, after_sheet, list_after_sheet}
+use Rattle.session_sheets.specs.Sheets.{AfterSheet, Answered, not_asked, after_cuts, sheet_refusal, answers_to, after_sheet, list_after_sheet}
 use Rattle.session_sheets.specs.declared.AskedSheet.{AskedSheet}
-use Rattle.session_sheets.specs.declared.Answered.{Answered}
-use Rattle.session_sheets.specs.declared.AfterSheet.{AfterSheet}
 
 -- from .. to
 pub record Range : Type 0 where

@@ -1,34 +1,44 @@
 -- Inspecting by what its tests found: which rules are kept so far, and a law for each return.
-use mathlib.Core.Path.{◌≡◌}
-use mathlib.Core.Bool.{Bool, true, false}
+use mathlib.Core.Path.{◌≡◌, refl}
+use mathlib.Core.Bool.{Bool, true, false, cond}
 use mathlib.Core.List.{List}
-use Prim.Native.Nat.{ℕ, ◌+◌, ◌-◌, ◌*◌, ◌≤◌, ◌<◌}
+use Prim.Native.Nat.{ℕ, ◌-◌, ◌≤◌, ◌<◌}
+use native.Mathlib.Nat.{le_refl}
+use native.Mathlib.Omega.{arith}
+use native.Mathlib.Decide.{dec_lt}
 use lib.IntN.{ℤ}
 use lib.Dec.{ltb}
 use lib.ListN.{length}
 use borrow.Author.Tests.{eq-eqb, ne_eqb, lt-ltb, le-ltb}
-use Rattle.theory_lists.specs.Sum.{at}
-use Rattle.theory_lists.specs.First.{first_where}
-use Rattle.theory_chains.specs.Sum.{sum}
-use Rattle.theory_method.specs.Counted.{counted}
+use Rattle.std.specs.Prelude.{Option, None, Some, MatchOption}
+use Rattle.theory_lists.specs.First.{first_where, first-only}
 use Rattle.session.specs.declared.Session.{Session}
 use Rattle.schedule_inspection.specs.Inspecting.{refused, kept, broken, judged, inspected}
-use Rattle.schedule_inspection.specs.Stages.{outside, day_outside, fallen, total_outside, judged_codes}
+use Rattle.schedule_inspection.specs.Stages.{day_outside, fallen, total_outside, first_found, judged_codes}
 
--- ---- is_outside
+-- ---- first_outside and first_fallen
 
-module _ (low high x : ℕ) where
-  pub below : x < low → true ≡ outside low high x
-  below h = let e : ltb x low ≡ true = lt-ltb x low h in rw e
+module _ (t : ℕ → Bool) (n : ℕ) where
+  -- what looking from 0 on finds
+  pub first-seen : (r : Option ℕ) → MatchOption r ((k : ℕ) → 0 ≤ k → k < n → t k ≡ false) (λ i. (0 ≤ i) × (i < n) × (t i ≡ true) × ((k : ℕ) → 0 ≤ k → k < i → t k ≡ false))
+      → r ≡ first_found t n
+  unfolding first_found
+  first-seen None h =
+      let e : n ≡ first_where t n = first-only (record { most = le_refl n; before = λ k l. h k (omega arith) l; here = λ l. absurd (omega arith) }) in
+      rw (← e, le-ltb n n (le_refl n))
+  first-seen (Some i) h =
+      let e : i ≡ first_where t n = first-only (record { most = omega (arith, h.1); before = λ k l. h.3 k (omega arith) l; here = λ _. h.2 }) in
+      rw (← e, lt-ltb i n h.1)
 
-  pub not-below : low ≤ x → ltb high x ≡ outside low high x
-  not-below h = let e : ltb x low ≡ false = le-ltb x low h in rw e
-
--- ---- is_total_outside
-
-pub total-outside : (xs : List ℕ) (n first least most : ℕ) {s : ℕ} → s ≡ sum (counted first n) n (at xs)
-    → outside (least + 32768 * (n - first)) (most + 32768 * (n - first)) (s + 512000) ≡ total_outside xs n first least most
-total-outside xs n first least most e = rw e
+  -- what it says of the first
+  pub seen : (r : Option ℕ) → r ≡ first_found t n → MatchOption r (n ≤ first_where t n) (λ k. (k ≡ first_where t n) × (k < n))
+  unfolding first_found
+  seen r e = rw e (go (dec_lt (first_where t n) n))
+    where
+      go : Dec (first_where t n < n)
+          → MatchOption (cond (ltb (first_where t n) n) (Some (first_where t n)) None) (n ≤ first_where t n) (λ k. (k ≡ first_where t n) × (k < n))
+      go (yes l) = rw (lt-ltb (first_where t n) n l) (refl, l)
+      go (no l) = let m : n ≤ first_where t n = omega arith in rw (le-ltb (first_where t n) n m) m
 
 -- ---- judge_codes
 

@@ -1,13 +1,15 @@
 -- Document 01: inspecting a schedule that somebody wrote.
-use Rattle.std.specs.Prelude.{◌≡◌, Bool, cond, not, List, ℕ, ◌+◌, ◌-◌, ℤ, ◌+ℤ◌, eqb, ltb, length}
+use Rattle.std.specs.Prelude.{◌≡◌, Bool, cond, not, List, ℕ, ◌+◌, ◌-◌, ℤ, ◌+ℤ◌, eqb, ltb, length, Result, Ok, Err}
 use Rattle.std.specs.Int.Signed.{lt_z}
 use Rattle.theory_lists.specs.First.{first_where}
 use Rattle.base_codes.specs.Code.{within, on}
 use Rattle.session.specs.Profile.{total}
 use Rattle.session.specs.Showing.{floor_on, ceiling_on, rise_on, total_floor, total_ceiling}
 use Rattle.session.specs.declared.Session.{Session}
-use Rattle.schedule_inspection.specs.declared.Inspection.{Inspection}
-use Rattle.schedule_inspection.specs.declared.Inspection.TheVariants.{WrongLength, Spent, Kept, BrokenDay, BrokenRise, BrokenTotal}
+use Rattle.refusals.specs.declared.Refusal.{Refusal}
+use Rattle.refusals.specs.Number.{refusal_number}
+use Rattle.schedule_inspection.specs.declared.Finding as Code
+use Rattle.schedule_inspection.specs.declared.Finding.TheVariants.{Kept, BrokenDay, BrokenRise, BrokenTotal}
 
 -- ---- the rules, by the session's present ranges, for a list x of setpoints
 
@@ -42,17 +44,19 @@ abbrev pub broken : ℕ → ℕ → Finding
 broken rule place = record { refusal = 0; rule = rule; place = place }
 
 -- what each case of the answer says
-abbrev pub finding : Inspection → Finding
-finding WrongLength = refused 2
-finding Spent = refused 9
-finding Kept = kept
-finding (BrokenDay day) = broken 1 day
-finding (BrokenRise rise) = broken 2 rise
-finding BrokenTotal = broken 3 0
+abbrev pub found : Code.Finding → Finding
+found Kept = kept
+found (BrokenDay day) = broken 1 day
+found (BrokenRise rise) = broken 2 rise
+found BrokenTotal = broken 3 0
+
+abbrev pub finding : Result Code.Finding Refusal → Finding
+finding (Ok answer) = found answer
+finding (Err refusal) = refused (refusal_number refusal)
 
 -- no two say the same
 abbrev pub FindingOne : Type 0
-FindingOne = (a b : Inspection) → finding a ≡ finding b → a ≡ b
+FindingOne = (a b : Result Code.Finding Refusal) → finding a ≡ finding b → a ≡ b
 
 -- ---- inspecting
 

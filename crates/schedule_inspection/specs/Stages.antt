@@ -1,6 +1,6 @@
 -- Inspecting by stages, as the code takes them, over codes. A reader may pass this page over: the contract of `inspect` does not cite it.
 -- A setpoint is held plus 32,768, so that every 16-bit number has a code; a level is a point plus 1,000, a rise code a rise plus 2,000.
-use Rattle.std.specs.Prelude.{Bool, cond, ◌||◌, List, ℕ, ◌+◌, ◌-◌, ◌*◌, ltb}
+use Rattle.std.specs.Prelude.{Bool, cond, ◌||◌, List, ℕ, ◌+◌, ◌-◌, ◌*◌, ltb, Option, None, Some}
 use Rattle.limits.specs.Limits.{rise_offset, total_offset, setpoint_offset, level_to_setpoint}
 use Rattle.theory_lists.specs.Sum.{at}
 use Rattle.theory_lists.specs.First.{first_where}
@@ -24,6 +24,10 @@ fallen xs rs k = ltb (at xs (k + 1) + rise_offset) (at xs k + at rs k)
 abbrev pub total_outside : List ℕ → ℕ → ℕ → ℕ → ℕ → Bool
 total_outside xs n first least most =
     outside (least + setpoint_offset * (n - first)) (most + setpoint_offset * (n - first)) (sum (counted first n) n (at xs) + total_offset)
+
+-- the first k below n with t k
+unfoldable pub first_found : (ℕ → Bool) → ℕ → Option ℕ
+first_found t n = let k : ℕ = first_where t n in cond (ltb k n) (Some k) None
 
 -- the first broken rule
 unfoldable pub judged_codes : List ℕ → List ℕ → List ℕ → List ℕ → ℕ → ℕ → ℕ → ℕ → Finding

@@ -11,24 +11,24 @@ ghost use Rattle.schedule_raising.specs.Raising.{raised_day, raised_to};
 use base_arrays::held_total;
 use limits::{FREE_LEVEL, MOST_DAYS, RISE_OFFSET};
 
-// A day's level, and what the sum still lacks.
+// A day's level, and what the sum still lacks, in 32 bits: a small processor computes with twice as many instructions in 64.
 #[derive(Clone, Copy)]
 struct Raised {
-    level: usize,
-    rest: usize,
+    level: u32,
+    rest: u32,
 }
 
 // The greatest level that the rise to the next day's level allows, or 0 where that is below the scale. A rise code is the rise plus 2,000.
-fn most_before(next: usize, rise: usize) -> usize
+fn most_before(next: u32, rise: u32) -> u32
     requires { (next ≤ free_level) × (rise ≤ highest_rise_code) }
     ensures { result ≡ next + rise_offset - rise }
 {
-    (next + RISE_OFFSET).saturating_sub(rise)
+    (next + RISE_OFFSET as u32).saturating_sub(rise)
 }
 
 // The level of the day before `next`, raised as far as the sum, the ceiling and the rise allow.
 #[tactic(auto, unfolding(crate::specs::Raising::raised_day))]
-fn raise_day(floor: usize, ceiling: usize, rise: usize, next: Raised) -> Raised
+fn raise_day(floor: u32, ceiling: u32, rise: u32, next: Raised) -> Raised
     requires { (floor ≤ highest_level) × (ceiling ≤ highest_level) × (rise ≤ highest_rise_code) × (next.level ≤ free_level) × (next.rest ≤ highest_total_code) }
     ensures { result ≡ raised_day floor ceiling rise next }
 {
@@ -54,16 +54,12 @@ pub fn raise_to(
     ensures { floors.new ≡ written (raised_to floors.old ceilings.now rises.now n first total) n floors.old }
 {
     let mut day = Raised {
-        level: FREE_LEVEL,
-        rest: total.saturating_sub(held_total(floors, n, first)),
+        level: FREE_LEVEL as u32,
+        rest: total.saturating_sub(held_total(floors, n, first)) as u32,
     };
-    for k in (first..n).rev() {
-        day = raise_day(
-            floors[k] as usize,
-            ceilings[k] as usize,
-            rises[k] as usize,
-            day,
-        );
+    for i in (first as u32..n as u32).rev() {
+        let k = i as usize;
+        day = raise_day(floors[k] as u32, ceilings[k] as u32, rises[k] as u32, day);
         floors[k] = day.level as u16;
     }
 }

@@ -1,5 +1,5 @@
 -- A value checked by its range: the code tells what the value does, and what is taken is within the range.
-use mathlib.Core.Path.{◌≡◌, refl}
+use mathlib.Core.Path.{◌≡◌, refl, ap}
 use mathlib.Core.Bool.{Bool, true, false, cond, not, ◌&&◌}
 use Prim.Native.Nat.{ℕ, ◌≤◌, ◌<◌}
 use native.Mathlib.Omega.{arith}
@@ -9,29 +9,11 @@ use lib.Dec.{ltb, leb}
 use lib.Signed.{◌≤ℤ◌}
 use borrow.Author.Tests.{lt-ltb, le-ltb, le-leb, lt-leb}
 use Rattle.base_codes.specs.Code.{within, code, decoded, coded}
-use Rattle.base_codes.specs.declared.Coded.{Coded}
-use Rattle.base_codes.specs.declared.Coded.TheVariants.{Code, Outside}
 use Rattle.base_codes.proofs.Offset.{Less, less_le}
 use Rattle.base_codes.proofs.Laws.{code-decoded, decoded_less, code-most, within-yes, within_no, within_less}
 use Rattle.base_codes.proofs.Order.{≤ℤ_trans, within_test}
 use Rattle.schedule_writing.specs.Stages.{refused_as, taken, checked, checked_code}
-use Rattle.schedule_writing.specs.declared.Checked.{Checked}
-
--- ---- by the value's code: the checks in their order
-
-module _ (value : Coded) (floor ceiling : ℕ) {spent : Bool} where
-  pub check-spent : spent ≡ true → refused_as 9 ≡ checked_code value floor ceiling spent
-  check-spent h = rw h
-
-  module _ (fresh : spent ≡ false) where
-    pub check-outside : value ≡ Outside → refused_as 10 ≡ checked_code value floor ceiling spent
-    check-outside e = rw (fresh, e)
-
-    pub check-refused : {c : ℕ} → value ≡ Code c → (leb floor c && leb c ceiling) ≡ false → refused_as 10 ≡ checked_code value floor ceiling spent
-    check-refused e h = rw (fresh, e, h)
-
-    pub check-taken : {c : ℕ} → value ≡ Code c → (leb floor c && leb c ceiling) ≡ true → taken c ≡ checked_code value floor ceiling spent
-    check-taken e h = rw (fresh, e, h)
+use Rattle.std.specs.Prelude.{Option}
 
 -- ---- a value and its code
 
@@ -65,7 +47,7 @@ module _ (low z : ℤ) (k top floor ceiling : ℕ) (p : Less low 0 k) where
       )
 
   -- so its code tells what it does itself
-  pub check-coded : (spent : Bool) → ceiling ≤ top → {v : Coded} → v ≡ coded low (decoded low top) z → checked_code v floor ceiling spent ≡ checked low floor ceiling spent z
+  pub check-coded : (spent : Bool) → ceiling ≤ top → {v : Option ℕ} → v ≡ coded low (decoded low top) z → checked_code v floor ceiling spent ≡ checked low floor ceiling spent z
   unfolding checked
   check-coded spent most e = rw e (go (within low (decoded low top) z) refl)
     where
@@ -84,22 +66,21 @@ module _ (low z : ℤ) (floor ceiling : ℕ) (spent : Bool) where
       go false true = refl
       go false false = refl
 
-  module _ {q : Checked} (e : q ≡ checked low floor ceiling spent z) (none : q.refusal ≡ 0) where
-    taken-within : (within (decoded low floor) (decoded low ceiling) z ≡ true) × (q.code ≡ code low z)
+  module _ {c : ℕ} (e : taken c ≡ checked low floor ceiling spent z) where
+    taken-within : (within (decoded low floor) (decoded low ceiling) z ≡ true) × (c ≡ code low z)
     unfolding checked
-    taken-within = rw e (go spent (within (decoded low floor) (decoded low ceiling) z) (rw e at none))
+    taken-within = go spent (within (decoded low floor) (decoded low ceiling) z) e
       where
-        go : (a b : Bool) → (cond a (refused_as 9) (cond b (taken (code low z)) (refused_as 10))).refusal ≡ 0
-            → (b ≡ true) × ((cond a (refused_as 9) (cond b (taken (code low z)) (refused_as 10))).code ≡ code low z)
-        go true b h = absurd (omega arith)
-        go false true h = (refl, refl)
-        go false false h = absurd (omega arith)
+        go : (a b : Bool) → taken c ≡ cond a (refused_as 9) (cond b (taken (code low z)) (refused_as 10)) → (b ≡ true) × (c ≡ code low z)
+        go true b h = absurd (omega (arith, ap (λ q. q.refusal) h))
+        go false true h = (refl, ap (λ q. q.code) h)
+        go false false h = absurd (omega (arith, ap (λ q. q.refusal) h))
 
     -- where it is taken, its code is given, and is within the range
-    pub taken-code : q.code ≡ code low z
+    pub taken-code : c ≡ code low z
     taken-code = taken-within.1
 
-    pub taken-most : (k : ℕ) → Less low 0 k → q.code ≤ ceiling
+    pub taken-most : (k : ℕ) → Less low 0 k → c ≤ ceiling
     taken-most k p =
         let w = (within-yes (decoded low floor) (decoded low ceiling) z).0 taken-within.0 in
         let l = ≤ℤ_trans low (decoded low floor) z (floor-above low z k ceiling floor ceiling p) w.0 in

@@ -1,7 +1,8 @@
 -- A cut by what its tests found.
-use Rattle.std.specs.Prelude.{None, Option, Some, ok_or}
+use Rattle.std.specs.Prelude.{None, Option, Some, Result, Ok, Err, ok_or}
 use Rattle.refusals.specs.declared.Refusal.{Refusal}
-use Rattle.refusals.specs.Number.{refusal_number}
+use Rattle.refusals.specs.Number.{refusal_number, refusal_of}
+use Rattle.std.specs.Result.{result_unwrap_or}
 use mathlib.Core.Path.{◌≡◌, refl, ap, sym, ◌∙◌}
 use mathlib.Core.Bool.{Bool, true, false, cond}
 use mathlib.Core.List.{List}
@@ -25,7 +26,7 @@ use Rattle.session.specs.declared.Session.{Session}
 use Rattle.session_cuts.specs.declared.Cut.{Cut}
 use Rattle.session_cuts.specs.declared.Cut.TheVariants.{DayFloor, DayCeiling, TotalFloor, TotalCeiling}
 use Rattle.theory_lists.specs.Front.{in_front}
-use Rattle.session_cutting.specs.Cutting.{AfterCut, day_cut_refusal, total_cut_refusal, malformed, early_cutting, clipped, retightened, changed_days, spend, with_present, refusing, tightened_to, after_cut, after_numbered, list_after}
+use Rattle.session_cutting.specs.Cutting.{AfterCut, answer_as, day_cut_refusal, total_cut_refusal, malformed, early_cutting, clipped, retightened, changed_days, spend, with_present, refusing, tightened_to, after_cut, after_numbered, list_after}
 use Rattle.session_cutting.specs.Stages.{Checked, checked_as, checked_value, checked_cut, DayClips, Clips}
 use Rattle.session_cutting.proofs.Laws.{day-formed, total-formed, earlier_none, refused-same, accepted, refused-list, accepted-list, clipped_in_bounds}
 
@@ -57,12 +58,12 @@ total-clips : (day : ℕ) (value : ℤ) → total_cut_refusal day value ≡ 0 �
 unfolding checked_value
 total-clips day value e = let f = total-formed day value e in rw (eq-eqb day 0 f.0, f.1) refl
 
-refusal_of : (n : ℕ) (c : Cut) → (checked_cut n c).refusal ≡ malformed n c
+cut_refusal : (n : ℕ) (c : Cut) → (checked_cut n c).refusal ≡ malformed n c
 unfolding checked_cut
-refusal_of n (DayFloor day value) = value_refusal (ltb day n) (within lowest_point highest_point value) 7 3 (code lowest_point value)
-refusal_of n (DayCeiling day value) = value_refusal (ltb day n) (within lowest_point highest_point value) 7 3 (code lowest_point value)
-refusal_of n (TotalFloor day value) = value_refusal (eqb day 0) (within lowest_total highest_total value) 12 5 (code lowest_total value)
-refusal_of n (TotalCeiling day value) = value_refusal (eqb day 0) (within lowest_total highest_total value) 12 5 (code lowest_total value)
+cut_refusal n (DayFloor day value) = value_refusal (ltb day n) (within lowest_point highest_point value) 7 3 (code lowest_point value)
+cut_refusal n (DayCeiling day value) = value_refusal (ltb day n) (within lowest_point highest_point value) 7 3 (code lowest_point value)
+cut_refusal n (TotalFloor day value) = value_refusal (eqb day 0) (within lowest_total highest_total value) 12 5 (code lowest_total value)
+cut_refusal n (TotalCeiling day value) = value_refusal (eqb day 0) (within lowest_total highest_total value) 12 5 (code lowest_total value)
 
 clips_of : (n : ℕ) (c : Cut) → n ≤ 512 → malformed n c ≡ 0 → Clips c (checked_cut n c).value
 unfolding checked_cut
@@ -73,10 +74,21 @@ clips_of n (TotalCeiling day value) few e = total-clips day value e
 
 module _ (n : ℕ) (c : Cut) {r : Checked} (e : r ≡ checked_cut n c) where
   pub checked-refusal : r.refusal ≡ malformed n c
-  checked-refusal = rw e (refusal_of n c)
+  checked-refusal = rw e (cut_refusal n c)
 
   pub checked-clips : n ≤ 512 → r.refusal ≡ 0 → Clips c r.value
   checked-clips few z = rw e (clips_of n c few (sym checked-refusal ∙ z))
+
+-- ---- an answer
+
+-- its two numbers, as a caller in C is told them
+pub number-told : (a : Result ℕ Refusal) → refusal_of a ≡ (answer_as a).refusal
+number-told (Ok changed) = refl
+number-told (Err refusal) = refl
+
+pub changed-told : (a : Result ℕ Refusal) → result_unwrap_or a 0 ≡ (answer_as a).changed
+changed-told (Ok changed) = refl
+changed-told (Err refusal) = refl
 
 -- ---- cut_ranges
 

@@ -5,9 +5,9 @@ ghost use Rattle.std.specs.Prelude.{◌≡◌, length};
 ghost use Rattle.session.specs.Showing.{SessionInBounds};
 ghost use Rattle.session_cutting.specs.Cutting.{answer_as, after_as, after_cut, list_after};
 
+use refusals::Refusal;
 use session::Session;
 use session_cuts::Cut;
-use refusals::Refusal;
 use session_cutting::AfterCut;
 
 // The panel holds one session for a whole batch, and each cut changes that session.

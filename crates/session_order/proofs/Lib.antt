@@ -4,6 +4,6 @@ pub mod Settled
 pub mod Piles
 pub mod Losers
 pub mod Walk
-pub mod Chains
+pub mod Chaining
 pub mod Listing
 pub mod Whole

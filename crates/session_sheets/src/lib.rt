@@ -60,12 +60,7 @@ struct Made {
 }
 
 // 1, 14, then 2: what a sheet is refused for before its first cut.
-pub fn check_sheet(
-    days: usize,
-    cuts: usize,
-    answers: usize,
-    changed: usize,
-) -> Result<(), Refusal>
+pub fn check_sheet(days: usize, cuts: usize, answers: usize, changed: usize) -> Result<(), Refusal>
     ensures { refusal_of result ≡ sheet_refusal days cuts answers changed }
 {
     if MOST_CUTS < cuts {

@@ -88,7 +88,8 @@ pub fn cut_next(
     if spent {
         return refuse(numbers, spent, Refusal::Spent);
     }
-    let Some(total) = session_cutting::cut_ranges(floors, ceilings, rises, numbers, cut, value) else {
+    let Some(total) = session_cutting::cut_ranges(floors, ceilings, rises, numbers, cut, value)
+    else {
         return refuse(numbers, true, Refusal::NoSchedule);
     };
     let count = count_narrowed(floors, ceilings, n, widths);

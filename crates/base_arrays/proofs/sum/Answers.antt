@@ -1,9 +1,9 @@
-use Rattle.std.proofs.Common.{◌≡◌, ◌+◌, ap, arith}
+use Rattle.std.proofs.Common.{◌≡◌, ◌+◌, ap, sym, arith}
 use Rattle.theory_lists.specs.Sum.{at, sum-none, sum_back}
 use Rattle.base_arrays.proofs.sum.Goals as goal
 
 pub loop-k-init : goal.loop-k-init
-loop-k-init c = grind (arith, sum-none)
+loop-k-init c = (sym (sum-none (at c.args.levels.now) 0), omega arith)
 
 pub loop-k-preserved : goal.loop-k-preserved
 loop-k-preserved c =

@@ -1,7 +1,6 @@
 use lib.IntN.{pos}
 use mir.Syntax.{w16}
 use Rattle.theory_lists.specs.ListOf.{length-list_of, get_list_of}
-use Rattle.base_codes.proofs.Casts.{bounds_seen}
 use Rattle.base_codes.proofs.Loops.{coding_none, coding_more, coding_seen}
 use Rattle.c_lists.specs.Lists.{point_at, points_in}
 use borrow.Author.Rules.{sfits_of}
@@ -9,9 +8,6 @@ use Rattle.c_lists.proofs.code_points.Goals as goal
 
 pub loop-j-init : goal.loop-j-init
 loop-j-init c = coding_none
-
-pub code_cell-cell-requires : goal.code_cell-cell-requires
-code_cell-cell-requires c = bounds_seen c.ranges.low c.ranges.high c.requires.0
 
 pub loop-j-preserved : goal.loop-j-preserved
 loop-j-preserved c =

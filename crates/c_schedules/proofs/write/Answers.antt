@@ -6,13 +6,14 @@ use Prim.Native.Nat.{◌≤◌}
 use mir.Facts.{to_z-of_z}
 use native.Mathlib.Omega.{arith}
 use borrow.Author.Rules.{rules}
+use Rattle.std.specs.Prelude.{Err}
+use Rattle.refusals.proofs.Laws.{refused}
 use Rattle.c_layout.specs.Layout.{decoding}
 use Rattle.c_layout.proofs.Inverse.{decoding_in_bounds}
 use Rattle.c_schedules.specs.Schedules.{setpoint_for}
-use Rattle.c_schedules.specs.Stages.{checked_for}
 use Rattle.c_schedules.proofs.Laws.{both, no_session, no_list, session-and-list, Taken, code_fits, PointsStanding, points_standing, write_unread, write-refused, write-all}
 use Rattle.c_schedules.proofs.write.Goals as goal
-use Rattle.c_schedules.proofs.write.Goals.{After-check-checked, After-days_of-n, After-load_levels, Else-checked-ne0, Else-list-n}
+use Rattle.c_schedules.proofs.write.Goals.{After-days_of-n, After-load_levels, Else-list-n, In_ok-code}
 
 few : (c : After-days_of-n) → c.days_of-n.result ≤ 512
 few c = omega (arith, c.days_of-n.ensures, (decoding_in_bounds c.args.session.now).present.most)
@@ -20,14 +21,12 @@ few c = omega (arith, c.days_of-n.ensures, (decoding_in_bounds c.args.session.no
 right : (c : Else-list-n) → both c.args.session.now c.args.list.now ≡ true
 right c = session-and-list _ _ c.if-session-ne-SESSION_BYTES.false c.days_of-n.ensures c.if-list-n.false
 
-checked : (c : After-check-checked) → let a = c.args in c.check-checked.result ≡ checked_for (decoding c.args.session.now) a.subject a.value
-checked c = rw (to_z-of_z c.ranges.value) at c.check-checked.ensures
+taken : (c : In_ok-code) → let a = c.args in Taken (decoding a.session.now) a.subject a.value c.in_ok-code.code
+taken c = record { bounds = decoding_in_bounds c.args.session.now; right = rw (to_z-of_z c.ranges.value) at c.in_ok-code.ensures }
 
-taken : (c : Else-checked-ne0) → let a = c.args in Taken (decoding c.args.session.now) a.subject a.value c.check-checked.result
-taken c = record { bounds = decoding_in_bounds c.args.session.now; right = rw (to_z-of_z c.ranges.value) at c.check-checked.ensures; none = c.if-checked-ne0.false }
-
-loaded : (c : After-load_levels) → let a = c.args in PointsStanding (setpoint_for (decoding c.args.session.now) a.subject a.value) (decoding c.args.session.now).days c.load_levels.new.levels
-loaded c = points_standing _ (record { bounds = decoding_in_bounds c.args.session.now; right = rw (to_z-of_z c.ranges.value) at c.check-checked.ensures; none = c.if-checked-ne0.false }) c.load_levels.ensures
+loaded : (c : After-load_levels) → let a = c.args in PointsStanding (setpoint_for (decoding a.session.now) a.subject a.value) (decoding a.session.now).days c.load_levels.new.levels
+loaded c =
+    points_standing _ (record { bounds = decoding_in_bounds c.args.session.now; right = rw (to_z-of_z c.ranges.value) at c.in_ok-code.ensures }) c.load_levels.ensures
 
 pub returns-then-session-ne-SESSION_BYTES : goal.returns-then-session-ne-SESSION_BYTES
 returns-then-session-ne-SESSION_BYTES c =
@@ -42,20 +41,24 @@ returns-then-list-n c =
     let whole = write_unread _ _ _ _ (no_list _ _ c.if-session-ne-SESSION_BYTES.false c.days_of-n.ensures c.if-list-n.true) in
     record { value = whole.0; list_after = whole.1 }
 
-pub returns-then-checked-ne0 : goal.returns-then-checked-ne0
-returns-then-checked-ne0 c =
-    let whole = write-refused _ _ _ _ (right (goal.at.returns-then-checked-ne0 c).Else-list-n) (checked (goal.at.returns-then-checked-ne0 c).After-check-checked) c.if-checked-ne0.true in
-    record { value = whole.0; list_after = whole.1 }
+pub returns-in_err-code : goal.returns-in_err-code
+returns-in_err-code c =
+    let e : c.from_residual.result ≡ Err c.in_err-code.field-0.0 = search rules in
+    let whole = write-refused _ _ _ _ (right (goal.at.returns-in_err-code c).Else-list-n) (rw (to_z-of_z c.ranges.value) at c.in_err-code.ensures) (refused _) in
+    rw e (record { value = whole.0; list_after = whole.1 })
 
 pub load_levels-requires : goal.load_levels-requires
-load_levels-requires c = (search rules, code_fits _ (taken (goal.at.load_levels-requires c).Else-checked-ne0), refl)
+load_levels-requires c = (search rules, code_fits _ (taken (goal.at.load_levels-requires c).In_ok-code), refl)
 
 pub put_levels-requires : goal.put_levels-requires
-put_levels-requires c =
-    (few (goal.at.put_levels-requires c).After-days_of-n, omega (arith, c.if-list-n.false), λ k h. (loaded (goal.at.put_levels-requires c).After-load_levels).small k (omega (arith, c.days_of-n.ensures)))
+put_levels-requires c = (
+  omega (arith, few (goal.at.put_levels-requires c).After-days_of-n),
+  omega (arith, c.if-list-n.false),
+  λ k h. (loaded (goal.at.put_levels-requires c).After-load_levels).small k (omega (arith, c.days_of-n.ensures)),
+)
 
 pub returns : goal.returns
 returns c =
-    let whole = write-all _ _ _ _ (right (goal.at.returns c).Else-list-n) (checked (goal.at.returns c).After-check-checked) c.if-checked-ne0.false
+    let whole = write-all _ _ _ _ (right (goal.at.returns c).Else-list-n) (taken (goal.at.returns c).In_ok-code).right
     c.days_of-n.ensures c.if-list-n.false (loaded (goal.at.returns c).After-load_levels) c.put_levels.ensures in
     record { value = whole.0; list_after = whole.1 }

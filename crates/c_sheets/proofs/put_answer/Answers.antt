@@ -1,7 +1,8 @@
 -- `put_answer` meets its contract: the number of changed days is stored behind the refusal.
 use mathlib.Core.Path.{◌∙◌}
 use Rattle.session_cutting.specs.Cutting.{answer_as}
-use Rattle.c_sheets.proofs.Laws.{answer_stored, number-told, changed-told}
+use Rattle.session_cutting.proofs.Stages.{number-told, changed-told}
+use Rattle.c_sheets.proofs.Laws.{answer_stored}
 use Rattle.c_sheets.proofs.put_answer.Goals as goal
 
 pub returns : goal.returns

@@ -1,21 +1,19 @@
--- `copy_levels` meets its contract: the levels are read in front of `place` (`field_front`), and stored in the part behind it (`back_sets`).
-use Prim.Native.Nat.{ℕ, ◌+◌, ◌*◌, min}
-use mathlib.Core.Path.{◌≡◌, ap, ◌∙◌}
+use Prim.Native.Nat.{◌+◌, ◌*◌, min}
+use Rattle.base_little_endian.specs.Fields.{u16_at, u16_bytes}
+use Rattle.base_little_endian.proofs.Laws.{u16-length}
+use Rattle.theory_lists.specs.Rows.{rows, even_none, even_more}
+use Rattle.c_storing.proofs.Laws.{field_before}
 use native.Mathlib.Omega.{arith}
-use borrow.Author.Rules.{rules}
-use Rattle.base_little_endian.specs.Fields.{u16_at}
-use Rattle.c_lists.specs.Lists.{cell_bytes}
-use Rattle.c_layout.proofs.Lengths.{cells_length}
-use Rattle.c_storing.proofs.Laws.{back_sets, field_front}
 use Rattle.c_storing.proofs.copy_levels.Goals as goal
 
-pub returns : goal.returns
-returns c =
+pub loop-j-init : goal.loop-j-init
+loop-j-init c = even_none 2
+
+pub loop-j-preserved : goal.loop-j-preserved
+loop-j-preserved c =
     let a = c.args in
-    let b = a.bytes.now in
-    let parts = c.split_at_mut-held in
-    let level : ℕ → ℕ = λ k. min (u16_at b (a.from + k * 2)) 5000 in
-    let stored = c.put_each_cell.ensures level (λ k x u p.
-    let read : x ≡ min (u16_at parts.result.0.now (a.from + k * 2)) 5000 = search rules in
-    read ∙ ap (λ x. min x 5000) (rw parts.ensures.front (field_front b a.place (a.from + k * 2) (omega (arith, c.requires.1))))) in
-    rw (parts.ensures.front, stored, parts.ensures.back) (back_sets (cell_bytes level a.n) b a.place (omega (arith, cells_length level a.n, c.requires.2)))
+    let place = a.from + c.loop-j.j * 2 in
+    let stored = rows (λ k. u16_bytes (min (u16_at a.bytes.now (a.from + k * 2)) 5000)) c.loop-j.j in
+    let left = field_before stored a.bytes.now a.place place (omega (arith, c.loop-j-test.true, c.requires.1)) in
+    let held = rw (c.loop-j.invariant.made, left) at c.level-held.ensures in
+    even_more 2 (λ k. u16-length _) c.loop-j.invariant c.loop-j-test.true (rw held at c.put_u16.ensures)

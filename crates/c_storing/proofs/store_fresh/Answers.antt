@@ -12,19 +12,12 @@ use Rattle.session.specs.declared.Session.{Session}
 use Rattle.c_layout.specs.Layout.{total_bytes, block_bytes, encoding}
 use Rattle.c_layout.proofs.Lengths.{totals-length, block_length_lem, encoding-length}
 use Rattle.c_storing.proofs.Laws.{laid, laid_more, laid_last, sets-whole}
-use native.Mathlib.Omega.{arith}
 use Rattle.c_storing.proofs.store_fresh.Goals as goal
 use Rattle.c_storing.proofs.store_fresh.Goals.{After-put_u16-3}
 
 -- the session that is stored
 abbrev stored : CodedNumbers → List ℕ → List ℕ → List ℕ → Session
 stored m rises floors ceilings = fresh m.days m.first rises (record { floors = floors; ceilings = ceilings; lowest = m.lowest; highest = m.highest })
-
-pub put_ranges-requires-2 : goal.put_ranges-requires-2
-put_ranges-requires-2 c = (c.requires.0.most, omega (arith, c.requires.1))
-
-pub put_u16-requires-3 : goal.put_u16-requires-3
-put_u16-requires-3 c = omega (arith, c.requires.1)
 
 -- the bytes once all is stored
 whole : (c : After-put_u16-3) → let a = c.args in c.put_u16-3.new.out ≡ encoding (stored a.numbers a.rises.now a.floors.now a.ceilings.now)

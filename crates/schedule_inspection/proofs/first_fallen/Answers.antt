@@ -1,15 +1,11 @@
-use mathlib.Core.Path.{sym, ◌∙◌}
-use Rattle.theory_lists.specs.First.{nowhere_none, nowhere_more, nowhere_here, nowhere_all}
+-- `first_fallen` meets its contract: `find` gives the first rise at which the closure's test holds (`first-seen`).
+use Rattle.std.proofs.Common.{◌≡◌, true, false, rules}
+use Rattle.std.proofs.lemmas.Iterator.{first_from_Range}
+use Rattle.schedule_inspection.specs.Stages.{fallen}
+use Rattle.schedule_inspection.proofs.Stages.{first-seen}
 use Rattle.schedule_inspection.proofs.first_fallen.Goals as goal
 
-pub loop-k-init : goal.loop-k-init
-loop-k-init c = nowhere_none
-
-pub returns-then-is_fallen : goal.returns-then-is_fallen
-returns-then-is_fallen c = nowhere_here c.loop-k.invariant c.loop-k-test.true (sym c.is_fallen.ensures ∙ c.if-is_fallen.true)
-
-pub loop-k-preserved : goal.loop-k-preserved
-loop-k-preserved c = nowhere_more c.loop-k.invariant c.loop-k-test.true (sym c.is_fallen.ensures ∙ c.if-is_fallen.false)
-
 pub returns : goal.returns
-returns c = nowhere_all c.loop-k.invariant c.loop-k-test.false
+returns c =
+    let a = c.args in
+    first-seen _ _ _ (first_from_Range _ _ _ _ (λ k. fallen a.setpoints.now a.rises.now k ≡ true) (λ k. fallen a.setpoints.now a.rises.now k ≡ false) c.find.ensures.ran (λ k q h. search rules) (λ k q h. (search rules, search rules)))

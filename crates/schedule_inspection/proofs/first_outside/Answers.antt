@@ -1,15 +1,12 @@
-use mathlib.Core.Path.{sym, ◌∙◌}
-use Rattle.theory_lists.specs.First.{nowhere_none, nowhere_more, nowhere_here, nowhere_all}
+-- `first_outside` meets its contract: `find` gives the first day at which the closure's test holds (`first-seen`).
+use Rattle.std.proofs.Common.{◌≡◌, true, false, rules, arith}
+use Rattle.std.proofs.lemmas.Iterator.{first_from_Range}
+use Rattle.schedule_inspection.specs.Stages.{day_outside}
+use Rattle.schedule_inspection.proofs.Stages.{first-seen}
 use Rattle.schedule_inspection.proofs.first_outside.Goals as goal
 
-pub loop-day-init : goal.loop-day-init
-loop-day-init c = nowhere_none
-
-pub returns-then-is_day_outside : goal.returns-then-is_day_outside
-returns-then-is_day_outside c = nowhere_here c.loop-day.invariant c.loop-day-test.true (sym c.is_day_outside.ensures ∙ c.if-is_day_outside.true)
-
-pub loop-day-preserved : goal.loop-day-preserved
-loop-day-preserved c = nowhere_more c.loop-day.invariant c.loop-day-test.true (sym c.is_day_outside.ensures ∙ c.if-is_day_outside.false)
-
 pub returns : goal.returns
-returns c = nowhere_all c.loop-day.invariant c.loop-day-test.false
+returns c =
+    let a = c.args in
+    first-seen _ _ _ (first_from_Range _ _ _ _ (λ k. day_outside a.setpoints.now a.floors.now a.ceilings.now k ≡ true)
+    (λ k. day_outside a.setpoints.now a.floors.now a.ceilings.now k ≡ false) c.find.ensures.ran (λ k q h. grind arith) (λ k q h. (search rules, grind arith)))

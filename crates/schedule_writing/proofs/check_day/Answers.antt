@@ -8,6 +8,6 @@ use Rattle.schedule_writing.proofs.check_day.Goals as goal
 
 pub returns : goal.returns
 returns c =
-    (rw (c.wide.ensures.0, c.wide-2.ensures.0) at c.check.ensures)
+    (rw (c.from.ensures, c.from-2.ensures) at c.check.ensures)
     ∙ check-coded lowest_point c.args.value 1000 5000 c.args.floor c.args.ceiling point_less c.args.spent c.requires
     (coded_seen lowest_point highest_point c.ranges.value c.code.ensures)

@@ -5,7 +5,6 @@ use Rattle.refusals.proofs.Laws.{refused, number_said, passed}
 use Rattle.session_sheets.specs.Sheets.{asked_on, sheet_refusal}
 use Rattle.session_sheets.proofs.Laws.{sheet_passed, made_narrows, sheet_refused, sheet_made}
 use Rattle.session_sheets.proofs.cut_sheet.Goals as goal
-
 use Rattle.session_sheets.proofs.cut_sheet.Goals.{In_default}
 
 pub returns-in-Err : goal.returns-in-Err

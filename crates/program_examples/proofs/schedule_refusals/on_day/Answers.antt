@@ -1,8 +1,0 @@
--- `on_day` meets its contract. The list is as long as asked.
-use lib.Seq.{length-take-le}
-use mathlib.Core.Path.{sym}
-use native.Mathlib.Omega.{arith}
-use Rattle.program_examples.proofs.schedule_refusals.on_day.Goals as goal
-
-pub slice_bounds-write_day-end : goal.slice_bounds-write_day-end
-slice_bounds-write_day-end c = sym (length-take-le _ _ (omega arith))
