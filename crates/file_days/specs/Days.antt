@@ -4,17 +4,11 @@ use Rattle.file_format.specs.Format.{day_length}
 use Rattle.base_little_endian.specs.Fields.{i16_at}
 use Rattle.file_days.specs.declared.Day.{Day}
 use Rattle.file_days.specs.declared.DayReader.{DayReader}
-use Rattle.file_days.specs.declared.DayStep.{DayStep}
-use Rattle.file_days.specs.declared.Taken.{Taken}
 
 -- the day that begins at a place
 abbrev pub day_at : List ℕ → ℕ → Day
 day_at b i = record { floor = i16_at b i; ceiling = i16_at b (i + 2); rise = i16_at b (i + 4) }
 
--- the day at a reader's place, and the reader moved on past it
-abbrev pub step_of : DayReader → DayStep
-step_of r = record { day = day_at r.bytes.now r.at; next = record { bytes = r.bytes; at = r.at + day_length } }
-
--- the day that begins at a place, and where the next begins
-abbrev pub taken_at : List ℕ → ℕ → Taken
-taken_at b i = record { day = day_at b i; next = i + day_length }
+-- a reader, moved on past the day at its place
+abbrev pub past : DayReader → DayReader
+past r = record { bytes = r.bytes; at = r.at + day_length }

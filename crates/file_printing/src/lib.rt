@@ -110,12 +110,11 @@ fn put_ranges(session: Session, out: &mut [u8; MOST_TEXT_BYTES]) -> usize
     ensures out_after { out.new ≡ in_front (ranges_text session) out.old }
     ensures value { result ≡ length (ranges_text session) }
 {
-    let days = session.days;
     let mut floors = [0i16; MOST_DAYS];
     let mut ceilings = [0i16; MOST_DAYS];
     let shown = session.show(&mut floors, &mut ceilings).unwrap();
     let at = put_total(out, shown.lowest, shown.highest);
-    put_days(out, at, days, &floors, &ceilings)
+    put_days(out, at, session.days, &floors, &ceilings)
 }
 
 fn put_refusal(number: u8, out: &mut [u8; MOST_TEXT_BYTES]) -> usize
@@ -140,11 +139,12 @@ fn open_read(
     ensures { Told result (opened (profile numbers (take numbers.days floors.now) (take numbers.days ceilings.now) (take (numbers.days - 1) rises.now))) }
 {
     let days = numbers.days;
-    let low: &[i16] = floors;
-    let high: &[i16] = ceilings;
-    let least: &[i16] = rises;
-    let steps = days - 1;
-    let opened = Session::open(numbers, &low[..days], &high[..days], &least[..steps]);
+    let opened = Session::open(
+        numbers,
+        &floors[..days],
+        &ceilings[..days],
+        &rises[..days - 1],
+    );
     match opened.refusal {
         None => Ok(opened.session),
         Some(refusal) => Err(refusal),
