@@ -10,6 +10,6 @@ abbrev pub unrefused : Session → Opened
 unrefused s = record { refusal = 0; session = s }
 
 -- a stage tells the session, or the refusal
-abbrev pub Told : Result Session Refusal → Opened → Type 0
-Told (Ok s) o = (o ≡ unrefused s) × SessionInBounds s
-Told (Err refusal) o = o.refusal ≡ refusal_number refusal
+abbrev pub StageTold : Result Session Refusal → Opened → Type 0
+StageTold (Ok s) o = (o ≡ unrefused s) × SessionInBounds s
+StageTold (Err refusal) o = o.refusal ≡ refusal_number refusal

@@ -19,12 +19,7 @@ pub(crate) fn on_day(session: Session, day: usize, value: i32, room: usize) -> u
     requires { SessionInBounds session × (room ≤ 4) }
 {
     let mut list = [0i16; 4];
-    number_of(&schedule_writing::write_day(
-        session,
-        day,
-        value,
-        &mut list[..room],
-    ))
+    number_of(&schedule_writing::write_day(session, day, value, &mut list[..room]))
 }
 
 fn day_of_a(day: usize, value: i32, room: usize) -> u8

@@ -8,8 +8,8 @@ ghost use Rattle.std.specs.Prelude.{◌≤◌, IfOk};
 ghost use Rattle.session.specs.Showing.{SessionInBounds};
 
 use program_output::{A, FALLING, Places, Ranges};
-use session::Session;
 use refusals::number_of;
+use session::Session;
 use session_cuts::Cut;
 use session_sheets::{AfterSheet, AskedSheet};
 use sheets::{ceilings, repeated, six_cuts, spending_cuts, two_cuts};

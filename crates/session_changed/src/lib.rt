@@ -7,7 +7,7 @@ ghost use Rattle.theory_lists.specs.Front.{in_front};
 ghost use Rattle.theory_lists.specs.Written.{written};
 ghost use Rattle.base_little_endian.specs.Fields.{u16_at};
 ghost use Rattle.session_order.specs.Order.{days_where, settled_order};
-ghost use Rattle.session_changed.specs.Changes.{differs, lost, Narrowed, NarrowedOrSame};
+ghost use Rattle.session_changed.specs.Changes.{differs, lost, NarrowedOrSame};
 
 use base_little_endian::{CELL_BYTES, u16_at};
 use limits::MOST_DAYS;
@@ -65,20 +65,4 @@ pub fn list_differences(
     let count = list_losers(&losses, n, &mut next, &mut links, &mut cells);
     read_days(&cells, count, changed);
     count
-}
-
-// The same where each range lies within the one before, as a cut leaves them.
-pub fn list_changes(
-    floors: &[u16; MOST_DAYS],
-    ceilings: &[u16; MOST_DAYS],
-    low: &[u16; MOST_DAYS],
-    high: &[u16; MOST_DAYS],
-    n: usize,
-    changed: &mut [u16],
-) -> usize
-    requires { (n ≤ most_days) × (n ≤ length changed.old) × Narrowed floors.now ceilings.now low.now high.now n }
-    ensures value { result ≡ length (settled_order (lost floors.now ceilings.now low.now high.now) (days_where (differs floors.now ceilings.now low.now high.now) n)) }
-    ensures changed_after { changed.new ≡ in_front (settled_order (lost floors.now ceilings.now low.now high.now) (days_where (differs floors.now ceilings.now low.now high.now) n)) changed.old }
-{
-    list_differences(floors, ceilings, low, high, n, changed)
 }

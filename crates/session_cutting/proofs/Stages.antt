@@ -26,7 +26,8 @@ use Rattle.session.specs.declared.Session.{Session}
 use Rattle.session_cuts.specs.declared.Cut.{Cut}
 use Rattle.session_cuts.specs.declared.Cut.TheVariants.{DayFloor, DayCeiling, TotalFloor, TotalCeiling}
 use Rattle.theory_lists.specs.Front.{in_front}
-use Rattle.session_cutting.specs.Cutting.{AfterCut, answer_as, day_cut_refusal, total_cut_refusal, malformed, early_cutting, clipped, retightened, changed_days, spend, with_present, refusing, tightened_to, after_cut, after_numbered, list_after}
+use Rattle.session_cutting.specs.Cutting.{day_cut_refusal, total_cut_refusal, malformed, early_cutting, clipped, retightened, changed_days, spend, with_present}
+use Rattle.session_cutting.specs.Cutting.{AfterCut, answer_as, refusing, tightened_to, after_cut, after_numbered, list_after}
 use Rattle.session_cutting.specs.Stages.{Checked, checked_as, checked_value, checked_cut, DayClips, Clips}
 use Rattle.session_cutting.proofs.Laws.{day-formed, total-formed, earlier_none, refused-same, accepted, refused-list, accepted-list, clipped_in_bounds}
 

@@ -178,7 +178,7 @@ fn tighten_again(session: Session, cut: Cut, value: usize, changed: &mut [u16]) 
     let Some(total) = cut_ranges(&mut low, &mut high, &rises, numbers, cut, value) else {
         return spend(session);
     };
-    let count = session_changed::list_changes(&floors, &ceilings, &low, &high, n, changed);
+    let count = session_changed::list_differences(&floors, &ceilings, &low, &high, n, changed);
     let ranges = Ranges {
         floors: low,
         ceilings: high,

@@ -27,8 +27,11 @@ returns-in_default c = lowest-refused c.args.numbers (inside (goal.at.returns-in
 
 pub returns-in_default-code_total : goal.returns-in_default-code_total
 returns-in_default-code_total c =
-    highest-refused c.args.numbers (inside (goal.at.returns-in_default-code_total c).Else-bad_rise) (lowest (goal.at.returns-in_default-code_total c).After-code_total) c.in-Some.is (highest (goal.at.returns-in_default-code_total c).After-code_total-2)
+    let at = goal.at.returns-in_default-code_total c in
+    highest-refused c.args.numbers (inside at.Else-bad_rise) (lowest at.After-code_total) c.in-Some.is (highest at.After-code_total-2)
     c.in_default-code_total.is
 
 pub returns : goal.returns
-returns c = numbers-coded c.args.numbers (inside (goal.at.returns c).Else-bad_rise) (lowest (goal.at.returns c).After-code_total) c.in-Some.is (highest (goal.at.returns c).After-code_total-2) c.in-Some-code_total.is
+returns c =
+    let at = goal.at.returns c in
+    numbers-coded c.args.numbers (inside at.Else-bad_rise) (lowest at.After-code_total) c.in-Some.is (highest at.After-code_total-2) c.in-Some-code_total.is

@@ -3,6 +3,7 @@ use mathlib.Core.Path.{◌≡◌, refl, ◌∙◌}
 use native.Mathlib.Omega.{arith}
 use Rattle.tighten_filtering.specs.Boxed.{tight_as}
 use Rattle.session_changed.specs.Changes.{Narrowed}
+use Rattle.session_changed.proofs.Laws.{narrowed_same}
 use Rattle.session_cutting.specs.Cutting.{clipped, retightened}
 use Rattle.session_cutting.proofs.Laws.{tightened_narrows}
 use Rattle.session_cutting.proofs.Stages.{again-found, again-none, list_left, list_written_lem}
@@ -28,15 +29,15 @@ narrows c =
     let t = rw c.in-Some.is at c.cut_ranges.ensures in
     tightened_narrows c.args.session c.args.cut p.0 p.1 t refl
 
-pub list_changes-count-requires : goal.list_changes-count-requires
-list_changes-count-requires c =
+pub list_differences-count-requires : goal.list_differences-count-requires
+list_differences-count-requires c =
     let p = c.requires in
-    (p.0.present.most, p.3, narrows (goal.at.list_changes-count-requires c).In-Some)
+    (p.0.present.most, p.3, narrowed_same (narrows (goal.at.list_differences-count-requires c).In-Some))
 
 pub returns : goal.returns
 returns c =
     let t = rw c.in-Some.is at (is-tight (goal.at.returns c).After-cut_ranges) in
     record {
-      value = c.accept.ensures ∙ again-found c.args.session c.args.cut t refl c.list_changes-count.ensures.value;
-      changed_after = c.list_changes-count.ensures.changed_after ∙ list_written_lem _ _ _ c.accept.ensures;
+      value = c.accept.ensures ∙ again-found c.args.session c.args.cut t refl c.list_differences-count.ensures.value;
+      changed_after = c.list_differences-count.ensures.changed_after ∙ list_written_lem _ _ _ c.accept.ensures;
     }
