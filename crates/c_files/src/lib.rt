@@ -158,7 +158,10 @@ pub fn write(
     points(floors, days, &mut low);
     points(ceilings, days, &mut high);
     points(rises, days - 1, &mut steps);
-    check_early(numbers, &low[..days], &high[..days], &steps[..days - 1])?;
+    let floors = &low[..days];
+    let ceilings = &high[..days];
+    let rises = &steps[..days - 1];
+    check_early(numbers, floors, ceilings, rises)?;
     let count = cuts.len() / CUT_BYTES;
     check_cuts(cuts, count, days)?;
     let from = day_offset(days);
@@ -167,7 +170,7 @@ pub fn write(
         return Err(Refusal::Length);
     }
     put_header(numbers, count, out);
-    put_days(&low[..days], &high[..days], &steps[..days - 1], days, out);
+    put_days(floors, ceilings, rises, days, out);
     put_rest(cuts, 0, out, from);
     Ok(length)
 }

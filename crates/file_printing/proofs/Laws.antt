@@ -27,7 +27,7 @@ use Rattle.session_cutting.specs.Cutting.{after_cut, after_as}
 use Rattle.session_cutting.specs.declared.AfterCut as Code
 use Rattle.session_cutting.proofs.Laws.{cut_in_bounds}
 use Rattle.base_text.specs.Numbers.{number}
-use Rattle.file_printing.specs.Stages.{unrefused, StageTold}
+use Rattle.file_printing.specs.Stages.{unrefused, Gives}
 use Rattle.file_printing.specs.Printing.{after_entry, cut_once, cut_all, day_line}
 use Rattle.file_printing.proofs.Lines.{all_none, all_more, all-stays, once_applied}
 
@@ -47,24 +47,24 @@ module _ {o : Opened} {f : ℕ → Cut} {n : ℕ} where
   more : {j : ℕ} {s : Session} → Applied o f n j (unrefused s) → cut_all o f (j + 1) ≡ after_entry (after_cut s (f j) 512)
   more {j} {s} h = all_more o f j ∙ ap (λ a. cut_once a (f j)) (sym h.made) ∙ once_applied (unrefused s) (f j) refl
 
-  pub applied_more : {j : ℕ} {s next : Session} → Applied o f n j (unrefused s) → j < n → StageTold (Ok next) (after_entry (after_cut s (f j) 512)) → Applied o f n (j + 1) (unrefused next)
+  pub applied_more : {j : ℕ} {s next : Session} → Applied o f n j (unrefused s) → j < n → Gives (Ok next) (after_entry (after_cut s (f j) 512)) → Applied o f n (j + 1) (unrefused next)
   applied_more {j} h u e = record { most = omega arith; made = sym (more h ∙ e.0); bounds = e.1 }
 
-  pub applied_refused : {j : ℕ} {s : Session} (r : Refusal) → Applied o f n j (unrefused s) → j < n → StageTold (Err r) (after_entry (after_cut s (f j) 512)) → StageTold (Err r) (cut_all o f n)
+  pub applied_refused : {j : ℕ} {s : Session} (r : Refusal) → Applied o f n j (unrefused s) → j < n → Gives (Err r) (after_entry (after_cut s (f j) 512)) → Gives (Err r) (cut_all o f n)
   applied_refused {j} {s} r h u e =
       let here : (cut_all o f (j + 1)).refusal ≡ refusal_number r = ap (λ a. a.refusal) (more h) ∙ e in
       ap (λ a. a.refusal) (all-stays o f (j + 1) n (omega arith) (λ z. refused r (sym here ∙ z))) ∙ here
 
-  pub applied_all : {j : ℕ} {s : Session} → Applied o f n j (unrefused s) → n ≤ j → StageTold (Ok s) (cut_all o f n)
+  pub applied_all : {j : ℕ} {s : Session} → Applied o f n j (unrefused s) → n ≤ j → Gives (Ok s) (cut_all o f n)
   applied_all {j} h u = let e : j ≡ n = omega (arith, h.most) in (sym (rw e at h.made), h.bounds)
 
 -- a cut that is not refused
 pub cut_told : (s : Session) (c : Cut) {a : Code.AfterCut} {n : ℕ} → SessionInBounds s → after_as a ≡ after_cut s c 512 → a.answer ≡ Ok n
-    → StageTold (Ok a.session) (after_entry (after_cut s c 512))
+    → Gives (Ok a.session) (after_entry (after_cut s c 512))
 cut_told s c b e was = (ap after_entry (sym e) ∙ rw was refl, rw (← e) at (cut_in_bounds s c 512 b))
 
 -- a profile that opens
-pub opened_told : (p : Profile) {s : Session} → unrefused s ≡ opened p → StageTold (Ok s) (opened p)
+pub opened_told : (p : Profile) {s : Session} → unrefused s ≡ opened p → Gives (Ok s) (opened p)
 opened_told p e = (sym e, rw (← e) at (opened_in_bounds p))
 
 -- ---- the text

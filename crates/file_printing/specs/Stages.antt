@@ -9,7 +9,7 @@ use Rattle.session.specs.declared.Session.{Session}
 abbrev pub unrefused : Session → Opened
 unrefused s = record { refusal = 0; session = s }
 
--- a stage tells the session, or the refusal
-abbrev pub StageTold : Result Session Refusal → Opened → Type 0
-StageTold (Ok s) o = (o ≡ unrefused s) × SessionInBounds s
-StageTold (Err refusal) o = o.refusal ≡ refusal_number refusal
+-- a stage gives the session, or the refusal
+abbrev pub Gives : Result Session Refusal → Opened → Type 0
+Gives (Ok s) o = (o ≡ unrefused s) × SessionInBounds s
+Gives (Err refusal) o = o.refusal ≡ refusal_number refusal

@@ -12,7 +12,7 @@ ghost use Rattle.session_cutting.specs.Cutting.{after_cut};
 ghost use Rattle.session.specs.Showing.{SessionInBounds};
 ghost use Rattle.session_cuts.specs.Sheet.{blank};
 ghost use Rattle.file_printing.specs.Printing.{day_line_length, after_entry, cut_all, range, total_line, day_line, refused_line, ranges_text, printed};
-ghost use Rattle.file_printing.specs.Stages.{unrefused, StageTold};
+ghost use Rattle.file_printing.specs.Stages.{unrefused, Gives};
 
 use limits::{MOST_CUTS, MOST_DAYS};
 use refusals::{Refusal, number_of};
@@ -33,7 +33,7 @@ const MOST_RISES: usize = MOST_DAYS - 1;
 // The session after one cut more.
 fn cut_once(session: Session, entry: Entry) -> Result<Session, Refusal>
     requires { SessionInBounds session }
-    ensures { StageTold result (after_entry (after_cut session entry.cut most_days)) }
+    ensures { Gives result (after_entry (after_cut session entry.cut most_days)) }
 {
     let mut changed = [0u16; MOST_DAYS];
     let after = session_lent::cut_held(session, entry.cut, &mut changed);
@@ -44,7 +44,7 @@ fn cut_once(session: Session, entry: Entry) -> Result<Session, Refusal>
 // Applies the first `count` entries in order, up to the first refusal.
 fn cut_all(session: Session, count: usize, entries: [Entry; MOST_CUTS]) -> Result<Session, Refusal>
     requires { SessionInBounds session × (count ≤ most_cuts) }
-    ensures { StageTold result (cut_all (unrefused session) (λ j. (get_or entries j blank).cut) count) }
+    ensures { Gives result (cut_all (unrefused session) (λ j. (get_or entries j blank).cut) count) }
 {
     let mut after = session;
     for j in 0..count {
@@ -136,7 +136,7 @@ fn open_read(
     rises: &[i16; MOST_RISES],
 ) -> Result<Session, Refusal>
     requires { (0 < numbers.days) × (numbers.days ≤ most_days) }
-    ensures { StageTold result (opened (profile numbers (take numbers.days floors.now) (take numbers.days ceilings.now) (take (numbers.days - 1) rises.now))) }
+    ensures { Gives result (opened (profile numbers (take numbers.days floors.now) (take numbers.days ceilings.now) (take (numbers.days - 1) rises.now))) }
 {
     let days = numbers.days;
     let opened = Session::open(

@@ -121,9 +121,9 @@ slice_bounds-low-end c =
     let t = goal.at.slice_bounds-low-end c in
     (low t.After-points (sizes t.In_ok-check_lengths).lists.few).room
 
-pub slice_bounds-check_early-end : goal.slice_bounds-check_early-end
-slice_bounds-check_early-end c =
-    let t = goal.at.slice_bounds-check_early-end c in
+pub slice_bounds-floors-end : goal.slice_bounds-floors-end
+slice_bounds-floors-end c =
+    let t = goal.at.slice_bounds-floors-end c in
     (low t.After-points (sizes t.In_ok-check_lengths).lists.few).long
 
 pub slice_bounds-high-end : goal.slice_bounds-high-end
@@ -131,9 +131,9 @@ slice_bounds-high-end c =
     let t = goal.at.slice_bounds-high-end c in
     (high t.After-points-2 (sizes t.In_ok-check_lengths).lists.few).room
 
-pub slice_bounds-check_early-end-2 : goal.slice_bounds-check_early-end-2
-slice_bounds-check_early-end-2 c =
-    let t = goal.at.slice_bounds-check_early-end-2 c in
+pub slice_bounds-ceilings-end : goal.slice_bounds-ceilings-end
+slice_bounds-ceilings-end c =
+    let t = goal.at.slice_bounds-ceilings-end c in
     (high t.After-points-2 (sizes t.In_ok-check_lengths).lists.few).long
 
 pub slice_bounds-steps-count : goal.slice_bounds-steps-count
@@ -146,9 +146,9 @@ slice_bounds-steps-end c =
     let t = goal.at.slice_bounds-steps-end c in
     (steps t.After-points-3 (sizes t.In_ok-check_lengths).lists.few).room
 
-pub slice_bounds-check_early-length : goal.slice_bounds-check_early-length
-slice_bounds-check_early-length c =
-    let t = goal.at.slice_bounds-check_early-length c in
+pub slice_bounds-rises-length : goal.slice_bounds-rises-length
+slice_bounds-rises-length c =
+    let t = goal.at.slice_bounds-rises-length c in
     (steps t.After-points-3 (sizes t.In_ok-check_lengths).lists.few).long
 
 pub returns-in_err-check_early : goal.returns-in_err-check_early
@@ -184,11 +184,6 @@ day_offset-from-requires c =
     let t = goal.at.day_offset-from-requires c in
     (sizes t.In_ok-check_lengths).lists.few
 
-pub overflow_mul-length : goal.overflow_mul-length
-overflow_mul-length c =
-    let t = goal.at.overflow_mul-length c in
-    omega (arith, (sizes t.In_ok-check_lengths).few)
-
 pub overflow_add-length : goal.overflow_add-length
 overflow_add-length c =
     let t = goal.at.overflow_add-length c in
@@ -215,41 +210,6 @@ put_header-requires c =
     let few = s.lists.few in
     let o = opens t.In_ok-check_early (by-opening t.After-check_early (low t.After-points few) (high t.After-points-2 few) (steps t.After-points-3 few)) in
     (few, (entered (profile_of p) o.profile).counts, s.few, omega (arith, c.day_offset-from.ensures, c.if-out-length.false))
-
-pub slice_bounds-low-end-2 : goal.slice_bounds-low-end-2
-slice_bounds-low-end-2 c =
-    let t = goal.at.slice_bounds-low-end-2 c in
-    (low t.After-points (sizes t.In_ok-check_lengths).lists.few).room
-
-pub slice_bounds-put_days-end : goal.slice_bounds-put_days-end
-slice_bounds-put_days-end c =
-    let t = goal.at.slice_bounds-put_days-end c in
-    (low t.After-points (sizes t.In_ok-check_lengths).lists.few).long
-
-pub slice_bounds-high-end-2 : goal.slice_bounds-high-end-2
-slice_bounds-high-end-2 c =
-    let t = goal.at.slice_bounds-high-end-2 c in
-    (high t.After-points-2 (sizes t.In_ok-check_lengths).lists.few).room
-
-pub slice_bounds-put_days-end-2 : goal.slice_bounds-put_days-end-2
-slice_bounds-put_days-end-2 c =
-    let t = goal.at.slice_bounds-put_days-end-2 c in
-    (high t.After-points-2 (sizes t.In_ok-check_lengths).lists.few).long
-
-pub slice_bounds-steps-count-2 : goal.slice_bounds-steps-count-2
-slice_bounds-steps-count-2 c =
-    let t = goal.at.slice_bounds-steps-count-2 c in
-    omega (arith, (sizes t.In_ok-check_lengths).lists.some)
-
-pub slice_bounds-steps-end-2 : goal.slice_bounds-steps-end-2
-slice_bounds-steps-end-2 c =
-    let t = goal.at.slice_bounds-steps-end-2 c in
-    (steps t.After-points-3 (sizes t.In_ok-check_lengths).lists.few).room
-
-pub slice_bounds-put_days-length : goal.slice_bounds-put_days-length
-slice_bounds-put_days-length c =
-    let t = goal.at.slice_bounds-put_days-length c in
-    (steps t.After-points-3 (sizes t.In_ok-check_lengths).lists.few).long
 
 pub put_days-requires : goal.put_days-requires
 put_days-requires c =
