@@ -73,7 +73,7 @@ extern "C" {
 
 /* The version, 100 for 1.00. The hundreds change where a session's bytes, the profile file or the parameters of an entry do, else the last two digits:
  * versions with the same hundreds take each other's sessions and files. CHANGELOG.md has an entry for each. */
-#define CLOVERDRUM_VERSION 203
+#define CLOVERDRUM_VERSION 204
 
 /* Bounds of an entry. */
 #define CLOVERDRUM_MOST_DAYS 512

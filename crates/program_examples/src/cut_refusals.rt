@@ -2,9 +2,8 @@
 ghost use Rattle.std.specs.Prelude.{◌≤◌};
 ghost use Rattle.session.specs.Showing.{SessionInBounds};
 
-use crate::lines;
+use crate::refused::{Refused, lines};
 use program_output::A;
-use refusals::number_of;
 use session::Session;
 use session_cuts::Cut;
 use session_cutting::AfterCut;
@@ -34,22 +33,22 @@ pub(crate) fn spent() -> Session
     cut(A.open().session, TOTAL_FLOOR, 0, 13, DAYS).session
 }
 
-fn of_a(kind: usize, day: usize, value: i32, room: usize) -> u8
+fn of_a(kind: usize, day: usize, value: i32, room: usize) -> Refused
     requires { room ≤ 3 }
 {
-    number_of(&cut(A.open().session, kind, day, value, room).answer)
+    Refused(cut(A.open().session, kind, day, value, room).answer.err())
 }
 
-fn of_spent(kind: usize, day: usize, value: i32, room: usize) -> u8
+fn of_spent(kind: usize, day: usize, value: i32, room: usize) -> Refused
     requires { room ≤ 3 }
 {
-    number_of(&cut(spent(), kind, day, value, room).answer)
+    Refused(cut(spent(), kind, day, value, room).answer.err())
 }
 
 // A total cut of A that is given without a day.
-fn without_day(cut: Cut) -> u8 {
+fn without_day(cut: Cut) -> Refused {
     let mut changed = [0u16; DAYS];
-    number_of(&session_cutting::cut(A.open().session, cut, &mut changed).answer)
+    Refused(session_cutting::cut(A.open().session, cut, &mut changed).answer.err())
 }
 
 fn days(rt: &impl Print) -> io::Result<()> {

@@ -1,5 +1,5 @@
 // Profiles whose first days don't count (document 02, request One): a line for each with its ranges, or its refusal; then schedules of one of them.
-use crate::lines;
+use crate::refused::lines;
 use crate::schedule_refusals::{inspected, on_day, with_total};
 use program_output::{A, Profile, Ranges};
 use std::io;

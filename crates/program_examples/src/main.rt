@@ -5,18 +5,11 @@
 mod cut_refusals;
 mod filling_days;
 mod refusals;
+mod refused;
 mod schedule_refusals;
 mod settled_order;
 
 use std::io;
-
-// A line for each with its refusal, 0 for none.
-pub(crate) fn lines(rt: &impl Print, refusals: &[(&str, u8)]) -> io::Result<()> {
-    for (text, refusal) in refusals {
-        println!(rt; "{text}: {refusal}")?;
-    }
-    Ok(())
-}
 
 fn main(rt: HostRuntime) -> io::Result<()> {
     refusals::print(&rt)?;

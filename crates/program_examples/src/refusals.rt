@@ -2,18 +2,18 @@
 ghost use Rattle.std.specs.Prelude.{◌≤◌};
 
 use crate::filling_days::NO_SCHEDULE;
-use crate::lines;
+use crate::refused::{Refused, lines};
 use program_output::Profile;
 use std::io;
 
-fn number(profile: Profile) -> u8 {
-    profile.open().refusal.map_or(0, u8::from)
+fn opened(profile: Profile) -> Refused {
+    Refused(profile.open().refusal)
 }
 
 // ---- lengths
 
 // Days of zeros, in lists of these lengths.
-fn lengths(days: usize, floors: usize, ceilings: usize, rises: usize) -> u8
+fn lengths(days: usize, floors: usize, ceilings: usize, rises: usize) -> Refused
     requires { (floors ≤ 513) × (ceilings ≤ 513) × (rises ≤ 513) }
 {
     let zeros = [0i16; 513];
@@ -26,7 +26,7 @@ fn lengths(days: usize, floors: usize, ceilings: usize, rises: usize) -> u8
         lowest: 0,
         highest: 0,
     };
-    number(profile)
+    opened(profile)
 }
 
 fn day_counts(rt: &impl Print) -> io::Result<()> {
@@ -53,7 +53,7 @@ fn list_lengths(rt: &impl Print) -> io::Result<()> {
 // ---- numbers
 
 // One day from floor to ceiling.
-fn day(floor: i16, ceiling: i16, lowest: i32, highest: i32) -> u8 {
+fn day(floor: i16, ceiling: i16, lowest: i32, highest: i32) -> Refused {
     let profile = Profile {
         days: 1,
         first: 0,
@@ -63,7 +63,7 @@ fn day(floor: i16, ceiling: i16, lowest: i32, highest: i32) -> u8 {
         lowest,
         highest,
     };
-    number(profile)
+    opened(profile)
 }
 
 fn points(rt: &impl Print) -> io::Result<()> {
@@ -75,7 +75,7 @@ fn points(rt: &impl Print) -> io::Result<()> {
 }
 
 // Two days of the widest range.
-fn rise(rise: i16) -> u8 {
+fn rise(rise: i16) -> Refused {
     let profile = Profile {
         days: 2,
         first: 0,
@@ -85,7 +85,7 @@ fn rise(rise: i16) -> u8 {
         lowest: -512000,
         highest: 2048000,
     };
-    number(profile)
+    opened(profile)
 }
 
 fn rises(rt: &impl Print) -> io::Result<()> {
@@ -110,7 +110,7 @@ fn ranges(rt: &impl Print) -> io::Result<()> {
         ("day 1..0", day(1, 0, 0, 1)),
         ("total 1..0", day(0, 1, 1, 0)),
         ("day 3..8, total 9..9", day(3, 8, 9, 9)),
-        ("days 5..9 and 0..4, rise 0", number(NO_SCHEDULE)),
+        ("days 5..9 and 0..4, rise 0", opened(NO_SCHEDULE)),
     ];
     lines(rt, &refusals)
 }
@@ -118,7 +118,7 @@ fn ranges(rt: &impl Print) -> io::Result<()> {
 // ---- order
 
 // Two days from 0 to 5 with each cause of a refusal from a place of the order on.
-fn causes_from(place: u8) -> u8 {
+fn causes_from(place: u8) -> Refused {
     let low = if place <= 3 { -1001 } else { 0 };
     let high = if place <= 6 { 6 } else { 0 };
     let rise = match place {
@@ -136,7 +136,7 @@ fn causes_from(place: u8) -> u8 {
         lowest: if place <= 5 { -512001 } else { -512000 },
         highest: 2048000,
     };
-    number(profile)
+    opened(profile)
 }
 
 // Opening has no cause 7, and 13 in its place. No cause comes after 8.

@@ -4,9 +4,9 @@ ghost use Rattle.std.specs.Prelude.{◌≤◌};
 ghost use Rattle.session.specs.Showing.{SessionInBounds};
 
 use crate::cut_refusals::spent;
-use crate::lines;
+use crate::refused::{Refused, lines};
 use program_output::A;
-use refusals::{Refusal, number_of};
+use refusals::Refusal;
 use schedule_inspection::Finding;
 use session::Session;
 use std::{fmt, io};
@@ -15,14 +15,14 @@ const DAYS: usize = A.days;
 
 // ---- for a day
 
-pub(crate) fn on_day(session: Session, day: usize, value: i32, room: usize) -> u8
+pub(crate) fn on_day(session: Session, day: usize, value: i32, room: usize) -> Refused
     requires { SessionInBounds session × (room ≤ 4) }
 {
     let mut list = [0i16; 4];
-    number_of(&schedule_writing::write_day(session, day, value, &mut list[..room]))
+    Refused(schedule_writing::write_day(session, day, value, &mut list[..room]).err())
 }
 
-fn day_of_a(day: usize, value: i32, room: usize) -> u8
+fn day_of_a(day: usize, value: i32, room: usize) -> Refused
     requires { room ≤ 4 }
 {
     on_day(A.open().session, day, value, room)
@@ -78,14 +78,14 @@ fn day_order(rt: &impl Print) -> io::Result<()> {
 
 // ---- for the total
 
-pub(crate) fn with_total(session: Session, value: i32, room: usize) -> u8
+pub(crate) fn with_total(session: Session, value: i32, room: usize) -> Refused
     requires { SessionInBounds session × (room ≤ 4) }
 {
     let mut list = [0i16; 4];
-    number_of(&schedule_writing::write_total(session, value, &mut list[..room]))
+    Refused(schedule_writing::write_total(session, value, &mut list[..room]).err())
 }
 
-fn total_of_a(value: i32, room: usize) -> u8
+fn total_of_a(value: i32, room: usize) -> Refused
     requires { room ≤ 4 }
 {
     with_total(A.open().session, value, room)

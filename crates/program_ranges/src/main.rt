@@ -6,7 +6,7 @@ ghost use Rattle.std.specs.Prelude.{◌≤◌, length, IfOk};
 use std::io;
 use std::io::{Read, Stdin, Write};
 
-// As many bytes as the input has and the buffer holds. Answers how many.
+// As many bytes as the input has and the buffer holds. Answers how many. `Read` of std has no method whose clause bounds that count by a slice.
 fn read_full(input: &mut Stdin, buffer: &mut [u8]) -> io::Result<usize>
     ensures { IfOk result (λ n. n ≤ length buffer.new) }
 {

@@ -36,7 +36,8 @@ impl Numbers {
     };
 }
 
-// The range of each day as levels, a point plus 1,000, and of the total, held plus 512,000.
+// The range of each day as levels, a point plus 1,000, and of the total, held plus 512,000. Floors and ceilings lie apart, as C lends them and the definitions
+// read them.
 #[derive(Clone, Copy)]
 pub struct Ranges {
     pub floors: [u16; MOST_DAYS],
@@ -45,7 +46,8 @@ pub struct Ranges {
     pub highest: usize,
 }
 
-// Rises are held plus 2,000. Cells past the last day are 0.
+// Rises are held plus 2,000. Cells past the last day are 0. `SessionInBounds` is a clause where it is needed, not this type's invariant: what `Demand1` (promises)
+// says of refusals holds of each session, within its bounds or not.
 #[derive(Clone, Copy)]
 pub struct Session {
     pub days: usize,

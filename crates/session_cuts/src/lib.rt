@@ -22,7 +22,8 @@ pub struct Entry {
     pub cut: Cut,
 }
 
-// The first `count` entries are a batch's cuts, in their order.
+// The first `count` entries are a batch's cuts, in their order. The device has no heap, and `sheet_from` (file_reading) says what stands past them: hence an array
+// and a count.
 #[derive(Clone, Copy)]
 pub struct Sheet {
     pub count: usize,

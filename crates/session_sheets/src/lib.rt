@@ -23,7 +23,7 @@ pub struct Asked {
     pub cut: Option<Cut>,
 }
 
-// The first `count` entries are a sheet's cuts, in their order.
+// The first `count` entries are a sheet's cuts, in their order: an array and a count, as in `session_cuts::Sheet`.
 #[derive(Clone, Copy)]
 pub struct AskedSheet {
     pub count: usize,
@@ -37,7 +37,7 @@ pub struct Answered {
     pub answer: Result<usize, Refusal>,
 }
 
-// The first `count` entries answer a sheet's cuts.
+// The first `count` entries answer a sheet's cuts. `answers_to` says what stands past them, and there is no heap.
 #[derive(Clone, Copy)]
 pub struct Answers {
     pub count: usize,

@@ -194,7 +194,7 @@ impl Pass<'_> {
         }
     }
 
-    // The level with its window, from a window that may be too long.
+    // The level with its window, from a window that may be too long. How many days drop out is known only at the end, so that this is no `for`; nor is `lower`.
     fn settle<E: End>(&self, i: u32, w: Window) -> Window
         requires sight { let p = self.now in Sight E.back p.floors.now p.rises.now p.n p.days }
         requires fact { let p = self.now in Open (viewed E.back p.floors.now p.n) (viewed_rises E.back p.rises.now p.n p.days) p.days i p.margin w.v w.past w.count w.room w.top w.end }
