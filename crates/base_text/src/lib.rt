@@ -15,6 +15,7 @@ pub fn put(out: &mut [u8], at: usize, text: &[u8]) -> usize
     at + text.len()
 }
 
+// Not std's printing, whose clauses say the digits by a relation: `decimal` is one definition that computes.
 pub fn put_decimal(out: &mut [u8], at: usize, n: usize) -> usize
     requires { at + length (decimal n) ≤ length out.old }
     ensures out_after { out.new ≡ sets out.old at (decimal n) }

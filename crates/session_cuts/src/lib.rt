@@ -31,7 +31,7 @@ pub struct Sheet {
 }
 
 impl Cut {
-    // Kinds: 0 a day's floor, 1 a day's ceiling, 2 the total's floor, 3 the total's ceiling; none for an unknown one (12).
+    // From the numbers that a caller in C hands over. Kinds: 0 a day's floor, 1 a day's ceiling, 2 the total's floor, 3 the total's ceiling; none for an unknown one (12).
     pub fn numbered(kind: usize, day: usize, value: i32) -> Option<Cut>
         ensures { result ≡ numbered kind day value }
     {
