@@ -1,4 +1,5 @@
-// Lists as a caller in C hands them over: byte strings of 2-byte little-endian elements.
+// Lists as a caller in C hands them over: byte strings of 2-byte little-endian elements. Loops count in 32 bits, which take the board half as many instructions
+// as the 64 of `usize`.
 #![tactic(auto)]
 
 ghost use Rattle.std.specs.Prelude.{◌≡◌, true, not, ◌||◌, ℕ, ℤ, ◌+◌, ◌*◌, ◌≤◌, ◌<◌, length};

@@ -1,4 +1,4 @@
-// A session's bytes stored: a fresh session whole, and what a cut changes.
+// A session's bytes stored: a fresh session whole, and what a cut changes. Loops over days count in 32 bits, as in `c_lists`.
 #![tactic(auto, using(c_layout::proofs::Held::days_few))]
 
 ghost use Rattle.std.specs.Prelude.{◌≡◌, true, false, ◌++◌, ◌+◌, ◌-◌, ◌*◌, ◌≤◌, min, length, replicate};

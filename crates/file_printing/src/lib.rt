@@ -152,7 +152,7 @@ fn open_read(
 }
 
 // Reads a file, opens its profile, applies its cuts in order, and stores at the front of `out` the first refusal, or the ranges.
-// Answers how long the text is.
+// Answers how long the text is. Each stage's answer is taken apart by `let .. else`, the form that document 01 names.
 pub fn print_ranges(file: &[u8], out: &mut [u8; MOST_TEXT_BYTES]) -> usize
     ensures out_after { out.new ≡ in_front (printed file.now) out.old }
     ensures value { result ≡ length (printed file.now) }

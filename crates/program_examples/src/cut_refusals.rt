@@ -48,7 +48,11 @@ fn of_spent(kind: usize, day: usize, value: i32, room: usize) -> Refused
 // A total cut of A that is given without a day.
 fn without_day(cut: Cut) -> Refused {
     let mut changed = [0u16; DAYS];
-    Refused(session_cutting::cut(A.open().session, cut, &mut changed).answer.err())
+    Refused(
+        session_cutting::cut(A.open().session, cut, &mut changed)
+            .answer
+            .err(),
+    )
 }
 
 fn days(rt: &impl Print) -> io::Result<()> {

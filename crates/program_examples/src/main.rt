@@ -4,7 +4,7 @@
 
 mod cut_refusals;
 mod filling_days;
-mod refusals;
+mod opening_refusals;
 mod refused;
 mod schedule_refusals;
 mod settled_order;
@@ -12,7 +12,7 @@ mod settled_order;
 use std::io;
 
 fn main(rt: HostRuntime) -> io::Result<()> {
-    refusals::print(&rt)?;
+    opening_refusals::print(&rt)?;
     filling_days::print_profiles(&rt)?;
     cut_refusals::print(&rt)?;
     settled_order::print(&rt)?;

@@ -87,7 +87,7 @@ fn is_total_outside(
     is_outside(sum, least + offset, most + offset)
 }
 
-// The first of n days whose setpoint is outside the day's range.
+// The first of n days whose setpoint is outside the day's range. Counted in 32 bits: 13 instructions a day on the board, and not 15.
 fn first_outside(
     setpoints: &[u16; MOST_DAYS],
     floors: &[u16; MOST_DAYS],

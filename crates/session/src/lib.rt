@@ -37,7 +37,7 @@ impl Numbers {
 }
 
 // The range of each day as levels, a point plus 1,000, and of the total, held plus 512,000. Floors and ceilings lie apart, as C lends them and the definitions
-// read them.
+// read them; each is an array with the day count beside it, since memory is fixed and contracts say what stands past the days.
 #[derive(Clone, Copy)]
 pub struct Ranges {
     pub floors: [u16; MOST_DAYS],
