@@ -114,12 +114,12 @@ impl Window {
     }
 
     // Whether the last day is not below v, and is not day i.
-    fn sticks(self, i: usize) -> bool
+    fn sticks(self, i: u32) -> bool
         requires { i < most_days }
         ensures v_le_top { result ≡ true → (self.v ≤ self.top) × (i + 1 < self.past) }
         ensures top_lt_v { result ≡ false → i + 1 < self.past → self.top < self.v }
     {
-        self.v <= self.top && i + 1 < self.past as usize
+        self.v <= self.top && i + 1 < self.past
     }
 
     // Whether v is over the margin.
@@ -174,7 +174,7 @@ impl Pass<'_> {
     }
 
     // Drops the window's last day.
-    fn drop_last<E: End>(&self, i: usize, w: Window) -> Window
+    fn drop_last<E: End>(&self, i: u32, w: Window) -> Window
         requires sight { let p = self.now in Sight E.back p.floors.now p.rises.now p.n p.days }
         requires sticking { let p = self.now in Sticking (viewed E.back p.floors.now p.n) (viewed_rises E.back p.rises.now p.n p.days) p.days i p.margin w.v w.past w.count w.room w.top w.end }
         ensures v_value { (result.v ≡ w.v) × (result.past < w.past) }
@@ -195,7 +195,7 @@ impl Pass<'_> {
     }
 
     // The level with its window, from a window that may be too long. How many days drop out is known only at the end, so that this is no `for`; nor is `lower`.
-    fn settle<E: End>(&self, i: usize, w: Window) -> Window
+    fn settle<E: End>(&self, i: u32, w: Window) -> Window
         requires sight { let p = self.now in Sight E.back p.floors.now p.rises.now p.n p.days }
         requires fact { let p = self.now in Open (viewed E.back p.floors.now p.n) (viewed_rises E.back p.rises.now p.n p.days) p.days i p.margin w.v w.past w.count w.room w.top w.end }
         ensures { let p = self.now in (result.v ≡ w.v) × Found (viewed E.back p.floors.now p.n) (viewed_rises E.back p.rises.now p.n p.days) p.days i p.margin w.v result.past result.count result.room result.top result.end }
@@ -209,7 +209,7 @@ impl Pass<'_> {
 
     // One round for day i: the level falls to what the room has for each day of the window, or to the floor of the last if that is more, and its window is
     // found again.
-    fn round<E: End>(&self, i: usize, w: Window) -> Window
+    fn round<E: End>(&self, i: u32, w: Window) -> Window
         requires sight { let p = self.now in Sight E.back p.floors.now p.rises.now p.n p.days }
         requires overloaded { let p = self.now in Overloaded (viewed E.back p.floors.now p.n) (viewed_rises E.back p.rises.now p.n p.days) p.days i p.margin w.v w.past w.count w.room w.top w.end }
         ensures { let p = self.now in Rounded (viewed E.back p.floors.now p.n) (viewed_rises E.back p.rises.now p.n p.days) p.days i p.margin w.v result.v result.past result.count result.room result.top result.end }
@@ -222,7 +222,7 @@ impl Pass<'_> {
     }
 
     // Lowers day i's shifted ceiling by rounds until it is within the margin.
-    fn lower<E: End>(&self, i: usize, w: Window) -> Window
+    fn lower<E: End>(&self, i: u32, w: Window) -> Window
         requires sight { let p = self.now in Sight E.back p.floors.now p.rises.now p.n p.days }
         requires fact { let p = self.now in Open (viewed E.back p.floors.now p.n) (viewed_rises E.back p.rises.now p.n p.days) p.days i p.margin w.v w.past w.count w.room w.top w.end }
         requires v_le_highest_shifted { let p = self.now in (w.v ≤ highest_shifted) × (shifted (viewed E.back p.floors.now p.n) (viewed_rises E.back p.rises.now p.n p.days) p.days i ≤ w.v) }
@@ -236,7 +236,7 @@ impl Pass<'_> {
     }
 
     // Lowers the ceiling of day i after that of the next day. Most days fit as they are.
-    fn lower_day<E: End>(&self, i: usize, ceiling: u32, floor: u32, next: Window) -> Window
+    fn lower_day<E: End>(&self, i: u32, ceiling: u32, floor: u32, next: Window) -> Window
         requires sight { let p = self.now in Sight E.back p.floors.now p.rises.now p.n p.days }
         requires entering { let p = self.now in Entering (viewed E.back p.floors.now p.n) (viewed_rises E.back p.rises.now p.n p.days) p.days i p.margin ceiling floor next.v next.past next.count next.room next.top next.end }
         ensures { let p = self.now in Lowest (viewed E.back p.floors.now p.n) (viewed_rises E.back p.rises.now p.n p.days) p.days i p.margin (min next.v ceiling) result.v result.past result.count result.room result.top result.end }
@@ -283,7 +283,7 @@ pub fn lower_ceilings(
         here = shift_before(here, rises[k] as u32);
         let ceiling = ceilings[k] as u32 + here;
         let floor = floors[k] as u32 + here;
-        day = pass.lower_day::<FromFirst>(k, ceiling, floor, day);
+        day = pass.lower_day::<FromFirst>(i, ceiling, floor, day);
         ceilings[k] = day.shown(here);
     }
     carry_back(ceilings, rises, first);
@@ -321,7 +321,7 @@ pub fn raise_floors(
         here = shift_before(here, rise);
         let ceiling = mirror_level(floors[k]) + here;
         let floor = mirror_level(ceilings[k]) + here;
-        day = pass.lower_day::<FromLast>(n - (k + 1), ceiling, floor, day);
+        day = pass.lower_day::<FromLast>(n as u32 - (i + 1), ceiling, floor, day);
         floors[k] = mirror_level(day.shown(here)) as u16;
         rise = rises[k] as u32;
     }
