@@ -29,6 +29,3 @@ pub const PRESENT_AT: usize = OPENED_AT + RANGES_BYTES;
 pub const FIRST_AT: usize = PRESENT_AT + RANGES_BYTES;
 
 pub const SESSION_BYTES: usize = FIRST_AT + CELL_BYTES;
-
-// A session, as a caller in C holds it.
-pub type SessionBytes = [u8; SESSION_BYTES];

@@ -12,13 +12,13 @@ ghost use Rattle.base_little_endian.specs.Fields.{u16_at};
 ghost use Rattle.theory_method.specs.Filter.{zeros};
 ghost use Rattle.session.specs.Showing.{floor_on, ceiling_on};
 ghost use Rattle.c_lists.specs.Lists.{point_bytes};
-ghost use Rattle.c_layout.specs.Layout.{cell_length, total_length, totals_length, total_at, decoding};
+ghost use Rattle.c_layout.specs.Layout.{cell_length, total_length, totals_length, session_bytes, total_at, decoding};
 
 use base_codes::{TotalRange, decode_short};
 use base_little_endian::{i32_at, u16_at};
 use c_layout::{
     BLOCK_BYTES, CELL_BYTES, DAYS_AT, FIRST_AT, MARK_AT, PRESENT_AT, PRESENT_TOTALS_AT, RISES_AT,
-    SessionBytes, TOTAL_BYTES,
+    TOTAL_BYTES,
 };
 use c_lists::{fill_each, put_each_point};
 use limits::MOST_DAYS;
@@ -72,7 +72,8 @@ pub fn level(bytes: &[u8], place: usize) -> u16
 // ---- parts of the session, each read when it is needed
 
 #[tactic(auto, unfolding(c_layout::specs::Layout::decoding))]
-pub fn days_of(bytes: &SessionBytes) -> usize
+pub fn days_of(bytes: &[u8]) -> usize
+    requires { length bytes.now ≡ session_bytes }
     ensures { result ≡ (decoding bytes.now).days }
 {
     usize::from(u16_at(bytes, DAYS_AT)).clamp(1, Session::MOST_DAYS)
@@ -80,7 +81,8 @@ pub fn days_of(bytes: &SessionBytes) -> usize
 
 // The first counted day, one of the session's days.
 #[tactic(auto, unfolding(c_layout::specs::Layout::decoding))]
-pub fn first_of(bytes: &SessionBytes) -> usize
+pub fn first_of(bytes: &[u8]) -> usize
+    requires { length bytes.now ≡ session_bytes }
     ensures { result ≡ (decoding bytes.now).first }
 {
     let last = days_of(bytes) - 1;
@@ -88,7 +90,8 @@ pub fn first_of(bytes: &SessionBytes) -> usize
 }
 
 #[tactic(auto, unfolding(c_layout::specs::Layout::decoding))]
-pub fn is_spent(bytes: &SessionBytes) -> bool
+pub fn is_spent(bytes: &[u8]) -> bool
+    requires { length bytes.now ≡ session_bytes }
     ensures { result ≡ (decoding bytes.now).spent }
 {
     u16_at(bytes, MARK_AT) != 0
@@ -96,22 +99,23 @@ pub fn is_spent(bytes: &SessionBytes) -> bool
 
 // The total's present range.
 #[tactic(auto, unfolding(c_layout::specs::Layout::decoding, c_layout::specs::Layout::ranges_at))]
-pub fn total_of(bytes: &SessionBytes) -> TotalRange
+pub fn total_of(bytes: &[u8]) -> TotalRange
+    requires { length bytes.now ≡ session_bytes }
     ensures { (result.lowest ≡ (decoding bytes.now).present.lowest) × (result.highest ≡ (decoding bytes.now).present.highest) }
 {
     totals(bytes, PRESENT_TOTALS_AT)
 }
 
 // The present range of a day.
-pub fn floor_of(bytes: &SessionBytes, day: usize) -> u16
-    requires { day < (decoding bytes.now).days }
+pub fn floor_of(bytes: &[u8], day: usize) -> u16
+    requires { (length bytes.now ≡ session_bytes) × (day < (decoding bytes.now).days) }
     ensures { result ≡ at (decoding bytes.now).present.floors day }
 {
     level(bytes, PRESENT_AT + day * CELL_BYTES)
 }
 
-pub fn ceiling_of(bytes: &SessionBytes, day: usize) -> u16
-    requires { day < (decoding bytes.now).days }
+pub fn ceiling_of(bytes: &[u8], day: usize) -> u16
+    requires { (length bytes.now ≡ session_bytes) × (day < (decoding bytes.now).days) }
     ensures { result ≡ at (decoding bytes.now).present.ceilings day }
 {
     level(bytes, PRESENT_AT + BLOCK_BYTES + day * CELL_BYTES)
@@ -119,12 +123,12 @@ pub fn ceiling_of(bytes: &SessionBytes, day: usize) -> u16
 
 // Loads the rises and the present ranges into arrays that hold zeros.
 pub fn load_present(
-    bytes: &SessionBytes,
+    bytes: &[u8],
     rises: &mut [u16; MOST_DAYS],
     floors: &mut [u16; MOST_DAYS],
     ceilings: &mut [u16; MOST_DAYS],
 )
-    requires { (rises.old ≡ zeros) × (floors.old ≡ zeros) × (ceilings.old ≡ zeros) }
+    requires { (length bytes.now ≡ session_bytes) × (rises.old ≡ zeros) × (floors.old ≡ zeros) × (ceilings.old ≡ zeros) }
     ensures rises_after { rises.new ≡ (decoding bytes.now).rises }
     ensures floors_after { floors.new ≡ (decoding bytes.now).present.floors }
     ensures ceilings_after { ceilings.new ≡ (decoding bytes.now).present.ceilings }
@@ -151,8 +155,8 @@ fn show_levels(bytes: &[u8], place: usize, n: usize, out: &mut [u8])
 }
 
 // Stores the present range of each day, in points, as the front of both lists.
-pub fn show_present(bytes: &SessionBytes, floors: &mut [u8], ceilings: &mut [u8])
-    requires { ((decoding bytes.now).days * cell_length ≤ length floors.old) × ((decoding bytes.now).days * cell_length ≤ length ceilings.old) }
+pub fn show_present(bytes: &[u8], floors: &mut [u8], ceilings: &mut [u8])
+    requires { (length bytes.now ≡ session_bytes) × ((decoding bytes.now).days * cell_length ≤ length floors.old) × ((decoding bytes.now).days * cell_length ≤ length ceilings.old) }
     ensures floors_after { floors.new ≡ in_front (point_bytes (floor_on (decoding bytes.now)) (decoding bytes.now).days) floors.old }
     ensures ceilings_after { ceilings.new ≡ in_front (point_bytes (ceiling_on (decoding bytes.now)) (decoding bytes.now).days) ceilings.old }
 {

@@ -8,11 +8,11 @@ ghost use Rattle.refusals.specs.Number.{refusal_of};
 ghost use Rattle.schedule_writing.specs.Stages.{value_as};
 ghost use Rattle.schedule_inspection.specs.Inspecting.{found, finding, judged};
 ghost use Rattle.c_lists.specs.Lists.{points_in, lent_points};
-ghost use Rattle.c_layout.specs.Layout.{decoding};
+ghost use Rattle.c_layout.specs.Layout.{session_bytes, decoding};
 ghost use Rattle.c_schedules.specs.Schedules.{setpoint_for, write_refusal, inspected_over};
 ghost use Rattle.c_schedules.specs.Stages.{checked_for, CodeFits, levels_for};
 
-use c_layout::SessionBytes;
+use c_layout::SESSION_BYTES;
 use c_lists::{code_points, put_levels};
 use c_loading::{ceiling_of, days_of, first_of, floor_of, is_spent, load_present, total_of};
 use limits::{HIGHEST_SETPOINT, LOWEST_SETPOINT, MOST_DAYS};
@@ -28,7 +28,8 @@ pub enum Subject {
 }
 
 // Checks 7, 9 and 10 of a value for a day.
-fn check_day(session: &SessionBytes, day: usize, value: i32) -> Result<usize, Refusal>
+fn check_day(session: &[u8], day: usize, value: i32) -> Result<usize, Refusal>
+    requires { length session.now ≡ session_bytes }
     ensures { value_as result ≡ checked_for (decoding session.now) (Subject.Day day) value }
 {
     if days_of(session) <= day {
@@ -43,14 +44,16 @@ fn check_day(session: &SessionBytes, day: usize, value: i32) -> Result<usize, Re
 }
 
 // Checks 9 and 10 of a value for the total.
-fn check_total(session: &SessionBytes, value: i32) -> Result<usize, Refusal>
+fn check_total(session: &[u8], value: i32) -> Result<usize, Refusal>
+    requires { length session.now ≡ session_bytes }
     ensures { value_as result ≡ checked_for (decoding session.now) Subject.Total value }
 {
     let total = total_of(session);
     schedule_writing::check_total(value, total.lowest, total.highest, is_spent(session))
 }
 
-fn check(session: &SessionBytes, subject: Subject, value: i32) -> Result<usize, Refusal>
+fn check(session: &[u8], subject: Subject, value: i32) -> Result<usize, Refusal>
+    requires { length session.now ≡ session_bytes }
     ensures { value_as result ≡ checked_for (decoding session.now) subject value }
 {
     match subject {
@@ -60,8 +63,8 @@ fn check(session: &SessionBytes, subject: Subject, value: i32) -> Result<usize, 
 }
 
 // Turns zeros into the schedule's levels, by the code of the value that it is written for.
-fn load_levels(session: &SessionBytes, subject: Subject, code: usize, levels: &mut [u16; MOST_DAYS])
-    requires { CodeFits (decoding session.now) subject code × (levels.old ≡ zeros) }
+fn load_levels(session: &[u8], subject: Subject, code: usize, levels: &mut [u16; MOST_DAYS])
+    requires { (length session.now ≡ session_bytes) × CodeFits (decoding session.now) subject code × (levels.old ≡ zeros) }
     ensures { levels.new ≡ written (levels_for (decoding session.now) subject code) (decoding session.now).days (decoding session.now).present.floors }
 {
     let n = days_of(session);
@@ -83,9 +86,9 @@ pub fn write(session: &[u8], subject: Subject, value: i32, list: &mut [u8]) -> R
     ensures value { refusal_of result ≡ write_refusal session.now subject value list.old }
     ensures list_after { list.new ≡ lent_points (refusal_of result) (setpoint_for (decoding session.now) subject value) (decoding session.now).days list.old }
 {
-    let Some(session) = session.as_array() else {
+    if session.len() != SESSION_BYTES {
         return Err(Refusal::Length);
-    };
+    }
     let n = days_of(session);
     if list.len() != n * 2 {
         return Err(Refusal::Length);
@@ -98,8 +101,8 @@ pub fn write(session: &[u8], subject: Subject, value: i32, list: &mut [u8]) -> R
 }
 
 // Judges a list that is n long by the present ranges and rises.
-fn judge_points(session: &SessionBytes, list: &[u8]) -> Finding
-    requires { length list.now ≡ (decoding session.now).days * 2 }
+fn judge_points(session: &[u8], list: &[u8]) -> Finding
+    requires { (length session.now ≡ session_bytes) × (length list.now ≡ (decoding session.now).days * 2) }
     ensures { found result ≡ judged (decoding session.now) (points_in list.now (decoding session.now).days) }
 {
     let n = days_of(session);
@@ -127,9 +130,9 @@ fn judge_points(session: &SessionBytes, list: &[u8]) -> Finding
 pub fn inspect(session: &[u8], list: &[u8]) -> Result<Finding, Refusal>
     ensures { finding result ≡ inspected_over session.now list.now }
 {
-    let Some(session) = session.as_array() else {
+    if session.len() != SESSION_BYTES {
         return Err(Refusal::Length);
-    };
+    }
     if list.len() != days_of(session) * 2 {
         return Err(Refusal::Length);
     }

@@ -12,12 +12,12 @@ ghost use Rattle.session_cuts.specs.Numbered.{numbered};
 ghost use Rattle.session_cutting.specs.Cutting.{answer_as, after_cut};
 ghost use Rattle.c_lists.specs.Lists.{point_at, level_at, levels_crossed, lent_points};
 ghost use Rattle.c_lists.specs.Profiles.{byte_profile, byte_length_refusal, profile_of};
-ghost use Rattle.c_layout.specs.Layout.{decoding};
+ghost use Rattle.c_layout.specs.Layout.{session_bytes, decoding};
 ghost use Rattle.c_sessions.specs.Sessions.{open_refusal, bytes_opened, bytes_for, list_for, cut_answer, bytes_cut, changed_bytes, shown_over};
 ghost use Rattle.c_sessions.specs.Stages.{Cuttable, made_of};
 
 use base_codes::CodedNumbers;
-use c_layout::SessionBytes;
+use c_layout::SESSION_BYTES;
 use c_lists::{check_lengths, code_points, code_ranges};
 use c_loading::{days_of, first_of, is_spent, load_present, show_present, total_of};
 use c_storing::{spend, store_cut, store_fresh};
@@ -63,13 +63,13 @@ fn code_lists(
 
 // Opens such a profile into a session's bytes.
 fn open_lists(
-    session: &mut SessionBytes,
+    session: &mut [u8],
     numbers: Numbers,
     floors: &[u8],
     ceilings: &[u8],
     rises: &[u8],
 ) -> Result<(), Refusal>
-    requires { byte_length_refusal (byte_profile numbers floors.now ceilings.now rises.now) ≡ 0 }
+    requires { (length session.old ≡ session_bytes) × (byte_length_refusal (byte_profile numbers floors.now ceilings.now rises.now) ≡ 0) }
     ensures value { refusal_of result ≡ open_refusal session.old (byte_profile numbers floors.now ceilings.now rises.now) }
     ensures session_after { session.new ≡ bytes_opened session.old (byte_profile numbers floors.now ceilings.now rises.now) }
 {
@@ -101,9 +101,9 @@ pub fn open(
     ensures value { refusal_of result ≡ open_refusal session.old (byte_profile numbers floors.now ceilings.now rises.now) }
     ensures session_after { session.new ≡ bytes_opened session.old (byte_profile numbers floors.now ceilings.now rises.now) }
 {
-    let Some(session) = session.as_mut_array() else {
+    if session.len() != SESSION_BYTES {
         return Err(Refusal::Length);
-    };
+    }
     check_lengths(numbers.days, floors.len(), ceilings.len(), rises.len())?;
     open_lists(session, numbers, floors, ceilings, rises)
 }
@@ -112,7 +112,7 @@ pub fn open(
 
 // Clips by a well-formed cut and tightens everything again: 8, or the days that changed.
 fn cut_present(
-    session: &mut SessionBytes,
+    session: &mut [u8],
     cut: Cut,
     value: usize,
     changed: &mut [u8],
@@ -158,7 +158,8 @@ fn cut_present(
 }
 
 // Document 01's checks 12, 7, 3 or 5, 2, 9 from a few bytes, then 8.
-fn cut_known(session: &mut SessionBytes, cut: Cut, changed: &mut [u8]) -> Result<usize, Refusal>
+fn cut_known(session: &mut [u8], cut: Cut, changed: &mut [u8]) -> Result<usize, Refusal>
+    requires { length session.old ≡ session_bytes }
     ensures value { answer_as result ≡ (after_cut (decoding session.old) cut (length changed.old / 2)).answer }
     ensures session_after { session.new ≡ bytes_for session.old (after_cut (decoding session.old) cut (length changed.old / 2)) }
     ensures changed_after { changed.new ≡ list_for session.old (after_cut (decoding session.old) cut (length changed.old / 2)) changed.old }
@@ -185,9 +186,9 @@ pub fn cut(
     ensures session_after { session.new ≡ bytes_cut session.old (numbered kind day value) (length changed.old) }
     ensures changed_after { changed.new ≡ changed_bytes session.old (numbered kind day value) changed.old }
 {
-    let Some(session) = session.as_mut_array() else {
+    if session.len() != SESSION_BYTES {
         return Err(Refusal::Length);
-    };
+    }
     let Some(known) = Cut::numbered(kind, day, value) else {
         return Err(Refusal::Kind);
     };
@@ -201,9 +202,9 @@ pub fn show(session: &[u8], floors: &mut [u8], ceilings: &mut [u8]) -> Result<Sh
     ensures floors_after { floors.new ≡ lent_points (refusal_of result) (floor_on (decoding session.now)) (decoding session.now).days floors.old }
     ensures ceilings_after { ceilings.new ≡ lent_points (refusal_of result) (ceiling_on (decoding session.now)) (decoding session.now).days ceilings.old }
 {
-    let Some(session) = session.as_array() else {
+    if session.len() != SESSION_BYTES {
         return Err(Refusal::Length);
-    };
+    }
     let days = days_of(session);
     if floors.len() / 2 < days {
         return Err(Refusal::Length);

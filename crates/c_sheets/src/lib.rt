@@ -10,13 +10,13 @@ ghost use Rattle.session.specs.declared.Session.{Session};
 ghost use Rattle.session_cutting.specs.Cutting.{answer_as, after_numbered};
 ghost use Rattle.refusals.specs.Number.{refusal_of};
 ghost use Rattle.session_steps.specs.Steps.{Holds, Holding, Stepped};
-ghost use Rattle.c_layout.specs.Layout.{decoding};
+ghost use Rattle.c_layout.specs.Layout.{session_bytes, decoding};
 ghost use Rattle.c_sheets.specs.Sheets.{asked_at, answer_length, answer_bytes, sheet_answer, bytes_after_sheet, answers_after, days_after};
 ghost use Rattle.c_sheets.specs.Stages.{RoomFor, Made, Sheetable, MadeOver};
 
 use base_codes::CodedNumbers;
 use base_little_endian::put_u16;
-use c_layout::{CELL_BYTES, SessionBytes};
+use c_layout::{CELL_BYTES, SESSION_BYTES};
 use c_loading::{days_of, first_of, is_spent, load_present, total_of};
 use c_storing::{spend, store_cut};
 use file_checks::numbered_at;
@@ -82,13 +82,13 @@ fn cut_all(
 
 // Loads a session into arrays that hold zeros.
 fn load(
-    session: &SessionBytes,
+    session: &[u8],
     rises: &mut [u16; MOST_DAYS],
     floors: &mut [u16; MOST_DAYS],
     ceilings: &mut [u16; MOST_DAYS],
     widths: &mut [u16; MOST_DAYS],
 ) -> Step
-    requires { (rises.old ≡ zeros) × (floors.old ≡ zeros) × (ceilings.old ≡ zeros) × (widths.old ≡ zeros) }
+    requires { (length session.now ≡ session_bytes) × (rises.old ≡ zeros) × (floors.old ≡ zeros) × (ceilings.old ≡ zeros) × (widths.old ≡ zeros) }
     ensures { Holds (decoding session.now) result rises.new floors.new ceilings.new widths.new }
 {
     load_present(session, rises, floors, ceilings);
@@ -111,7 +111,7 @@ fn load(
 
 // Makes the cuts of a sheet that no check refuses, and lists the days that differ afterwards; gives their number.
 fn make_cuts(
-    session: &mut SessionBytes,
+    session: &mut [u8],
     cuts: &[u8],
     count: usize,
     answers: &mut [u8],
@@ -166,9 +166,9 @@ pub fn cut_sheet(
     ensures answers_after { answers.new ≡ answers_after (refusal_of result) session.old cuts.now answers.old }
     ensures changed_after { changed.new ≡ days_after (refusal_of result) session.old cuts.now changed.old }
 {
-    let Some(session) = session.as_mut_array() else {
+    if session.len() != SESSION_BYTES {
         return Err(Refusal::Length);
-    };
+    }
     let count = cuts.len() / CUT_BYTES;
     check_sheet(
         days_of(session),

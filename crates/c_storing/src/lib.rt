@@ -14,14 +14,14 @@ ghost use Rattle.session.specs.Opening.{fresh};
 ghost use Rattle.session_order.specs.Order.{settled_losers, day_cells};
 ghost use Rattle.session_changed.specs.Changes.{lost};
 ghost use Rattle.c_lists.specs.Lists.{cell_bytes};
-ghost use Rattle.c_layout.specs.Layout.{cell_length, totals_length, block_length, ranges_length, total_bytes, block_bytes, encoding, decoding};
+ghost use Rattle.c_layout.specs.Layout.{cell_length, totals_length, block_length, ranges_length, session_bytes, total_bytes, block_bytes, encoding, decoding};
 ghost use Rattle.c_layout.specs.Layout.{present_place, patched};
 
 use base_codes::CodedNumbers;
 use base_little_endian::{put_i32, put_u16};
 use c_layout::{
     BLOCK_BYTES, CELL_BYTES, DAYS_AT, FIRST_AT, MARK_AT, OPENED_AT, OPENED_TOTALS_AT, PRESENT_AT,
-    PRESENT_TOTALS_AT, RISES_AT, SessionBytes, TOTAL_BYTES,
+    PRESENT_TOTALS_AT, RISES_AT, TOTAL_BYTES,
 };
 use c_lists::put_cells;
 use c_loading::{days_of, level, totals};
@@ -78,9 +78,9 @@ pub fn store_fresh(
     floors: &[u16; MOST_DAYS],
     ceilings: &[u16; MOST_DAYS],
     numbers: CodedNumbers,
-    out: &mut SessionBytes,
+    out: &mut [u8],
 )
-    requires { InBounds (boxed floors.now ceilings.now rises.now numbers) }
+    requires { InBounds (boxed floors.now ceilings.now rises.now numbers) × (length out.old ≡ session_bytes) }
     ensures { out.new ≡ encoding (fresh numbers.days numbers.first rises.now (record { floors = floors.entry.now; ceilings = ceilings.now; lowest = numbers.lowest; highest = numbers.highest })) }
 {
     let n = numbers.days;
@@ -104,10 +104,10 @@ fn store_days(
     floors: &[u16; MOST_DAYS],
     ceilings: &[u16; MOST_DAYS],
     n: usize,
-    out: &mut SessionBytes,
+    out: &mut [u8],
     losses: &mut [u16; MOST_DAYS],
 )
-    requires { n ≤ most_days }
+    requires { (length out.old ≡ session_bytes) × (n ≤ most_days) }
     ensures losses_after { losses.new ≡ written (λ k. (min (u16_at out.old (present_place + block_length + k * cell_length)) highest_level - min (u16_at out.old (present_place + k * cell_length)) highest_level) - (at ceilings.now k - at floors.now k)) n losses.old }
     ensures out_after { out.new ≡ sets (sets out.old present_place (cell_bytes (at floors.now) n)) (present_place + block_length) (cell_bytes (at ceilings.now) n) }
 {
@@ -132,11 +132,11 @@ pub fn store_cut(
     floors: &mut [u16; MOST_DAYS],
     ceilings: &mut [u16; MOST_DAYS],
     numbers: CodedNumbers,
-    out: &mut SessionBytes,
+    out: &mut [u8],
     changed: &mut [u8],
 ) -> usize
     requires losses_len { (length losses.old ≡ most_days) × (length floors.old ≡ most_days) × (length ceilings.old ≡ most_days) }
-    requires lowest_le_highest_total_code { (numbers.lowest ≤ highest_total_code) × (numbers.highest ≤ highest_total_code) × (numbers.days ≡ (decoding out.old).days) × (numbers.days * cell_length ≤ length changed.old) }
+    requires lowest_le_highest_total_code { (numbers.lowest ≤ highest_total_code) × (numbers.highest ≤ highest_total_code) × (length out.old ≡ session_bytes) × (numbers.days ≡ (decoding out.old).days) × (numbers.days * cell_length ≤ length changed.old) }
     ensures value { result ≡ length (settled_losers (lost (decoding out.old).present.floors (decoding out.old).present.ceilings floors.old ceilings.old) numbers.days) }
     ensures changed_after { changed.new ≡ in_front (day_cells (settled_losers (lost (decoding out.old).present.floors (decoding out.old).present.ceilings floors.old ceilings.old) numbers.days)) changed.old }
     ensures out_after { out.new ≡ patched out.old numbers.days false (record { floors = floors.entry.now; ceilings = ceilings.old; lowest = numbers.lowest; highest = numbers.highest }) }
@@ -165,7 +165,8 @@ fn copy_levels(bytes: &mut [u8], from: usize, n: usize, place: usize)
 }
 
 // Marks the session spent: its present ranges are those that it had when opened.
-pub fn spend(bytes: &mut SessionBytes)
+pub fn spend(bytes: &mut [u8])
+    requires { length bytes.old ≡ session_bytes }
     ensures { bytes.new ≡ patched bytes.old (decoding bytes.old).days true (decoding bytes.old).opened }
 {
     let n = days_of(bytes);

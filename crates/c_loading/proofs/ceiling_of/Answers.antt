@@ -4,4 +4,4 @@ use Rattle.c_layout.proofs.Held.{ceiling-held}
 use Rattle.c_loading.proofs.ceiling_of.Goals as goal
 
 pub returns : goal.returns
-returns c = c.level.ensures ∙ ceiling-held _ _ c.requires
+returns c = c.level.ensures ∙ ceiling-held _ _ c.requires.1

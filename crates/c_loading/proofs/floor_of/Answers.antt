@@ -4,4 +4,4 @@ use Rattle.c_layout.proofs.Held.{floor-held}
 use Rattle.c_loading.proofs.floor_of.Goals as goal
 
 pub returns : goal.returns
-returns c = c.level.ensures ∙ floor-held _ _ c.requires
+returns c = c.level.ensures ∙ floor-held _ _ c.requires.1

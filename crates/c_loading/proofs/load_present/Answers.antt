@@ -7,7 +7,7 @@ pub returns : goal.returns
 returns c =
     let n = c.days_of-n.ensures in
     let b = c.args.bytes.now in record {
-      rises_after = loaded b 4000 20 c.cells.ensures c.requires.0 n ∙ rises-held b;
-      floors_after = loaded b 5000 3092 c.cells-2.ensures c.requires.1 n ∙ floors-held b;
-      ceilings_after = loaded b 5000 4116 c.cells-3.ensures c.requires.2 n ∙ ceilings-held b;
+      rises_after = loaded b 4000 20 c.cells.ensures c.requires.1 n ∙ rises-held b;
+      floors_after = loaded b 5000 3092 c.cells-2.ensures c.requires.2 n ∙ floors-held b;
+      ceilings_after = loaded b 5000 4116 c.cells-3.ensures c.requires.3 n ∙ ceilings-held b;
     }

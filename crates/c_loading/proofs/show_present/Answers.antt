@@ -17,8 +17,8 @@ returns c =
     let n = (decoding b).days in
     let point : ℕ → ℕ → ℤ = λ place k. decoded lowest_point (min (u16_at b (place + k * 2)) 5000) in
     record {
-      floors_after = points_front (floor_on (decoding b)) (point 3092) n c.args.floors.now (λ k u. ap (decoded lowest_point) (floor-held b k u)) c.requires.0
+      floors_after = points_front (floor_on (decoding b)) (point 3092) n c.args.floors.now (λ k u. ap (decoded lowest_point) (floor-held b k u)) c.requires.1
           (rw c.days_of-n.ensures at c.show_levels.ensures);
       ceilings_after = points_front (ceiling_on (decoding b)) (point 4116) n c.args.ceilings.now (λ k u. ap (decoded lowest_point) (ceiling-held b k u))
-          c.requires.1 (rw c.days_of-n.ensures at c.show_levels-2.ensures);
+          c.requires.2 (rw c.days_of-n.ensures at c.show_levels-2.ensures);
     }

@@ -12,7 +12,7 @@ loaded c = loads c.args.session.now c.days_of-n.ensures c.first_of-first.ensures
 pub code_points-requires : goal.code_points-requires
 code_points-requires c =
     let l = loaded (goal.at.code_points-requires c).After-load_present in
-    (search rules, omega (arith, l.days, l.bounds.present.most), omega (arith, l.days, c.requires))
+    (search rules, omega (arith, l.days, l.bounds.present.most), omega (arith, l.days, c.requires.1))
 
 pub judge_codes-requires : goal.judge_codes-requires
 judge_codes-requires c =

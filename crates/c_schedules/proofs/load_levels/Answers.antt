@@ -9,16 +9,16 @@ loaded c = loads c.args.session.now c.days_of-n.ensures c.first_of-first.ensures
 
 pub write_through-requires : goal.write_through-requires
 write_through-requires c =
-    day_loaded (loaded (goal.at.write_through-requires c).After-load_present) _ c.requires.0 _ c.in-Day.is c.total_of-lowest.ensures.0
+    day_loaded (loaded (goal.at.write_through-requires c).After-load_present) _ c.requires.1 _ c.in-Day.is c.total_of-lowest.ensures.0
 
 pub raise_to-requires : goal.raise_to-requires
 raise_to-requires c =
-    total_loaded (loaded (goal.at.raise_to-requires c).After-load_present) _ c.requires.0 c.in-Total.is
+    total_loaded (loaded (goal.at.raise_to-requires c).After-load_present) _ c.requires.1 c.in-Total.is
 
 pub returns-in-Day : goal.returns-in-Day
 returns-in-Day c =
-    day_levels_lem (loaded (goal.at.returns-in-Day c).After-load_present) _ c.requires.0 _ c.in-Day.is c.total_of-lowest.ensures.0 c.write_through.ensures.floors_after
+    day_levels_lem (loaded (goal.at.returns-in-Day c).After-load_present) _ c.requires.1 _ c.in-Day.is c.total_of-lowest.ensures.0 c.write_through.ensures.floors_after
 
 pub returns-in-Total : goal.returns-in-Total
 returns-in-Total c =
-    total_levels_lem (loaded (goal.at.returns-in-Total c).After-load_present) _ c.requires.0 c.in-Total.is c.raise_to.ensures
+    total_levels_lem (loaded (goal.at.returns-in-Total c).After-load_present) _ c.requires.1 c.in-Total.is c.raise_to.ensures

@@ -51,7 +51,7 @@ pub cut_present-requires : goal.cut_present-requires
 cut_present-requires c =
     let at = goal.at.cut_present-requires c in
     record {
-      whole = search rules;
+      whole = c.requires;
       formed = formed at.In_ok-value;
       clips = checked-clips _ _ c.in_ok-value.ensures (omega (arith, c.days_of-days.ensures, days_few c.args.session.now)) refl;
       roomy = omega (arith, roomy at.Else-changed-days);

@@ -50,7 +50,7 @@ store_cut-count-requires c =
     let l = loaded at.After-total_of-total in
     record {
       losses_len = (ap length l.rises ∙ b.rises, b.floors, b.ceilings);
-      lowest_le_highest_total_code = (b.lowest, b.highest, l.days, omega (arith, l.days, p.roomy));
+      lowest_le_highest_total_code = (b.lowest, b.highest, p.whole, l.days, omega (arith, l.days, p.roomy));
     }
 
 pub returns : goal.returns

@@ -18,14 +18,14 @@ coded : (c : After-code_lists-lists) → let a = c.args in let n = c.code_lists-
 coded c =
     let a = c.args in
     let e = c.code_lists-lists.ensures in
-    lists-coded (byte_profile a.numbers a.floors.now a.ceilings.now a.rises.now) c.requires e.numbers_value (e.low_after, (e.high_after, e.steps_after))
+    lists-coded (byte_profile a.numbers a.floors.now a.ceilings.now a.rises.now) c.requires.1 e.numbers_value (e.low_after, (e.high_after, e.steps_after))
 
 pub returns-in_err-coded : goal.returns-in_err-coded
 returns-in_err-coded c =
     let e : c.from_residual.result ≡ Err c.in_err-coded.field-0.0 = search rules in
     let d = rw c.in_err-coded.was at (coded (goal.at.returns-in_err-coded c).After-code_lists-lists) in
     let apart = refused c.in_err-coded.field-0.0 in
-    let whole = open_refused _ _ (search rules) c.requires apart (all-refused d apart) in
+    let whole = open_refused _ _ c.requires.0 c.requires.1 apart (all-refused d apart) in
     record { value = rw e whole.0; session_after = whole.1 }
 
 taken : (c : In_ok-coded) → let a = c.args in let n = c.code_lists-lists.new in
@@ -39,7 +39,7 @@ open_ranges-requires c =
     let at = goal.at.open_ranges-requires c in
     let d = taken at.In_ok-coded (coded at.After-code_lists-lists) in
     let e = c.code_lists-lists.ensures in
-    (in_bounds d refl, lists-crossed (byte_profile a.numbers a.floors.now a.ceilings.now a.rises.now) c.requires (days-kept d refl) e.crossed_value (e.low_after, e.high_after))
+    (in_bounds d refl, lists-crossed (byte_profile a.numbers a.floors.now a.ceilings.now a.rises.now) c.requires.1 (days-kept d refl) e.crossed_value (e.low_after, e.high_after))
 
 session-opened : (c : In_ok-total) → let m = c.in_ok-coded.coded in let t = c.in_ok-total.total in let n = c.open_ranges.new in
     let s = fresh m.days m.first c.code_lists-lists.new.steps (record { floors = n.floors; ceilings = n.ceilings; lowest = t.lowest; highest = t.highest }) in
@@ -57,7 +57,7 @@ returns-in_err-total c =
     let n = c.code_lists-lists.new in
     let d = taken at.In_ok-coded (coded at.After-code_lists-lists) in
     let refuses = session-refused (boxed n.low n.high n.steps c.in_ok-coded.coded) _ _ c.open_ranges.ensures c.in_err-total.was ∙ all-opened d refl in
-    let whole = open_refused _ _ (search rules) c.requires (refused c.in_err-total.field-0.0) refuses in
+    let whole = open_refused _ _ c.requires.0 c.requires.1 (refused c.in_err-total.field-0.0) refuses in
     record { value = rw e whole.0; session_after = whole.1 }
 
 pub store_fresh-requires : goal.store_fresh-requires
@@ -65,11 +65,11 @@ store_fresh-requires c =
     let a = c.args in
     let at = goal.at.store_fresh-requires c in
     let d = taken at.In_ok-coded (coded at.After-code_lists-lists) in
-    (fresh_in_bounds (byte_profile a.numbers a.floors.now a.ceilings.now a.rises.now) _ _ _ _ (session-opened at.In_ok-total d))
+    (fresh_in_bounds (byte_profile a.numbers a.floors.now a.ceilings.now a.rises.now) _ _ _ _ (session-opened at.In_ok-total d), c.requires.0)
 
 pub returns : goal.returns
 returns c =
     let at = goal.at.returns c in
     let d = taken at.In_ok-coded (coded at.After-code_lists-lists) in
-    let whole = open_stored _ _ (search rules) c.requires _ (session-opened at.In_ok-total d) c.store_fresh.ensures in
+    let whole = open_stored _ _ c.requires.0 c.requires.1 _ (session-opened at.In_ok-total d) c.store_fresh.ensures in
     record { value = whole.0; session_after = whole.1 }

@@ -1,4 +1,5 @@
 -- `cut_all` meets its contract: the first j cuts are made, from whatever session was held (`Making` of Laws).
+use Prim.Native.Nat.{◌-◌}
 use Rattle.c_sheets.proofs.Laws.{Making}
 use Rattle.c_sheets.proofs.cut_all.Given as goal
 

@@ -20,5 +20,5 @@ returns c =
       highest = c.total_of-total.ensures.1;
     })
     c.is_spent-spent.ensures
-    c.requires.3
+    c.requires.4
     c.count_narrowed.ensures.widths_after

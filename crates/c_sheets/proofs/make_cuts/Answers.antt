@@ -29,6 +29,9 @@ returns-then-start c =
     let at = goal.at.returns-then-start c in
     was_spent c.args.session.now (made at.After-cut_all-end) _ c.requires.roomy (sym (marked at.After-load-start) ∙ c.if-start.true)
 
+pub spend-requires : goal.spend-requires
+spend-requires c = c.requires.whole
+
 pub returns-then-end : goal.returns-then-end
 returns-then-end c =
     let at = goal.at.returns-then-end c in
@@ -44,7 +47,7 @@ store_cut-requires c =
     let d = left-days c.args.session.now (made at.After-cut_all-end) e c.if-end.false in
     record {
       losses_len = (b.rises, b.floors, b.ceilings);
-      lowest_le_highest_total_code = (b.lowest, b.highest, d, omega (arith, d, p.listed));
+      lowest_le_highest_total_code = (b.lowest, b.highest, p.whole, d, omega (arith, d, p.listed));
     }
 
 pub returns : goal.returns

@@ -17,10 +17,10 @@ summed : (c : After-put_totals) → let a = c.args in Summed a.out.now false a.n
 summed c = record { first = c.put_u16.new.out; marked = rw c.from.ensures at c.put_u16.ensures; summed = c.put_totals.ensures }
 
 few : (c : Start) → c.args.numbers.days ≤ 512
-few c = omega (arith, c.requires.lowest_le_highest_total_code.2, days_few c.args.out.now)
+few c = omega (arith, c.requires.lowest_le_highest_total_code.3, days_few c.args.out.now)
 
 room : (c : Start) → c.args.numbers.days ≤ length c.args.losses.now
-room c = omega (arith, c.requires.lowest_le_highest_total_code.2, days_few c.args.out.now, c.requires.losses_len.0)
+room c = omega (arith, c.requires.lowest_le_highest_total_code.3, days_few c.args.out.now, c.requires.losses_len.0)
 
 pub list_losers-requires : goal.list_losers-requires
 list_losers-requires c =
@@ -30,7 +30,7 @@ list_losers-requires c =
       losses_most (summed here.After-put_totals) a.floors.now a.ceilings.now a.losses.now c.store_days.ensures.losses_after (room here.Start),
       c.requires.losses_len.1,
       c.requires.losses_len.2,
-      c.requires.lowest_le_highest_total_code.3,
+      c.requires.lowest_le_highest_total_code.4,
     )
 
 pub returns : goal.returns
@@ -38,7 +38,7 @@ returns c =
     let a = c.args in
     let here = goal.at.returns c in
     let before = summed here.After-put_totals in
-    let days = losers-held before a.floors.now a.ceilings.now a.losses.now c.store_days.ensures.losses_after (room here.Start) c.requires.lowest_le_highest_total_code.2 in
+    let days = losers-held before a.floors.now a.ceilings.now a.losses.now c.store_days.ensures.losses_after (room here.Start) c.requires.lowest_le_highest_total_code.3 in
     let second = c.put_totals.new.out in
     let third = sets second 3092 (cell_bytes (at a.floors.now) a.numbers.days) in
     record {

@@ -10,7 +10,7 @@ loop-j-preserved c =
     (record {
       head = c.loop-j.invariant;
       more = c.loop-j-test.true;
-      most = c.requires;
+      most = c.requires.1;
       put = cc;
       lost = cc;
     })

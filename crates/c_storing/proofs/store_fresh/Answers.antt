@@ -1,9 +1,8 @@
 -- `store_fresh` meets its contract: each call stores the next part of the encoding after those before it (`laid_more`), and the last one ends it
 -- (`sets-whole`).
 use mathlib.Core.List.{List, ◌++◌}
-use mathlib.Core.Path.{◌≡◌, ◌∙◌}
+use mathlib.Core.Path.{◌≡◌, sym, ◌∙◌}
 use Prim.Native.Nat.{ℕ}
-use native.Mathlib.Omega.{arith}
 use lib.ListN.{length-append}
 use Rattle.base_little_endian.specs.Fields.{u16_bytes}
 use Rattle.base_little_endian.proofs.Laws.{u16-length}
@@ -27,7 +26,7 @@ whole c =
     let a = c.args in
     let l = a.out.now in
     let s = stored a.numbers a.rises.now a.floors.now a.ceilings.now in
-    let few = c.requires.most in
+    let few = c.requires.0.most in
     let block : (List ℕ → List ℕ) = λ xs. block_bytes xs s.days in
     let total : List ℕ = total_bytes s.present.lowest s.present.highest in
     let ranges : List ℕ = block s.present.floors ++ block s.present.ceilings in
@@ -38,7 +37,7 @@ whole c =
     let rises = laid_more present (block s.rises) c.put_block.ensures (block_length_lem _ _ few) in
     let earlier = laid_more rises ranges c.put_ranges.ensures {v = 2048} (simp (length-append, block_length_lem)) in
     let later = laid_more earlier ranges c.put_ranges-2.ensures {v = 2048} (simp (length-append, block_length_lem)) in
-    laid_last later (u16_bytes s.first) c.put_u16-3.ensures ∙ sets-whole (encoding s) l (omega (arith, encoding-length s few))
+    laid_last later (u16_bytes s.first) c.put_u16-3.ensures ∙ sets-whole (encoding s) l (encoding-length s few ∙ sym c.requires.1)
 
 pub returns : goal.returns
 returns c = whole (goal.at.returns c).After-put_u16-3
