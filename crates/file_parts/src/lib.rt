@@ -46,7 +46,8 @@ fn put_day(out: &mut [u8], at: usize, floor: i16, ceiling: i16, rise: i16)
 fn rise_on(rises: &[i16], k: usize) -> i16
     ensures { result ≡ on rises.now k }
 {
-    rises.get(k).copied().unwrap_or(0)
+    // Not `get`: a function that gives an `Option` of a reference is compiled wrongly for 32 bits (`check_form` of board/build).
+    if k < rises.len() { rises[k] } else { 0 }
 }
 
 pub fn put_days(floors: &[i16], ceilings: &[i16], rises: &[i16], days: usize, out: &mut [u8])
