@@ -28,4 +28,5 @@ pub const PRESENT_AT: usize = OPENED_AT + RANGES_BYTES;
 
 pub const FIRST_AT: usize = PRESENT_AT + RANGES_BYTES;
 
+// A function that is lent a session has its length as a clause, and takes no array: `as_array` is compiled wrongly for 32 bits (DECISIONS 138).
 pub const SESSION_BYTES: usize = FIRST_AT + CELL_BYTES;
