@@ -33,9 +33,9 @@
  *
  * No entry allocates or keeps anything between calls. Two threads may call at once on different sessions. What an entry calls outside itself, a C library or
  * its compiler's runtime has:
- *     on x86-64       memcpy, memset
- *     on Cortex-M     __aeabi_memclr, __aeabi_memclr4, and on Cortex-M0+ __aeabi_lmul, __aeabi_uidiv
- *     on ARMv7 Linux  memset
+ *     on x86-64       memcpy, memmove, memset
+ *     on Cortex-M     __aeabi_memclr, __aeabi_memclr4, __aeabi_memmove, and on Cortex-M0+ __aeabi_lmul, __aeabi_uidiv
+ *     on ARMv7 Linux  memmove, memset
  * The archive for x86-64 is that of the kit, for processors from x86-64-v2 on; the others are those of board/build, and docs/BOARD.md says what is proved of
  * them and what is tested.
  *
