@@ -33,9 +33,9 @@
  *
  * No entry allocates or keeps anything between calls. Two threads may call at once on different sessions. What an entry calls outside itself, a C library or
  * its compiler's runtime has:
- *     on x86-64       memcpy, memmove, memset
- *     on Cortex-M     __aeabi_memclr, __aeabi_memclr4, __aeabi_memmove, and on Cortex-M0+ __aeabi_lmul, __aeabi_uidiv
- *     on ARMv7 Linux  memmove, memset
+ *     on x86-64       memcpy, memset
+ *     on Cortex-M     __aeabi_memclr, __aeabi_memclr4, and on Cortex-M0+ __aeabi_lmul, __aeabi_uidiv
+ *     on ARMv7 Linux  memset
  * The archive for x86-64 is that of the kit, for processors from x86-64-v2 on; the others are those of board/build, and docs/BOARD.md says what is proved of
  * them and what is tested.
  *
@@ -73,7 +73,7 @@ extern "C" {
 
 /* The version, 100 for 1.00. The hundreds change where a session's bytes, the profile file or the parameters of an entry do, else the last two digits:
  * versions with the same hundreds take each other's sessions and files. CHANGELOG.md has an entry for each. */
-#define CLOVERDRUM_VERSION 204
+#define CLOVERDRUM_VERSION 205
 
 /* Bounds of an entry. */
 #define CLOVERDRUM_MOST_DAYS 512

@@ -71,12 +71,15 @@ pub fn level(bytes: &[u8], place: usize) -> u16
 
 // ---- parts of the session, each read when it is needed
 
+// By `min` and `max`, of which the compiler sees that loops over the days stay within an array; of `clamp` it does not.
 #[tactic(auto, unfolding(c_layout::specs::Layout::decoding))]
 pub fn days_of(bytes: &[u8]) -> usize
     requires { length bytes.now ≡ session_bytes }
     ensures { result ≡ (decoding bytes.now).days }
 {
-    usize::from(u16_at(bytes, DAYS_AT)).clamp(1, Session::MOST_DAYS)
+    usize::from(u16_at(bytes, DAYS_AT))
+        .min(Session::MOST_DAYS)
+        .max(1)
 }
 
 // The first counted day, one of the session's days.

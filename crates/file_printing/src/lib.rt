@@ -42,9 +42,9 @@ fn cut_once(session: Session, entry: Entry) -> Result<Session, Refusal>
 }
 
 // Applies the first `count` entries in order, up to the first refusal.
-fn cut_all(session: Session, count: usize, entries: [Entry; MOST_CUTS]) -> Result<Session, Refusal>
+fn cut_all(session: Session, count: usize, entries: &[Entry; MOST_CUTS]) -> Result<Session, Refusal>
     requires { SessionInBounds session × (count ≤ most_cuts) }
-    ensures { Gives result (cut_all (unrefused session) (λ j. (get_or entries j blank).cut) count) }
+    ensures { Gives result (cut_all (unrefused session) (λ j. (get_or entries.now j blank).cut) count) }
 {
     let mut after = session;
     for j in 0..count {
@@ -168,8 +168,7 @@ pub fn print_ranges(file: &[u8], out: &mut [u8; MOST_TEXT_BYTES]) -> usize
     let Ok(session) = opening else {
         return put_refusal(number_of(&opening), out);
     };
-    let sheet = contents.sheet;
-    let cutting = cut_all(session, sheet.count, sheet.entries);
+    let cutting = cut_all(session, contents.sheet.count, &contents.sheet.entries);
     let Ok(session) = cutting else {
         return put_refusal(number_of(&cutting), out);
     };

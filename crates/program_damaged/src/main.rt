@@ -22,8 +22,11 @@ const DOC01: [u8; 52] = *b"\
     \x00\x00\x00\x00\x03\x00\x00\x00\
     \x03\x00\x00\x00\x0B\x00\x00\x00";
 
+// The bytes of the longer file.
+pub(crate) const LONGEST: usize = 78;
+
 // examples/too_warm.profile.
-const TOO_WARM: [u8; 78] = *b"\
+const TOO_WARM: [u8; LONGEST] = *b"\
     \x0A\x00\x00\x00\x12\x00\x4E\x00\x50\x46\x00\x00\x08\x52\x00\x00\
     \x00\x00\
     \x08\x07\xD0\x07\x4B\x00\

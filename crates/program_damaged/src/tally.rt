@@ -71,7 +71,7 @@ impl Tally {
         let length = file_printing::print_ranges(file, &mut text);
         let read = Verdict::of(&answer);
         let printed = endings::ending(&text[..length]);
-        let written = writing::written(file, answer, &floors, &ceilings, &rises);
+        let written = writing::written(file, &answer, &floors, &ceilings, &rises);
         let found = differences(read, judge::judged(file), printed, written);
         self.files = self.files.wrapping_add(1);
         self.read.count(read);

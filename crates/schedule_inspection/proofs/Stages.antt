@@ -11,7 +11,7 @@ use lib.Dec.{ltb}
 use lib.ListN.{length}
 use borrow.Author.Tests.{eq-eqb, ne_eqb, lt-ltb, le-ltb}
 use Rattle.std.specs.Prelude.{Option, None, Some, MatchOption}
-use Rattle.theory_lists.specs.First.{first_where, first-only}
+use Rattle.theory_lists.specs.First.{first_where, Nowhere, nowhere_here, nowhere_all}
 use Rattle.session.specs.declared.Session.{Session}
 use Rattle.schedule_inspection.specs.Inspecting.{refused, kept, broken, judged, inspected}
 use Rattle.schedule_inspection.specs.Stages.{day_outside, fallen, total_outside, first_found, judged_codes}
@@ -19,16 +19,14 @@ use Rattle.schedule_inspection.specs.Stages.{day_outside, fallen, total_outside,
 -- ---- first_outside and first_fallen
 
 module _ (t : ℕ → Bool) (n : ℕ) where
-  -- what looking from 0 on finds
-  pub first-seen : (r : Option ℕ) → MatchOption r ((k : ℕ) → 0 ≤ k → k < n → t k ≡ false) (λ i. (0 ≤ i) × (i < n) × (t i ≡ true) × ((k : ℕ) → 0 ≤ k → k < i → t k ≡ false))
-      → r ≡ first_found t n
+  -- what looking from 0 on finds, and that it finds nothing
+  pub found_here : {i : ℕ} → Nowhere t n i → i < n → t i ≡ true → Some i ≡ first_found t n
   unfolding first_found
-  first-seen None h =
-      let e : n ≡ first_where t n = first-only (record { most = le_refl n; before = λ k l. h k (omega arith) l; here = λ l. absurd (omega arith) }) in
-      rw (← e, le-ltb n n (le_refl n))
-  first-seen (Some i) h =
-      let e : i ≡ first_where t n = first-only (record { most = omega (arith, h.1); before = λ k l. h.3 k (omega arith) l; here = λ _. h.2 }) in
-      rw (← e, lt-ltb i n h.1)
+  found_here {i} h l e = rw (← nowhere_here h l e, lt-ltb i n l) refl
+
+  pub found_none : {i : ℕ} → Nowhere t n i → n ≤ i → None ≡ first_found t n
+  unfolding first_found
+  found_none h l = rw (← nowhere_all h l, le-ltb n n (le_refl n)) refl
 
   -- what it says of the first
   pub seen : (r : Option ℕ) → r ≡ first_found t n → MatchOption r (n ≤ first_where t n) (λ k. (k ≡ first_where t n) × (k < n))

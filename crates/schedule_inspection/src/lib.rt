@@ -87,7 +87,7 @@ fn is_total_outside(
     is_outside(sum, least + offset, most + offset)
 }
 
-// The first of n days whose setpoint is outside the day's range. Counted in 32 bits: 13 instructions a day on the board, and not 15.
+// The first of n days whose setpoint is outside the day's range.
 fn first_outside(
     setpoints: &[u16; MOST_DAYS],
     floors: &[u16; MOST_DAYS],
@@ -97,11 +97,12 @@ fn first_outside(
     requires { n ≤ most_days }
     ensures { result ≡ first_found (day_outside setpoints.now floors.now ceilings.now) n }
 {
-    let day = (0..n as u32).find(|&day| {
-        let day = day as usize;
-        is_day_outside(setpoints[day], floors[day], ceilings[day])
-    })?;
-    Some(day as usize)
+    for day in 0..n {
+        if is_day_outside(setpoints[day], floors[day], ceilings[day]) {
+            return Some(day);
+        }
+    }
+    None
 }
 
 // The first broken one of the n - 1 rises.
@@ -109,11 +110,12 @@ fn first_fallen(setpoints: &[u16; MOST_DAYS], rises: &[u16; MOST_DAYS], n: usize
     requires { (0 < n) × (n ≤ most_days) }
     ensures { result ≡ first_found (fallen setpoints.now rises.now) (n - 1) }
 {
-    let rise = (0..n as u32 - 1).find(|&k| {
-        let k = k as usize;
-        is_fallen(setpoints[k], setpoints[k + 1], rises[k])
-    })?;
-    Some(rise as usize)
+    for k in 0..n - 1 {
+        if is_fallen(setpoints[k], setpoints[k + 1], rises[k]) {
+            return Some(k);
+        }
+    }
+    None
 }
 
 // The first broken rule of n setpoints, each held plus 32,768: days in order, then rises in order, then the total of the days from day `first` on.

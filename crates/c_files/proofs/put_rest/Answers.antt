@@ -1,16 +1,13 @@
--- `put_rest` meets its contract: what std's copy leaves is the bytes from `start` on, stored at `place` (`pasted` of Rows).
-use Prim.Native.Nat.{◌-◌}
-use mathlib.Core.Path.{◌≡◌, ◌∙◌}
-use native.Mathlib.Omega.{arith}
-use lib.ListN.{length, length-drop, take, drop}
-use Rattle.std.proofs.Common.{take_all}
-use Rattle.theory_lists.specs.Rows.{pasted}
+use lib.ListN.{length-drop}
+use lib.Seq.{get_or-drop}
+use Rattle.theory_lists.specs.Rows.{copied_none, copied_more, copied_all}
 use Rattle.c_files.proofs.put_rest.Goals as goal
 
+pub loop-i-init : goal.loop-i-init
+loop-i-init c = copied_none
+
+pub loop-i-preserved : goal.loop-i-preserved
+loop-i-preserved c = copied_more 0 c.loop-i.invariant (rw length-drop c.loop-i-test.true) (rw get_or-drop)
+
 pub returns : goal.returns
-returns c =
-    let from = c.args.from.now in
-    let rest = drop c.args.start from in
-    let n : length rest ≡ length from - c.args.start = length-drop c.args.start from in
-    let whole : take (length from - c.args.start) rest ≡ rest = take_all (length from - c.args.start) rest (omega (arith, n)) in
-    pasted _ _ (c.copy_from_slice.ensures.after ∙ whole) (rw whole (omega arith)) (rw whole (omega (arith, n, c.requires)))
+returns c = copied_all c.loop-i.invariant (rw length-drop c.loop-i-test.false)

@@ -1,21 +1,16 @@
--- `first_outside` meets its contract: `find` gives the first day at which the closure's test holds (`first-seen`).
-use Rattle.std.proofs.Common.{◌≡◌, true, false, rules, arith, None}
-use Rattle.std.proofs.lemmas.Iterator.{first_from_Range}
-use Rattle.schedule_inspection.specs.Stages.{day_outside, first_found}
-use Rattle.schedule_inspection.proofs.Stages.{first-seen}
+use mathlib.Core.Path.{sym, ◌∙◌}
+use Rattle.theory_lists.specs.First.{nowhere_none, nowhere_more}
+use Rattle.schedule_inspection.proofs.Stages.{found_here, found_none}
 use Rattle.schedule_inspection.proofs.first_outside.Goals as goal
-use Rattle.schedule_inspection.proofs.first_outside.Goals.{After-find}
 
-seen : (c : After-find) → let a = c.args in c.find.result ≡ first_found (day_outside a.setpoints.now a.floors.now a.ceilings.now) (a.n)
-seen c =
-    let a = c.args in
-    first-seen _ _ _ (first_from_Range _ _ _ _ (λ k. day_outside a.setpoints.now a.floors.now a.ceilings.now k ≡ true)
-    (λ k. day_outside a.setpoints.now a.floors.now a.ceilings.now k ≡ false) c.find.ensures.ran (λ k q h. grind arith) (λ k q h. (search rules, grind arith)))
+pub loop-day-init : goal.loop-day-init
+loop-day-init c = nowhere_none
 
-pub returns-in_err-day : goal.returns-in_err-day
-returns-in_err-day c =
-    let e : c.from_residual.result ≡ None = search rules in
-    rw (e, ← c.in_err-day.was) (seen (goal.at.returns-in_err-day c).After-find)
+pub returns-then-is_day_outside : goal.returns-then-is_day_outside
+returns-then-is_day_outside c = found_here _ _ c.loop-day.invariant c.loop-day-test.true (sym c.is_day_outside.ensures ∙ c.if-is_day_outside.true)
+
+pub loop-day-preserved : goal.loop-day-preserved
+loop-day-preserved c = nowhere_more c.loop-day.invariant c.loop-day-test.true (sym c.is_day_outside.ensures ∙ c.if-is_day_outside.false)
 
 pub returns : goal.returns
-returns c = rw (← c.in_ok-day.was) (seen (goal.at.returns c).After-find)
+returns c = found_none _ _ c.loop-day.invariant c.loop-day-test.false
